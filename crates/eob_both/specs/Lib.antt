@@ -1,0 +1,5 @@
+pub mod Places
+pub mod Sides
+pub mod Collector
+pub mod Text
+pub mod Values
