@@ -1,1 +1,2 @@
+pub mod Refs
 pub mod SideLemmas

@@ -3,3 +3,4 @@ pub mod Sides
 pub mod Collector
 pub mod Text
 pub mod Values
+pub mod Calls

@@ -9,9 +9,12 @@ mod collect;
 mod conversions;
 mod either_or_both;
 mod error;
+mod forms;
 mod getters;
+mod inspection;
 pub mod iter;
 mod queries;
+mod unwraps;
 
 pub use either_or_both::EitherOrBoth;
 pub use error::TryFromOptionsError;
