@@ -4,3 +4,4 @@ pub mod Collector
 pub mod Text
 pub mod Values
 pub mod Calls
+pub mod Lending

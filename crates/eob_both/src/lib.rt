@@ -11,9 +11,11 @@ mod either_or_both;
 mod error;
 mod forms;
 mod getters;
+mod in_place;
 mod inspection;
 pub mod iter;
 mod queries;
+mod references;
 mod unwraps;
 
 pub use either_or_both::EitherOrBoth;
