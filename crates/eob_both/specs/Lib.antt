@@ -5,3 +5,4 @@ pub mod Text
 pub mod Values
 pub mod Calls
 pub mod Lending
+pub mod Results

@@ -16,6 +16,7 @@ mod inspection;
 pub mod iter;
 mod queries;
 mod references;
+mod transpositions;
 mod unwraps;
 
 pub use either_or_both::EitherOrBoth;
