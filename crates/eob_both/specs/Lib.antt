@@ -6,3 +6,4 @@ pub mod Values
 pub mod Calls
 pub mod Lending
 pub mod Results
+pub mod Order

@@ -14,8 +14,10 @@ mod getters;
 mod in_place;
 mod inspection;
 pub mod iter;
+mod order;
 mod queries;
 mod references;
+mod text;
 mod transpositions;
 mod unwraps;
 

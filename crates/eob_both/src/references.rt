@@ -1,11 +1,13 @@
 //! References to the places of a value, and to the targets of what they hold.
-ghost use Rattle.std.specs.Prelude.{◌≡◌};
+ghost use Rattle.std.specs.Prelude.{◌≡◌, IfOk};
+ghost use Rattle.std.specs.Option.{ForSome};
 ghost use Rattle.std.specs.Borrow.{sem};
 ghost use Rattle.eob_both.specs.Lending.{LendsPlaces};
 ghost use Rattle.eob_both.specs.Places.{left_place, right_place, map_places, MapsPlace};
 
 use crate::EitherOrBoth;
 use crate::EitherOrBoth::{Both, Left, Right};
+use std::alloc::AllocError;
 use std::ops::{Deref, DerefMut};
 
 impl<L, R> EitherOrBoth<L, R> {
@@ -73,6 +75,71 @@ impl<L, R> EitherOrBoth<L, R> {
             Left(l) => Left(l.deref_mut()),
             Both(l, r) => Both(l.deref_mut(), r.deref_mut()),
             Right(r) => Right(r.deref_mut()),
+        }
+    }
+}
+
+impl<L, R> EitherOrBoth<&L, &R> {
+    /// Clones of the referenced values in their places. Asks that a clone of each equals it. `AllocError` where a clone was
+    /// refused memory: the borrowed values are as they were, and a clone that was made is dropped.
+    pub fn cloned(self) -> Result<EitherOrBoth<L, R>, AllocError>
+    where
+        L: Clone + Drop,
+        R: Clone,
+        requires left_equal { ForSome (left_place self) (λ p. (l : L) → L.is_clone p.now l → l ≡ p.now) }
+        requires right_equal { ForSome (right_place self) (λ p. (r : R) → R.is_clone p.now r → r ≡ p.now) }
+        ensures { IfOk result (λ v. v ≡ map_places (λ l. l.now) (λ r. r.now) self.entry) }
+    {
+        match self {
+            Left(l) => Ok(Left(l.clone()?)),
+            Both(l, r) => Ok(Both(l.clone()?, r.clone()?)),
+            Right(r) => Ok(Right(r.clone()?)),
+        }
+    }
+
+    /// Copies of the referenced values in their places.
+    pub fn copied(self) -> EitherOrBoth<L, R>
+    where
+        L: Copy,
+        R: Copy,
+        ensures { result ≡ map_places (λ l. l.now) (λ r. r.now) self.entry }
+    {
+        match self {
+            Left(l) => Left(*l),
+            Both(l, r) => Both(*l, *r),
+            Right(r) => Right(*r),
+        }
+    }
+}
+
+impl<L, R> EitherOrBoth<&mut L, &mut R> {
+    /// Clones of the referenced values in their places, as for shared references.
+    pub fn cloned(self) -> Result<EitherOrBoth<L, R>, AllocError>
+    where
+        L: Clone + Drop,
+        R: Clone,
+        requires left_equal { ForSome (left_place self) (λ p. (l : L) → L.is_clone p.now l → l ≡ p.now) }
+        requires right_equal { ForSome (right_place self) (λ p. (r : R) → R.is_clone p.now r → r ≡ p.now) }
+        ensures { IfOk result (λ v. v ≡ map_places (λ l. l.now) (λ r. r.now) self.entry) }
+    {
+        match self {
+            Left(l) => Ok(Left(l.clone()?)),
+            Both(l, r) => Ok(Both(l.clone()?, r.clone()?)),
+            Right(r) => Ok(Right(r.clone()?)),
+        }
+    }
+
+    /// Copies of the referenced values in their places.
+    pub fn copied(self) -> EitherOrBoth<L, R>
+    where
+        L: Copy,
+        R: Copy,
+        ensures { result ≡ map_places (λ l. l.now) (λ r. r.now) self.entry }
+    {
+        match self {
+            Left(l) => Left(*l),
+            Both(l, r) => Both(*l, *r),
+            Right(r) => Right(*r),
         }
     }
 }
