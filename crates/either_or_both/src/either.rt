@@ -1,6 +1,9 @@
 //! The enum [`Either`], with a module for each family of its calls.
 
+mod conversions;
+mod forms;
 mod getters;
+mod inspection;
 mod queries;
 mod unwraps;
 
