@@ -1,0 +1,64 @@
+//! From the bytes of a line to its command.
+//!
+//! A line is words, parted by spaces. Its first word names a command, and the others are what the command is about. A line that
+//! is no command is bad.
+
+use eob_both::EitherOrBoth;
+use std::alloc::{AllocError, Allocator};
+
+/// The words of two sides, collected from the items of a line.
+pub type Sides<'a, A> = EitherOrBoth<Vec<&'a [u8], A>, Vec<&'a [u8], A>>;
+
+/// What a line asks for.
+#[derive(Drop)]
+pub enum Command<'a, A: Allocator> {
+    /// `collect ITEM..`: its items, collected into vectors.
+    Collect(Sides<'a, A>),
+}
+
+/// The command of a line, or None where the line is bad.
+pub fn parse_line<'a, A: Allocator + Copy>(
+    alloc: A,
+    line: &'a [u8],
+) -> Result<Option<Command<'a, A>>, AllocError> {
+    let mut words = line
+        .split(|byte| *byte == b' ')
+        .filter(|word: &&[u8]| !word.is_empty());
+    match words.next() {
+        Some(b"collect") => {
+            let sides: Option<Sides<'a, A>> = words.map(parse_item).collect(alloc)?;
+            match sides {
+                Some(sides) => Ok(Some(Command::Collect(sides))),
+                None => Ok(None),
+            }
+        }
+        _ => Ok(None),
+    }
+}
+
+// The item that a word is, one of `l:W`, `r:W` and `b:W:W`, or None.
+fn parse_item(word: &[u8]) -> Option<EitherOrBoth<&[u8], &[u8]>> {
+    match word {
+        [b'l', b':', left @ ..] if is_name(left) => Some(EitherOrBoth::Left(left)),
+        [b'r', b':', right @ ..] if is_name(right) => Some(EitherOrBoth::Right(right)),
+        [b'b', b':', rest @ ..] => {
+            let colon = rest.iter().position(|byte| *byte == b':')?;
+            let left = &rest[..colon];
+            let right = &rest[colon + 1..];
+            if is_name(left) && is_name(right) {
+                Some(EitherOrBoth::Both(left, right))
+            } else {
+                None
+            }
+        }
+        _ => None,
+    }
+}
+
+// Whether these are one or more bytes of `a` to `z` and `0` to `9`.
+fn is_name(bytes: &[u8]) -> bool {
+    !bytes.is_empty()
+        && bytes
+            .iter()
+            .all(|byte| byte.is_ascii_lowercase() || byte.is_ascii_digit())
+}
