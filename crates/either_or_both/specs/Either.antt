@@ -12,3 +12,8 @@ left_place (Right r) = None
 abbrev pub right_place : {L R : Type 0} → Either L R → Option R
 right_place (Left l) = None
 right_place (Right r) = Some r
+
+-- the same variant, with f of a left value and g of a right one
+abbrev pub map_places : {L R T U : Type 0} → (L → T) → (R → U) → Either L R → Either T U
+map_places f g (Left l) = Left (f l)
+map_places f g (Right r) = Right (g r)

@@ -4,4 +4,8 @@ pub use Rattle.eob_both.specs.Collector
 pub use Rattle.eob_both.specs.Text
 pub use Rattle.eob_both.specs.Values
 pub use Rattle.eob_both.specs.Calls
+pub use Rattle.eob_both.specs.Lending
+pub use Rattle.eob_both.specs.Order
+pub use Rattle.eob_both.specs.Results
 pub mod Either
+pub mod EitherLending

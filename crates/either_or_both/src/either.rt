@@ -5,6 +5,7 @@ mod forms;
 mod getters;
 mod inspection;
 mod queries;
+mod references;
 mod unwraps;
 
 /// A left value or a right value.
