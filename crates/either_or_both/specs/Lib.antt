@@ -9,3 +9,5 @@ pub use Rattle.eob_both.specs.Order
 pub use Rattle.eob_both.specs.Results
 pub mod Either
 pub mod EitherLending
+pub mod EitherOrder
+pub mod EitherText
