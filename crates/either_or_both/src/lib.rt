@@ -5,6 +5,7 @@
 //! the crate `eob_both`, so that a user names this crate alone.
 #![tactic(auto)]
 
+mod collect;
 mod either;
 
 pub use either::Either;
