@@ -15,10 +15,7 @@ pub fn append_answer<A: Allocator>(
 }
 
 // Appends the variant of a pair, and the words of each of its sides.
-fn append_sides<A: Allocator>(
-    output: &mut Vec<u8, A>,
-    sides: &Sides<A>,
-) -> Result<(), AllocError> {
+fn append_sides<A: Allocator>(output: &mut Vec<u8, A>, sides: &Sides<A>) -> Result<(), AllocError> {
     match sides {
         EitherOrBoth::Left(left) => {
             output.extend_from_slice(b"Left ")?;
@@ -38,10 +35,7 @@ fn append_sides<A: Allocator>(
 }
 
 // Appends words in brackets, parted by one space.
-fn append_words<A: Allocator>(
-    output: &mut Vec<u8, A>,
-    words: &[&[u8]],
-) -> Result<(), AllocError> {
+fn append_words<A: Allocator>(output: &mut Vec<u8, A>, words: &[&[u8]]) -> Result<(), AllocError> {
     output.push(b'[')?;
     for (place, word) in words.iter().enumerate() {
         if place > 0 {

@@ -2,6 +2,8 @@
 //!
 //! A line is words, parted by spaces. Its first word names a command, and the others are what the command is about. A line that
 //! is no command is bad.
+ghost use Rattle.std.specs.Prelude.{◌↔◌, IsTrue};
+ghost use Rattle.eob_walk.specs.Names.{IsName, IsNameByte};
 
 use eob_both::EitherOrBoth;
 use std::alloc::{AllocError, Allocator};
@@ -42,13 +44,12 @@ fn parse_item(word: &[u8]) -> Option<EitherOrBoth<&[u8], &[u8]>> {
         [b'l', b':', left @ ..] if is_name(left) => Some(EitherOrBoth::Left(left)),
         [b'r', b':', right @ ..] if is_name(right) => Some(EitherOrBoth::Right(right)),
         [b'b', b':', rest @ ..] => {
-            let colon = rest.iter().position(|byte| *byte == b':')?;
-            let left = &rest[..colon];
-            let right = &rest[colon + 1..];
-            if is_name(left) && is_name(right) {
-                Some(EitherOrBoth::Both(left, right))
-            } else {
-                None
+            let end = rest.iter().position(|byte| !is_name_byte(*byte))?;
+            match &rest[end..] {
+                [b':', right @ ..] if end > 0 && is_name(right) => {
+                    Some(EitherOrBoth::Both(&rest[..end], right))
+                }
+                _ => None,
             }
         }
         _ => None,
@@ -56,9 +57,14 @@ fn parse_item(word: &[u8]) -> Option<EitherOrBoth<&[u8], &[u8]>> {
 }
 
 // Whether these are one or more bytes of `a` to `z` and `0` to `9`.
-fn is_name(bytes: &[u8]) -> bool {
-    !bytes.is_empty()
-        && bytes
-            .iter()
-            .all(|byte| byte.is_ascii_lowercase() || byte.is_ascii_digit())
+fn is_name(bytes: &[u8]) -> bool
+    ensures { IsTrue result ↔ IsName bytes.now }
+{
+    !bytes.is_empty() && bytes.iter().all(|byte| is_name_byte(*byte))
+}
+
+fn is_name_byte(byte: u8) -> bool
+    ensures { IsTrue result ↔ IsNameByte byte }
+{
+    matches!(byte, b'0'..=b'9' | b'a'..=b'z')
 }

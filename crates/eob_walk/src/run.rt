@@ -3,8 +3,11 @@
 //! Each complete line is answered before the reader is asked for more, and the answers of one read are written together. Lines
 //! are answered where they stand in the buffer that was read, and only the bytes after the last of them are kept: so memory follows
 //! the longest line and its answer, and not the input.
-ghost use Rattle.std.specs.Prelude.{◌≡◌, OnOk};
-ghost use Rattle.std.specs.Io.KnownBytes.{Appends};
+ghost use Rattle.std.specs.Prelude.{◌≡◌, ◌<◌, IfOk, OnOk, vec_len};
+ghost use Rattle.std.specs.Io.KnownBytes.{Appends, IsAtEnd};
+
+#[cfg(test)]
+mod tests;
 
 use crate::answer::append_answer;
 use crate::line::parse_line;
@@ -47,7 +50,10 @@ impl Outcome {
 
 /// Answers each line of the reader on the writer, before it asks the reader for more, and flushes the writer at the end of the
 /// input. Any error of a stream ends it, an interruption too, and so does a refused request for memory.
-pub fn run<R: Read, W: Write>(alloc: Global, reader: &mut R, writer: &mut W) -> Outcome {
+pub fn run<R: Read, W: Write>(alloc: Global, reader: &mut R, writer: &mut W) -> Outcome
+    ensures done { result ≡ Outcome.Done → IsAtEnd (R.remaining reader.new) }
+    ensures bad_line { result ≡ Outcome.BadLine → IsAtEnd (R.remaining reader.new) }
+{
     run_in(alloc, reader, writer)
 }
 
@@ -56,7 +62,10 @@ fn run_in<A: Allocator + Copy, R: Read, W: Write>(
     alloc: A,
     reader: &mut R,
     writer: &mut W,
-) -> Outcome {
+) -> Outcome
+    ensures done { result ≡ Outcome.Done → IsAtEnd (R.remaining reader.new) }
+    ensures bad_line { result ≡ Outcome.BadLine → IsAtEnd (R.remaining reader.new) }
+{
     let mut session = Session::new(alloc);
     match session.answer_all(reader, writer) {
         Ok(()) if session.answers.any_bad => Outcome::BadLine,
@@ -149,19 +158,18 @@ impl<A: Allocator + Copy> Session<A> {
         }
     }
 
-    // Reads to the end of the input. The count of reads is bounded, since nothing says that an input ends.
-    fn answer_all<R: Read, W: Write>(
-        &mut self,
-        reader: &mut R,
-        writer: &mut W,
-    ) -> Result<(), Stop> {
-        let mut buffer = vec![in self.answers.alloc; 0u8; READ_SIZE]?;
+    // Answers all lines of the input. The number of reads is bounded, since nothing says that an input ends.
+    fn answer_all<R: Read, W: Write>(&mut self, reader: &mut R, writer: &mut W) -> Result<(), Stop>
+        ensures { OnOk result (IsAtEnd (R.remaining reader.new)) }
+    {
+        let mut memory = read_memory(self.answers.alloc)?;
+        let buffer = memory.as_mut_slice();
         for _ in 0..u64::MAX {
-            let count = reader.read(buffer.as_mut_slice())?;
+            let count = reader.read(buffer)?;
             if count == 0 {
                 return self.end(writer);
             }
-            let taken = self.take_bytes(&buffer.as_slice()[..count]);
+            let taken = self.take_bytes(&buffer[..count]);
             let written = self.write_answers(writer);
             // A refused request came before the write, so it is what stopped the run, whatever became of the write.
             taken?;
@@ -202,6 +210,13 @@ impl<A: Allocator + Copy> Session<A> {
         writer.flush()?;
         Ok(())
     }
+}
+
+// The memory that is read into.
+fn read_memory<A: Allocator>(alloc: A) -> Result<Vec<u8, A>, AllocError>
+    ensures { IfOk result (λ memory. 0 < vec_len memory) }
+{
+    vec![in alloc; 0; READ_SIZE]
 }
 
 // Writes all the bytes. An error ends it, an interruption too, and so does a write that takes none of a rest.

@@ -1,0 +1,316 @@
+//! What the program writes for its input, and how a run ends over streams that give little, take little or fail.
+
+use super::{Outcome, run};
+use std::alloc::{AllocError, Global};
+use std::cell::Cell;
+use std::io;
+use std::io::{ErrorKind, Read, Write};
+use std::test::Fail;
+
+// A reader of bytes in memory, at most `step` of them at a time. It can fail once where they end, and ends after that.
+#[derive(Drop)]
+struct Source<'a> {
+    rest: &'a [u8],
+    step: usize,
+    failure: Option<ErrorKind>,
+}
+
+impl<'a> Read for Source<'a> {
+    fn read(&mut self, buf: &mut [u8]) -> io::Result<usize> {
+        if self.rest.is_empty() {
+            if let Some(kind) = self.failure.take() {
+                return Err(io::Error::from(kind));
+            }
+        }
+        let count = self.step.min(buf.len()).min(self.rest.len());
+        buf[..count].copy_from_slice(&self.rest[..count]);
+        self.rest = &self.rest[count..];
+        Ok(count)
+    }
+}
+
+// What a writer does with bytes that it has no room for.
+#[derive(Clone, Copy)]
+enum Full {
+    Fails,
+    TakesNone,
+}
+
+// A writer into memory, which takes at most `step` bytes at a time and `room` bytes in all.
+#[derive(Drop)]
+struct Sink {
+    taken: Vec<u8>,
+    step: usize,
+    room: usize,
+    full: Full,
+    flush_failure: Option<ErrorKind>,
+    flushes: u8,
+}
+
+impl Sink {
+    fn new(alloc: Global, step: usize) -> Self {
+        Sink {
+            taken: Vec::new(alloc),
+            step,
+            room: usize::MAX,
+            full: Full::Fails,
+            flush_failure: None,
+            flushes: 0,
+        }
+    }
+}
+
+impl Write for Sink {
+    fn write(&mut self, buf: &[u8]) -> io::Result<usize> {
+        let room = self.room.saturating_sub(self.taken.len());
+        let count = self.step.min(buf.len()).min(room);
+        match self.full {
+            Full::Fails if count == 0 => Err(io::Error::from(ErrorKind::StorageFull)),
+            _ => {
+                self.taken.extend_from_slice(&buf[..count])?;
+                Ok(count)
+            }
+        }
+    }
+
+    fn flush(&mut self) -> io::Result<()> {
+        self.flushes = self.flushes.saturating_add(1);
+        match self.flush_failure {
+            Some(kind) => Err(io::Error::from(kind)),
+            None => Ok(()),
+        }
+    }
+}
+
+#[test]
+fn answers_lines(rt: HostRuntime) -> Result<(), Fail> {
+    let rows: [(&[u8], &str, u8); 16] = [
+        (b"collect b:1:c l:2\n", "Both [1 2] [c]\n", 0),
+        (b"collect\n", "Both [] []\n", 0),
+        (b"", "", 0),
+        (b"collect x\n", "line 1: bad\n", 2),
+        (b"\ncollect  l:1 ", "line 1: bad\nLeft [1]\n", 2),
+        (
+            b"collect l:\ncollect b:1\ncollect r:A\n",
+            "line 1: bad\nline 2: bad\nline 3: bad\n",
+            2,
+        ),
+        (
+            b"walk l:1\ncollect r:a b:2:b\n",
+            "line 1: bad\nBoth [2] [a b]\n",
+            2,
+        ),
+        (b"collect l:1\ncollect r:2\n", "Left [1]\nRight [2]\n", 0),
+        (
+            b"collect\tl:1\ncollect l:1\r\n \n",
+            "line 1: bad\nline 2: bad\nline 3: bad\n",
+            2,
+        ),
+        (
+            b"collect b:1:2:3\ncollect b::1\nCOLLECT\n",
+            "line 1: bad\nline 2: bad\nline 3: bad\n",
+            2,
+        ),
+        (
+            b"collect l:\xff\nends fx l:1\n",
+            "line 1: bad\nline 2: bad\n",
+            2,
+        ),
+        (b"collect l:1\n  ", "Left [1]\nline 2: bad\n", 2),
+        (b"  collect   r:az09  l:z \n", "Both [z] [az09]\n", 0),
+        (
+            b"collect b:1:\ncollect b:\n",
+            "line 1: bad\nline 2: bad\n",
+            2,
+        ),
+        (
+            b"collectl:1\nl:1 collect\n",
+            "line 1: bad\nline 2: bad\n",
+            2,
+        ),
+        (b"collect l:1 x\ncollect l:1", "line 1: bad\nLeft [1]\n", 2),
+    ];
+    for (input, output, status) in rows {
+        for step in [1, 5, usize::MAX] {
+            let mut reader = Source {
+                rest: input,
+                step,
+                failure: None,
+            };
+            let mut writer = Sink::new(rt.alloc(), step);
+            let outcome = run(rt.alloc(), &mut reader, &mut writer);
+            assert_eq!(rt; writer.taken.as_slice(), output.as_bytes(), "{output}");
+            assert_eq!(rt; outcome.status(), status, "{output}");
+            assert_eq!(rt; writer.flushes, 1, "{output}");
+        }
+    }
+    Ok(())
+}
+
+#[test]
+fn stops_where_writer_does(rt: HostRuntime) -> Result<(), Fail> {
+    let output = b"Left [1]\nline 2: bad\nBoth [a] [b]\n";
+    for room in 0..output.len() {
+        for full in [Full::Fails, Full::TakesNone] {
+            for step in [1, usize::MAX] {
+                let mut reader = Source {
+                    rest: b"collect l:1\n\ncollect b:a:b\n",
+                    step,
+                    failure: None,
+                };
+                let mut writer = Sink::new(rt.alloc(), step);
+                writer.room = room;
+                writer.full = full;
+                let outcome = run(rt.alloc(), &mut reader, &mut writer);
+                assert_eq!(rt; outcome, Outcome::Io, "room {room}");
+                assert_eq!(rt; writer.taken.as_slice(), &output[..room], "room {room}");
+                assert_eq!(rt; writer.flushes, 0, "room {room}");
+            }
+        }
+    }
+    Ok(())
+}
+
+#[test]
+fn stops_where_read_or_last_flush_fails(rt: HostRuntime) -> Result<(), Fail> {
+    let rows: [(&[u8], &str); 4] = [
+        (b"", ""),
+        (b"collect l:1\ncoll", "Left [1]\n"),
+        (b"collect l:1\n", "Left [1]\n"),
+        (b"x\n", "line 1: bad\n"),
+    ];
+    for (input, output) in rows {
+        for kind in [ErrorKind::Interrupted, ErrorKind::Other] {
+            let mut reader = Source {
+                rest: input,
+                step: usize::MAX,
+                failure: Some(kind),
+            };
+            let mut writer = Sink::new(rt.alloc(), usize::MAX);
+            let outcome = run(rt.alloc(), &mut reader, &mut writer);
+            assert_eq!(rt; outcome, Outcome::Io, "a read: {output}");
+            assert_eq!(rt; writer.taken.as_slice(), output.as_bytes());
+            assert_eq!(rt; writer.flushes, 0);
+        }
+    }
+    let rows: [(&[u8], &str); 3] = [
+        (b"", ""),
+        (b"collect l:1\n", "Left [1]\n"),
+        (b"x\n", "line 1: bad\n"),
+    ];
+    for (input, output) in rows {
+        let mut reader = Source {
+            rest: input,
+            step: usize::MAX,
+            failure: None,
+        };
+        let mut writer = Sink::new(rt.alloc(), usize::MAX);
+        writer.flush_failure = Some(ErrorKind::Interrupted);
+        let outcome = run(rt.alloc(), &mut reader, &mut writer);
+        assert_eq!(rt; outcome, Outcome::Io, "a flush: {output}");
+        assert_eq!(rt; writer.taken.as_slice(), output.as_bytes());
+        assert_eq!(rt; writer.flushes, 1);
+    }
+    Ok(())
+}
+
+// A reader of some lines, one at each read. It notes whether it is asked while a line that it gave is not answered.
+#[derive(Drop)]
+struct Lines<'a> {
+    left: usize,
+    given: usize,
+    answered: &'a Cell<usize>,
+    was_early: &'a Cell<bool>,
+}
+
+impl<'a> Read for Lines<'a> {
+    fn read(&mut self, buf: &mut [u8]) -> io::Result<usize> {
+        if self.given != self.answered.get() {
+            self.was_early.set(true);
+        }
+        let line = b"collect l:1\n";
+        if self.left == 0 || buf.len() < line.len() {
+            return Ok(0);
+        }
+        self.left -= 1;
+        self.given = self.given.saturating_add(1);
+        buf[..line.len()].copy_from_slice(line);
+        Ok(line.len())
+    }
+}
+
+// A writer that counts the ends of lines that it takes.
+#[derive(Drop)]
+struct Counter<'a> {
+    answered: &'a Cell<usize>,
+}
+
+impl<'a> Write for Counter<'a> {
+    fn write(&mut self, buf: &[u8]) -> io::Result<usize> {
+        let ends = buf.iter().filter(|byte| **byte == b'\n').count();
+        self.answered.set(self.answered.get().saturating_add(ends));
+        Ok(buf.len())
+    }
+
+    fn flush(&mut self) -> io::Result<()> {
+        Ok(())
+    }
+}
+
+#[test]
+fn answers_lines_before_next_read(rt: HostRuntime) {
+    let answered = Cell::new(0);
+    let was_early = Cell::new(false);
+    let mut reader = Lines {
+        left: 3,
+        given: 0,
+        answered: &answered,
+        was_early: &was_early,
+    };
+    let mut writer = Counter {
+        answered: &answered,
+    };
+    let outcome = run(rt.alloc(), &mut reader, &mut writer);
+    assert_eq!(rt; outcome, Outcome::Done);
+    assert_eq!(rt; answered.get(), 3);
+    assert!(rt; !was_early.get());
+}
+
+// A line of one item, and its answer, with a word of some length.
+fn long_line(alloc: Global, length: usize) -> Result<(Vec<u8>, Vec<u8>), AllocError> {
+    let mut word = Vec::new(alloc);
+    word.resize(length, b'w')?;
+    let mut line = Vec::new(alloc);
+    line.extend_from_slice(b"collect r:")?;
+    line.extend_from_slice(&word)?;
+    let mut answer = Vec::new(alloc);
+    answer.extend_from_slice(b"Right [")?;
+    answer.extend_from_slice(&word)?;
+    answer.extend_from_slice(b"]\n")?;
+    Ok((line, answer))
+}
+
+#[test]
+fn answers_line_longer_than_buffer(rt: HostRuntime) -> Result<(), Fail> {
+    for length in [65525, 65526, 65527, 200000] {
+        let (line, answer) = long_line(rt.alloc(), length)?;
+        let mut input = line.clone()?;
+        input.push(b'\n')?;
+        input.extend_from_slice(&line)?;
+        let mut output = answer.clone()?;
+        output.extend_from_slice(&answer)?;
+        let mut reader = Source {
+            rest: &input,
+            step: usize::MAX,
+            failure: None,
+        };
+        let mut writer = Sink::new(rt.alloc(), usize::MAX);
+        let outcome = run(rt.alloc(), &mut reader, &mut writer);
+        assert_eq!(rt; outcome, Outcome::Done);
+        assert!(rt;
+            writer.taken.as_slice() == output.as_slice(),
+            "length {length}"
+        );
+    }
+    Ok(())
+}
