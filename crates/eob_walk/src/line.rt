@@ -66,5 +66,5 @@ fn is_name(bytes: &[u8]) -> bool
 fn is_name_byte(byte: u8) -> bool
     ensures { IsTrue result ↔ IsNameByte byte }
 {
-    matches!(byte, b'0'..=b'9' | b'a'..=b'z')
+    byte.is_ascii_lowercase() || byte.is_ascii_digit()
 }
