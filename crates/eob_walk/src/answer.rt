@@ -1,21 +1,52 @@
-//! From a command to the text of its answer.
+//! From a command, or from the number of a bad line, to its answer.
+ghost use Rattle.eob_walk.specs.Growth.{Extends};
 
 use crate::line::{Command, Sides};
 use eob_both::EitherOrBoth;
 use std::alloc::{AllocError, Allocator};
 
-/// Appends the answer to a command, without the byte that ends its line.
+/// Appends the answer to a command.
+#[tactic(auto, using(crate::proofs::GrowthLemmas::extends_trans))]
 pub fn append_answer<A: Allocator>(
     output: &mut Vec<u8, A>,
     command: &Command<A>,
-) -> Result<(), AllocError> {
+) -> Result<(), AllocError>
+    ensures { Extends output.old.items output.new.items }
+{
+    append_text(output, command)?;
+    output.push(b'\n')?;
+    Ok(())
+}
+
+/// Appends the answer to a bad line.
+pub fn append_bad_line<A: Allocator + Clone>(
+    alloc: A,
+    output: &mut Vec<u8, A>,
+    number: u64,
+) -> Result<(), AllocError>
+    ensures { Extends output.old.items output.new.items }
+{
+    let text = format!(in alloc; "line {number}: bad\n")?;
+    output.extend_from_slice(text.as_bytes())
+}
+
+// Appends the answer to a command, without the byte that ends it.
+fn append_text<A: Allocator>(
+    output: &mut Vec<u8, A>,
+    command: &Command<A>,
+) -> Result<(), AllocError>
+    ensures { Extends output.old.items output.new.items }
+{
     match command {
         Command::Collect(sides) => append_sides(output, sides),
     }
 }
 
 // Appends the variant of a pair, and the words of each of its sides.
-fn append_sides<A: Allocator>(output: &mut Vec<u8, A>, sides: &Sides<A>) -> Result<(), AllocError> {
+#[tactic(auto, using(crate::proofs::GrowthLemmas::extends_trans))]
+fn append_sides<A: Allocator>(output: &mut Vec<u8, A>, sides: &Sides<A>) -> Result<(), AllocError>
+    ensures { Extends output.old.items output.new.items }
+{
     match sides {
         EitherOrBoth::Left(left) => {
             output.extend_from_slice(b"Left ")?;
@@ -35,7 +66,10 @@ fn append_sides<A: Allocator>(output: &mut Vec<u8, A>, sides: &Sides<A>) -> Resu
 }
 
 // Appends words in brackets, parted by one space.
-fn append_words<A: Allocator>(output: &mut Vec<u8, A>, words: &[&[u8]]) -> Result<(), AllocError> {
+#[tactic(auto, using(crate::proofs::GrowthLemmas::extends_trans))]
+fn append_words<A: Allocator>(output: &mut Vec<u8, A>, words: &[&[u8]]) -> Result<(), AllocError>
+    ensures { Extends output.old.items output.new.items }
+{
     output.push(b'[')?;
     for (place, word) in words.iter().enumerate() {
         if place > 0 {

@@ -3,13 +3,14 @@
 //! Each complete line is answered before the reader is asked for more, and the answers of one read are written together. Lines
 //! are answered where they stand in the buffer that was read, and only the bytes after the last of them are kept: so memory follows
 //! the longest line and its answer, and not the input.
-ghost use Rattle.std.specs.Prelude.{◌≡◌, ◌<◌, IfOk, OnOk, vec_len};
+ghost use Rattle.std.specs.Prelude.{◌≡◌, ◌<◌, IfOk, OnOk, OnErr, vec_len};
 ghost use Rattle.std.specs.Io.KnownBytes.{Appends, IsAtEnd};
+ghost use Rattle.eob_walk.specs.Growth.{Extends};
 
 #[cfg(test)]
 mod tests;
 
-use crate::answer::append_answer;
+use crate::answer::{append_answer, append_bad_line};
 use crate::line::parse_line;
 use std::alloc::{AllocError, Allocator, Global};
 use std::io;
@@ -113,7 +114,11 @@ struct Answers<A: Allocator + Copy> {
 
 impl<A: Allocator + Copy> Answers<A> {
     // Answers a line. Where memory is refused on the way, what stands of its answer is cut off.
-    fn add(&mut self, line: &[u8]) -> Result<(), AllocError> {
+    #[tactic(auto, using(crate::proofs::GrowthLemmas::take_extended))]
+    fn add(&mut self, line: &[u8]) -> Result<(), AllocError>
+        ensures grown { Extends self.old.unwritten.items self.new.unwritten.items }
+        ensures cut_off { OnErr result (self.new.unwritten.items ≡ self.old.unwritten.items) }
+    {
         let whole = self.unwritten.len();
         self.lines = self.lines.saturating_add(1);
         let added = self.append(line);
@@ -123,18 +128,16 @@ impl<A: Allocator + Copy> Answers<A> {
         added
     }
 
-    fn append(&mut self, line: &[u8]) -> Result<(), AllocError> {
+    fn append(&mut self, line: &[u8]) -> Result<(), AllocError>
+        ensures { Extends self.old.unwritten.items self.new.unwritten.items }
+    {
         match parse_line(self.alloc, line)? {
-            Some(command) => append_answer(&mut self.unwritten, &command)?,
+            Some(command) => append_answer(&mut self.unwritten, &command),
             None => {
                 self.any_bad = true;
-                let number = self.lines;
-                let text = format!(in self.alloc; "line {number}: bad")?;
-                self.unwritten.extend_from_slice(text.as_bytes())?;
+                append_bad_line(self.alloc, &mut self.unwritten, self.lines)
             }
         }
-        self.unwritten.push(b'\n')?;
-        Ok(())
     }
 }
 
