@@ -21,9 +21,9 @@ impl<L, R> EitherOrBoth<L, R> {
         ensures { map_places (λ l. l.now) (λ r. r.now) result ≡ self.now }
     {
         match self {
-            Left(l) => Left(l),
-            Both(l, r) => Both(l, r),
-            Right(r) => Right(r),
+            Left(left) => Left(left),
+            Both(left, right) => Both(left, right),
+            Right(right) => Right(right),
         }
     }
 
@@ -123,9 +123,9 @@ impl<L, R> EitherOrBoth<&mut L, &mut R> {
         ensures { IfOk result (λ v. v ≡ map_places (λ l. l.now) (λ r. r.now) self.entry) }
     {
         match self {
-            Left(l) => Ok(Left(l.clone()?)),
-            Both(l, r) => Ok(Both(l.clone()?, r.clone()?)),
-            Right(r) => Ok(Right(r.clone()?)),
+            Left(left) => Ok(Left(left.clone()?)),
+            Both(left, right) => Ok(Both(left.clone()?, right.clone()?)),
+            Right(right) => Ok(Right(right.clone()?)),
         }
     }
 
@@ -137,9 +137,9 @@ impl<L, R> EitherOrBoth<&mut L, &mut R> {
         ensures { result ≡ map_places (λ l. l.now) (λ r. r.now) self.entry }
     {
         match self {
-            Left(l) => Left(*l),
-            Both(l, r) => Both(*l, *r),
-            Right(r) => Right(*r),
+            Left(left) => Left(*left),
+            Both(left, right) => Both(*left, *right),
+            Right(right) => Right(*right),
         }
     }
 }
