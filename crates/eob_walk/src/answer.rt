@@ -2,7 +2,7 @@
 ghost use Rattle.eob_walk.specs.Growth.{Extends};
 
 use crate::line::{Command, Sides};
-use eob_both::EitherOrBoth;
+use either_or_both::EitherOrBoth;
 use std::alloc::{AllocError, Allocator};
 
 /// Appends the answer to a command.

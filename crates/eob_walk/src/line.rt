@@ -5,7 +5,7 @@
 ghost use Rattle.std.specs.Prelude.{◌↔◌, IsTrue};
 ghost use Rattle.eob_walk.specs.Names.{IsName, IsNameByte};
 
-use eob_both::EitherOrBoth;
+use either_or_both::EitherOrBoth;
 use std::alloc::{AllocError, Allocator};
 
 /// The words of two sides, collected from the items of a line.
