@@ -82,7 +82,9 @@ struct Answers {
 impl Answers {
     fn add(&mut self, line: &[u8]) {
         self.lines = self.lines.saturating_add(1);
-        let mut words = line.split(|byte| *byte == b' ').filter(|word| !word.is_empty());
+        let mut words = line
+            .split(|byte| *byte == b' ')
+            .filter(|word| !word.is_empty());
         let sides = match words.next() {
             Some(b"collect") => collect(words),
             _ => None,
