@@ -174,9 +174,9 @@ impl<A: Allocator + Copy> Session<A> {
             }
             let taken = self.take_bytes(&buffer[..count]);
             let written = self.write_answers(writer);
-            // A refused request came before the write, so it is what stopped the run, whatever became of the write.
-            taken?;
+            // The answers written are those before the line that memory was refused for, so a failed write of them comes first.
             written?;
+            taken?;
         }
         Err(Stop::Io)
     }
