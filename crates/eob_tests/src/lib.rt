@@ -1,0 +1,38 @@
+//! The tests of the public calls of `either_or_both`, and small callers that are proved from its contracts alone.
+//!
+//! A module of tests goes with a family of calls, and covers both enums: its tables give, for each call and each variant, the answer
+//! and the calls of the closures, as the equations of the calls or the original crate have them, and [`calls`] goes over them. The
+//! callers in [`callers`] show that the contracts say what a caller needs: none of them has a proof of its own.
+#![tactic(auto)]
+
+pub mod callers;
+#[cfg(test)]
+mod calls;
+#[cfg(test)]
+mod collecting;
+#[cfg(test)]
+mod conversions;
+#[cfg(test)]
+mod counted;
+#[cfg(test)]
+mod forms;
+#[cfg(test)]
+mod getters;
+#[cfg(test)]
+mod in_place;
+#[cfg(test)]
+mod inspection;
+#[cfg(test)]
+mod order;
+#[cfg(test)]
+mod queries;
+#[cfg(test)]
+mod references;
+#[cfg(test)]
+mod serialized;
+#[cfg(test)]
+mod text;
+#[cfg(test)]
+mod transpositions;
+#[cfg(test)]
+mod unwraps;

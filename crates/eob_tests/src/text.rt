@@ -1,0 +1,216 @@
+//! Tests: what values print, under the settings of a formatter, and into a writer that fails.
+
+use either_or_both::EitherOrBoth::{Both, Left, Right};
+use either_or_both::{Either, EitherOrBoth, TryFromOptionsError};
+use std::alloc::{AllocError, Global};
+use std::fmt;
+use std::fmt::{Debug, Display, Write};
+use std::process::Abort;
+use std::test::Fail;
+
+// What the value prints under the settings that the style writes.
+fn printed(alloc: Global, style: &str, value: &impl Display) -> Result<String, AllocError> {
+    match style {
+        "{:>5}" => format!(in alloc; "{value:>5}"),
+        "{:<5}" => format!(in alloc; "{value:<5}"),
+        "{:*^5}" => format!(in alloc; "{value:*^5}"),
+        "{:+}" => format!(in alloc; "{value:+}"),
+        "{:05}" => format!(in alloc; "{value:05}"),
+        "{:+05}" => format!(in alloc; "{value:+05}"),
+        "{:.1}" => format!(in alloc; "{value:.1}"),
+        "{:-<6.2}" => format!(in alloc; "{value:-<6.2}"),
+        _ => format!(in alloc; "{value}"),
+    }
+}
+
+/// A style, and what a left and a right value print in it alone.
+type Row = (&'static str, &'static str, &'static str);
+
+/// Of 7 and 8.
+static NUMBERS: [Row; 7] = [
+    ("{}", "7", "8"),
+    ("{:>5}", "    7", "    8"),
+    ("{:<5}", "7    ", "8    "),
+    ("{:*^5}", "**7**", "**8**"),
+    ("{:+}", "+7", "+8"),
+    ("{:05}", "00007", "00008"),
+    ("{:+05}", "+0007", "+0008"),
+];
+
+/// Of the texts "one" and "other".
+static TEXTS: [Row; 5] = [
+    ("{}", "one", "other"),
+    ("{:>5}", "  one", "other"),
+    ("{:*^5}", "*one*", "other"),
+    ("{:.1}", "o", "o"),
+    ("{:-<6.2}", "on----", "ot----"),
+];
+
+/// Of 0.25 and 2.5.
+static FRACTIONS: [Row; 4] = [
+    ("{}", "0.25", "2.5"),
+    ("{:+}", "+0.25", "+2.5"),
+    ("{:+05}", "+0.25", "+02.5"),
+    ("{:-<6.2}", "0.25--", "2.50--"),
+];
+
+fn check_style(
+    rt: &impl Abort,
+    alloc: Global,
+    style: &str,
+    value: &impl Display,
+    want: &str,
+) -> Result<(), AllocError> {
+    assert_eq!(rt;
+        printed(alloc, style, value)?.as_str(),
+        want,
+        "{style} of {value}"
+    );
+    Ok(())
+}
+
+// A lone value prints as the row says, and both print `both` in every style.
+fn check_rows<L: Display + Copy, R: Display + Copy>(
+    rt: &impl Abort,
+    alloc: Global,
+    held: (L, R),
+    both: &str,
+    rows: &[Row],
+) -> Result<(), AllocError> {
+    let (l, r) = held;
+    for (style, left, right) in rows.iter().copied() {
+        check_style(rt, alloc, style, &EitherOrBoth::<L, R>::Left(l), left)?;
+        check_style(rt, alloc, style, &Both(l, r), both)?;
+        check_style(rt, alloc, style, &EitherOrBoth::<L, R>::Right(r), right)?;
+        check_style(rt, alloc, style, &Either::<L, R>::Left(l), left)?;
+        check_style(rt, alloc, style, &Either::<L, R>::Right(r), right)?;
+    }
+    Ok(())
+}
+
+/// A lone value and an `Either` print as the held value does under the formatter's settings. Both print under default settings,
+/// the left value, a newline and the right one, whatever the formatter's settings are.
+#[test]
+fn settings(rt: HostRuntime) -> Result<(), Fail> {
+    let alloc = rt.alloc();
+    check_rows(&rt, alloc, (7u8, 8i64), "7\n8", &NUMBERS)?;
+    check_rows(&rt, alloc, ("one", "other"), "one\nother", &TEXTS)?;
+    check_rows(&rt, alloc, (0.25f64, 2.5f32), "0.25\n2.5", &FRACTIONS)?;
+    Ok(())
+}
+
+const REFUSAL: &str = "Either the left, right or both values must be present";
+
+/// The refusal of two absent values prints its text alone, whatever the settings are.
+#[test]
+fn settings_of_the_refusal(rt: HostRuntime) -> Result<(), Fail> {
+    let alloc = rt.alloc();
+    let refused = TryFromOptionsError;
+    assert_eq!(rt; format!(in alloc; "{refused}")?.as_str(), REFUSAL);
+    assert_eq!(rt; format!(in alloc; "{refused:>60}")?.as_str(), REFUSAL);
+    assert_eq!(rt; format!(in alloc; "{refused:*^70}")?.as_str(), REFUSAL);
+    assert_eq!(rt; format!(in alloc; "{refused:<060.3}")?.as_str(), REFUSAL);
+    assert_eq!(rt;
+        format!(in alloc; "{refused:?}")?.as_str(),
+        "TryFromOptionsError"
+    );
+    Ok(())
+}
+
+/// A value, its debug text, and its debug text over several lines.
+static DEBUG_OF_EITHER_OR_BOTH: [(EitherOrBoth<u8, char>, &str, &str); 3] = [
+    (Left(1), "Left(1)", "Left(\n    1,\n)"),
+    (Both(1, 'c'), "Both(1, 'c')", "Both(\n    1,\n    'c',\n)"),
+    (Right('c'), "Right('c')", "Right(\n    'c',\n)"),
+];
+
+static DEBUG_OF_EITHER: [(Either<u8, char>, &str, &str); 2] = [
+    (Either::Left(1), "Left(1)", "Left(\n    1,\n)"),
+    (Either::Right('c'), "Right('c')", "Right(\n    'c',\n)"),
+];
+
+/// The debug text is the variant with what it holds.
+#[test]
+fn debug_texts(rt: HostRuntime) -> Result<(), Fail> {
+    let alloc = rt.alloc();
+    for (value, short, long) in DEBUG_OF_EITHER_OR_BOTH.iter().copied() {
+        assert_eq!(rt; format!(in alloc; "{value:?}")?.as_str(), short);
+        assert_eq!(rt; format!(in alloc; "{value:#?}")?.as_str(), long);
+    }
+    for (value, short, long) in DEBUG_OF_EITHER.iter().copied() {
+        assert_eq!(rt; format!(in alloc; "{value:?}")?.as_str(), short);
+        assert_eq!(rt; format!(in alloc; "{value:#?}")?.as_str(), long);
+    }
+    Ok(())
+}
+
+/// Takes texts while there is room for their bytes, and then fails.
+#[derive(Drop)]
+struct Narrow {
+    room: usize,
+}
+
+impl Write for Narrow {
+    fn write_str(&mut self, text: &str) -> fmt::Result {
+        match self.room.checked_sub(text.len()) {
+            Some(rest) => {
+                self.room = rest;
+                Ok(())
+            }
+            None => {
+                self.room = 0;
+                Err(fmt::Error)
+            }
+        }
+    }
+}
+
+// Prints the value into writers with room for no byte, for one, and so on up to the whole text. Where the text finds room the
+// print succeeds, and else it gives the writer's error.
+fn check_narrow(rt: &impl Abort, value: &(impl Display + Debug), displayed: &str, debugged: &str) {
+    for room in 0..=displayed.len() {
+        let want = if room == displayed.len() {
+            Ok(())
+        } else {
+            Err(fmt::Error)
+        };
+        assert_eq!(rt;
+            write!(Narrow { room }, "{value}"),
+            want,
+            "{value:?} in {room} bytes"
+        );
+    }
+    for room in 0..=debugged.len() {
+        let want = if room == debugged.len() {
+            Ok(())
+        } else {
+            Err(fmt::Error)
+        };
+        assert_eq!(rt;
+            write!(Narrow { room }, "{value:?}"),
+            want,
+            "{value:?} in {room} bytes"
+        );
+    }
+}
+
+/// A writer that fails gives its error back through the printing of a value.
+#[test]
+fn writers_that_fail(rt: HostRuntime) {
+    check_narrow(&rt, &TryFromOptionsError, REFUSAL, "TryFromOptionsError");
+    check_narrow(&rt, &EitherOrBoth::<u8>::Left(12), "12", "Left(12)");
+    check_narrow(&rt, &Both(12, "word"), "12\nword", "Both(12, \"word\")");
+    check_narrow(
+        &rt,
+        &EitherOrBoth::<u8, &str>::Right("word"),
+        "word",
+        "Right(\"word\")",
+    );
+    check_narrow(&rt, &Either::<u8>::Left(12), "12", "Left(12)");
+    check_narrow(
+        &rt,
+        &Either::<u8, &str>::Right("word"),
+        "word",
+        "Right(\"word\")",
+    );
+}
