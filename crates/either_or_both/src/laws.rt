@@ -1,6 +1,7 @@
 //! What follows from the definitions that the contracts cite, each law a public function that does nothing: a call of it gives a
-//! caller's proof the fact.
+//! caller's proof the fact. Those of `EitherOrBoth` alone are passed on from `eob_both`.
 
 mod results;
 
+pub use eob_both::laws::*;
 pub use results::law_results;
