@@ -7,6 +7,7 @@
 
 mod collect;
 mod either;
+pub mod join;
 
 pub use either::Either;
 pub use eob_both::{EitherOrBoth, TryFromOptionsError, iter};
