@@ -7,6 +7,7 @@
 
 mod collect;
 mod either;
+pub mod join;
 pub mod laws;
 
 pub use either::Either;
