@@ -3,5 +3,7 @@
 
 mod results;
 
-pub use eob_both::laws::*;
+pub use eob_both::laws::{
+    law_first_items, law_first_list, law_last_value, law_last_value_by_order,
+};
 pub use results::law_results;
