@@ -2,9 +2,16 @@
 use Rattle.std.proofs.Common.{◌≡◌, List, [], ◌∷◌, map, Result, Ok, Err, refl, ap}
 use Rattle.std.specs.List.{filter_map}
 use Rattle.std.specs.Result.{result_ok, result_err}
-use Rattle.either_or_both.specs.Either.{either_of, lefts, rights, PartsResults}
+use Rattle.either_or_both.specs.Either.{either_of, lefts, rights}
 
-pub parts_results : {L R : Type 0} → PartsResults L R
-parts_results [] = (refl, refl)
-parts_results (Ok r ∷ rs) = ((parts_results rs).0, ap (λ ys. r ∷ ys) (parts_results rs).1)
-parts_results (Err l ∷ rs) = (ap (λ xs. l ∷ xs) (parts_results rs).0, (parts_results rs).1)
+-- the left values are the errors
+pub errors : {L R : Type 0} → (rs : List (Result R L)) → lefts (map either_of rs) ≡ filter_map result_err rs
+errors [] = refl
+errors (Ok r ∷ rs) = errors rs
+errors (Err l ∷ rs) = ap (λ xs. l ∷ xs) (errors rs)
+
+-- the right values are the successes
+pub successes : {L R : Type 0} → (rs : List (Result R L)) → rights (map either_of rs) ≡ filter_map result_ok rs
+successes [] = refl
+successes (Ok r ∷ rs) = ap (λ ys. r ∷ ys) (successes rs)
+successes (Err l ∷ rs) = successes rs
