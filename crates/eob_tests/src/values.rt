@@ -138,11 +138,6 @@ fn values_of_either_or_both_are_written(rt: HostRuntime) {
             *item = item.saturating_add(10);
         }
         assert_eq!(rt; forward, want);
-        let mut borrowed = value;
-        for item in &mut borrowed {
-            *item = item.saturating_add(10);
-        }
-        assert_eq!(rt; borrowed, want);
         let mut backward = value;
         for item in backward.iter_mut().rev() {
             *item = item.saturating_add(10);
