@@ -1,8 +1,3 @@
-//! Laws: functions with an empty body, whose contracts hold of all lists, keys and values. A caller calls one to learn it.
-
-mod contents;
-
-pub use contents::{law_first_items, law_first_list, law_last_value, law_last_value_by_order};
 //! Laws of the paired walk and of the chain, over any iterators as their sides: which item of which list each call takes. A
 //! caller's proof that holds a walk in its hands, and not only a chain of iterators over it, calls the law that it needs. None
 //! of these functions does anything.
@@ -13,6 +8,10 @@ ghost use Rattle.std.specs.Prelude.{List};
 ghost use Rattle.eob_both.specs.Aligned.{aligned, AlignedByIndex};
 ghost use Rattle.eob_both.specs.Swap.{SwapNextTakesFirst, SwapBackTakesLast, SwapHasAligned};
 ghost use Rattle.eob_both.specs.Chain.{ChainNextTakesFirst, ChainBackTakesLast, ChainHasBoth};
+
+mod contents;
+
+pub use contents::{law_first_items, law_first_list, law_last_value, law_last_value_by_order};
 
 /// `next` of the paired walk takes the first item of the aligned list of what its sides give, or answers `None` where that is
 /// empty, and leaves the rest of it.

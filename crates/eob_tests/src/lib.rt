@@ -11,6 +11,8 @@ mod calls;
 #[cfg(test)]
 mod collecting;
 #[cfg(test)]
+mod containers;
+#[cfg(test)]
 mod conversions;
 #[cfg(test)]
 mod counted;
