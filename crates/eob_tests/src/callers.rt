@@ -5,6 +5,7 @@ ghost use Rattle.std.specs.Prelude.{◌≡◌, fold};
 
 pub mod of_either;
 pub mod of_either_or_both;
+pub mod of_joins;
 pub mod of_programs;
 pub mod readme;
 

@@ -1,0 +1,110 @@
+//! The full outer join of two iterators, item by item.
+ghost use Rattle.std.specs.Prelude.{IfSome};
+ghost use Rattle.std.specs.Iterator.{IsFinite, MakesProgress};
+ghost use Rattle.either_or_both.specs.OuterJoin.{JoinsRuns, join_can, join_remaining, join_steps};
+
+use crate::EitherOrBoth;
+use std::cmp::Ordering;
+
+/// The full outer join of two iterators of pairs whose keys rise, item by item. It holds the next pair of each side; a side that
+/// holds none has ended, and is asked no more. Made by [`outer_join_lazily`](super::outer_join_lazily).
+pub type OuterJoin<I, J> = JoinedPairs<I, J, <I as Iterator>::Item, <J as Iterator>::Item>;
+
+/// What [`OuterJoin`] stands for: two iterators, and the next pair of each.
+#[derive(Debug, Drop)]
+pub struct JoinedPairs<I, J, X, Y> {
+    lefts: I,
+    rights: J,
+    left: Option<X>,
+    right: Option<Y>,
+}
+
+/// The full outer join of two sources of pairs whose keys rise, as a walk that takes no memory: each key of either source once, in
+/// order, with the left source's value as left place and the right source's as right place. Each source is asked for its first pair
+/// at once, and for one more where its pair is given.
+///
+/// ```
+/// let mut walk = outer_join_lazily([(1, 'a'), (3, 'b')], [(3, 'y')]);
+/// assert_eq!(rt; walk.next(), Some((1, Left('a'))));
+/// assert_eq!(rt; walk.next(), Some((3, Both('b', 'y'))));
+/// assert_eq!(rt; walk.next(), None);
+/// ```
+pub fn outer_join_lazily<K, A, B, U, V>(
+    left: U,
+    right: V,
+) -> JoinedPairs<U::IntoIter, V::IntoIter, (K, A), (K, B)>
+where
+    K: Ord + Drop,
+    A: Drop,
+    B: Drop,
+    U: IntoIterator<Item = (K, A)>,
+    V: IntoIterator<Item = (K, B)>,
+    requires left { (it : U.IntoIter) → U.into_iter_gives left it → U.IntoIter.can_next it }
+    requires right { (it : V.IntoIter) → V.into_iter_gives right it → V.IntoIter.can_next it }
+    ensures can { join_can U.IntoIter.can_next V.IntoIter.can_next result }
+    ensures runs { JoinsRuns K.cmp U.into_iter_gives V.into_iter_gives U.IntoIter.remaining V.IntoIter.remaining U.IntoIter.next_gives V.IntoIter.next_gives left right result }
+{
+    let mut lefts = left.into_iter();
+    let mut rights = right.into_iter();
+    let left = lefts.next();
+    let right = rights.next();
+    JoinedPairs {
+        lefts,
+        rights,
+        left,
+        right,
+    }
+}
+
+impl<K, A, B, I, J> Iterator for JoinedPairs<I, J, (K, A), (K, B)>
+where
+    K: Ord + Drop,
+    A: Drop,
+    B: Drop,
+    I: Iterator<Item = (K, A)>,
+    J: Iterator<Item = (K, B)>,
+{
+    type Item = (K, EitherOrBoth<A, B>);
+
+    ghost can_next = { join_can I.can_next J.can_next };
+
+    ghost next_gives = { join_steps K.cmp I.next_gives J.next_gives };
+
+    ghost remaining = { join_remaining I.remaining J.remaining };
+
+    #[inline(always)]
+    fn next(&mut self) -> Option<Self::Item> {
+        match self.left.take() {
+            Some((key, a)) => match self.right.take() {
+                Some((other, b)) => match key.cmp(&other) {
+                    Ordering::Less => {
+                        self.left = self.lefts.next();
+                        self.right = Some((other, b));
+                        Some((key, EitherOrBoth::Left(a)))
+                    }
+                    Ordering::Equal => {
+                        self.left = self.lefts.next();
+                        self.right = self.rights.next();
+                        Some((key, EitherOrBoth::Both(a, b)))
+                    }
+                    Ordering::Greater => {
+                        self.left = Some((key, a));
+                        self.right = self.rights.next();
+                        Some((other, EitherOrBoth::Right(b)))
+                    }
+                },
+                None => {
+                    self.left = self.lefts.next();
+                    Some((key, EitherOrBoth::Left(a)))
+                }
+            },
+            None => match self.right.take() {
+                Some((key, b)) => {
+                    self.right = self.rights.next();
+                    Some((key, EitherOrBoth::Right(b)))
+                }
+                None => None,
+            },
+        }
+    }
+}
