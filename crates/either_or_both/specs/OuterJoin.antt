@@ -1,5 +1,5 @@
 -- The sides, the steps and the runs of `OuterJoin`.
-use Rattle.std.specs.Prelude.{◌≡◌, ◌≤◌, ◌+◌, true, Option, Some, None, IfSome}
+use Rattle.std.specs.Prelude.{◌≡◌, ℕ, ◌<◌, ◌≤◌, ◌+◌, ◌^◌, true, Option, Some, None, IfSome, SomeIff}
 use Rattle.std.specs.Iterator.{Count, IsFinite, at_most, count_add, count_map}
 use Rattle.std.specs.Iterator.Runs.{Run, SomeRun, EachRunFrom}
 use Rattle.std.specs.Ordering.{MatchOrdering}
@@ -65,3 +65,9 @@ abbrev pub JoinsRuns : {X Y S T K A B : Type 0} → (K → K → Ordering) → (
 JoinsRuns {S = S} {T = T} cmp gives others first second firsts seconds x y z = (s : S) × (t : T) × gives x s × others y t
     × (IsFinite (first s) → IsFinite (second t) → IsFinite (join_remaining first second z))
     × EachRunFrom (join_steps cmp firsts seconds) z (λ p. SomeRun firsts s (λ a. SomeRun seconds t (λ b. IsJoinRun cmp p a b)))
+
+-- the sum of two upper bounds, where both are there and it fits
+abbrev pub IsBoundSum : Option ℕ → Option ℕ → Option ℕ → Type 0
+IsBoundSum None n r = r ≡ None
+IsBoundSum (Some m) None r = r ≡ None
+IsBoundSum (Some m) (Some n) r = SomeIff r (m + n < 2 ^ 64) (m + n)

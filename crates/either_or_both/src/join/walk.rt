@@ -1,7 +1,8 @@
 //! The full outer join of two iterators, item by item.
-ghost use Rattle.std.specs.Prelude.{IfSome};
-ghost use Rattle.std.specs.Iterator.{IsFinite, MakesProgress};
-ghost use Rattle.either_or_both.specs.OuterJoin.{JoinsRuns, join_can, join_remaining, join_steps};
+ghost use Rattle.std.specs.Prelude.{◌≡◌, ◌+◌, ◌-◌, ◌^◌, min, max, IfSome, Some};
+ghost use Rattle.std.specs.Iterator.{UpTo};
+ghost use Rattle.std.specs.Iterator.SizeHint.{IsWithinCount};
+ghost use Rattle.either_or_both.specs.OuterJoin.{IsBoundSum, JoinsRuns, held_remaining, join_can, join_remaining, join_steps};
 
 use crate::EitherOrBoth;
 use std::cmp::Ordering;
@@ -107,4 +108,47 @@ where
             },
         }
     }
+
+    // At least what the longer side has at least, and at most what both sides have at most.
+    fn size_hint(&self) -> (usize, Option<usize>) {
+        join_hint(
+            side_hint(&self.left, &self.lefts),
+            side_hint(&self.right, &self.rights),
+        )
+    }
+}
+
+// The hint of a side: an ended one is not asked.
+fn side_hint<I: Iterator>(held: &Option<I::Item>, rest: &I) -> (usize, Option<usize>)
+    ensures lower { IsWithinCount result.0 (held_remaining held.now (I.remaining rest.now)) }
+    ensures upper { IfSome result.1 (UpTo (held_remaining held.now (I.remaining rest.now))) }
+{
+    match held {
+        Some(_) => hint_with_held(rest.size_hint()),
+        None => (0, Some(0)),
+    }
+}
+
+// The hint of a side that holds an item, from that of its iterator.
+fn hint_with_held(rest: (usize, Option<usize>)) -> (usize, Option<usize>)
+    ensures lower { result.0 ≡ min (rest.0 + 1) (2 ^ 64 - 1) }
+    ensures upper { IsBoundSum rest.1 (Some 1) result.1 }
+{
+    let upper = match rest.1 {
+        Some(upper) => upper.checked_add(1),
+        None => None,
+    };
+    (rest.0.saturating_add(1), upper)
+}
+
+// The hint of a join, from those of its sides.
+fn join_hint(left: (usize, Option<usize>), right: (usize, Option<usize>)) -> (usize, Option<usize>)
+    ensures lower { result.0 ≡ max left.0 right.0 }
+    ensures upper { IsBoundSum left.1 right.1 result.1 }
+{
+    let upper = match (left.1, right.1) {
+        (Some(left), Some(right)) => left.checked_add(right),
+        _ => None,
+    };
+    (left.0.max(right.0), upper)
 }
