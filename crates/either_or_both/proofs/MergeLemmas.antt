@@ -70,6 +70,7 @@ module _ {K : Type 0} (cmp : K → K → Ordering) where
       subst (Contains (keys_of xs)) (get_or-map (λ e. e.0) xs k d) (Contains-get_or (keys_of xs) k d.0 l)
 
   up_after : {V : Type 0} (x : K × V) (xs : List (K × V)) → Rising cmp (x ∷ xs) → Up (λ k. cmp x.0 k ≡ Less) xs
+  unfolding Rising
   up_after x [] up = tt
   up_after x (y ∷ ys) up = (up 0 x (omega arith), up_after y ys (λ k d h. let e : suc k + 1 ≡ suc (k + 1) = omega arith in rw e at (up (suc k) d (omega arith))))
 
@@ -78,6 +79,7 @@ module _ {K : Type 0} (cmp : K → K → Ordering) where
   up (x ∷ xs) h = (tt, up_after x xs h)
 
   pub rising : {V : Type 0} (P : K → Type 0) (xs : List (K × V)) → Up P xs → Rising cmp xs
+  unfolding Rising
   rising P [] h k d b = absurd (omega (arith, b))
   rising P (x ∷ []) h k d b = absurd (omega (arith, b))
   rising P (x ∷ y ∷ ys) h zero d b = h.1.0
@@ -186,6 +188,7 @@ is_Less Greater h = absurd (true≢false h)
 
 -- what the test of each pair of neighbours says of the list
 pub rises_answer : {K V : Type 0} (cmp : K → K → Ordering) (xs : List (K × V)) (r : Bool) → IsAllAdjacentAnswer (λ x y b. b ≡ is_lt (cmp x.0 y.0)) xs r → IsTrue r ↔ Rising cmp xs
+unfolding Rising
 rises_answer cmp xs true h = (λ t k d l. is_Less _ (h k d l), λ up. refl)
 rises_answer cmp [] false h = absurd (omega (arith, h.1))
 rises_answer cmp (x ∷ xs) false h = (λ t. absurd (true≢false (sym t)), λ up. absurd (true≢false (sym (h.2 x ∙ ap is_lt (up h.0 x h.1)))))

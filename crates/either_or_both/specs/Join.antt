@@ -10,7 +10,7 @@ use Rattle.eob_both.specs.Places.{from_places}
 
 module _ {K : Type 0} (cmp : K → K → Ordering) where
   -- each key is less than the next
-  abbrev pub Rising : {V : Type 0} → List (K × V) → Type 0
+  unfoldable pub Rising : {V : Type 0} → List (K × V) → Type 0
   Rising xs = AllAdjacentBelow (λ x y. cmp x.0 y.0 ≡ Less) xs (length xs)
 
   -- the value that a list has under a key, where it has one

@@ -7,6 +7,7 @@ ghost use Rattle.either_or_both.specs.Join.{IsJoin, Rising, SameKeys};
 ghost use Rattle.either_or_both.specs.JoinLaws.{AllBoth};
 
 mod laws;
+mod walk;
 
 use crate::EitherOrBoth;
 pub use laws::{
@@ -15,6 +16,7 @@ pub use laws::{
 use std::alloc::{AllocError, Allocator, Global};
 use std::cmp::Ordering;
 use std::collections::VecDeque;
+pub use walk::{JoinedPairs, OuterJoin, outer_join_lazily};
 
 /// Whether each key is less than the next, as [`outer_join`] asks of both lists. Takes no memory.
 ///

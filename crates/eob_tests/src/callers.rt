@@ -6,6 +6,7 @@ ghost use Rattle.std.specs.Prelude.{◌≡◌, fold};
 pub mod of_containers;
 pub mod of_either;
 pub mod of_either_or_both;
+pub mod of_joins;
 pub mod of_programs;
 pub mod of_values;
 pub mod readme;
