@@ -1,5 +1,7 @@
 -- The sides, the steps and the runs of `OuterJoin`.
-use Rattle.std.specs.Prelude.{◌≡◌, ℕ, ◌<◌, ◌≤◌, ◌+◌, ◌^◌, true, Option, Some, None, IfSome, SomeIff}
+use Rattle.std.specs.Prelude.{◌≡◌, ℕ, ◌<◌, ◌≤◌, ◌+◌, ◌^◌, true, List, length, map, Option, Some, None, IfSome, SomeIff}
+use Rattle.std.specs.Borrow.{Bor}
+use Rattle.std.specs.Slice.Iter.{iter_rest}
 use Rattle.std.specs.Iterator.{Count, IsFinite, at_most, count_add, count_map}
 use Rattle.std.specs.Iterator.Runs.{Run, SomeRun, EachRunFrom}
 use Rattle.std.specs.Ordering.{MatchOrdering}
@@ -7,7 +9,9 @@ use Rattle.std.specs.declared.cmp.Ordering.{Ordering}
 use Rattle.eob_both.specs.declared.either_or_both.EitherOrBoth.{EitherOrBoth}
 use Rattle.eob_both.specs.declared.either_or_both.EitherOrBoth.TheVariants.{Left, Both, Right}
 use Rattle.either_or_both.specs.declared.join.walk.JoinedPairs.{JoinedPairs}
+use Rattle.either_or_both.specs.declared.join.slices.PairRefs.{PairRefs}
 use Rattle.either_or_both.specs.Join.{Rising, IsJoin}
+use Rattle.either_or_both.specs.JoinLaws.{deref_joined}
 
 -- how many items a side has left at most: the one that is held, and those of its iterator; a side that holds none has ended
 abbrev pub held_remaining : {X : Type 0} → Option X → Count → Count
@@ -71,3 +75,12 @@ abbrev pub IsBoundSum : Option ℕ → Option ℕ → Option ℕ → Type 0
 IsBoundSum None n r = r ≡ None
 IsBoundSum (Some m) None r = r ≡ None
 IsBoundSum (Some m) (Some n) r = SomeIff r (m + n < 2 ^ 64) (m + n)
+
+-- the pairs that references are still to come to
+abbrev pub pairs_left : {K V : Type 0} → PairRefs K V → List (K × V)
+pairs_left s = iter_rest s.rest
+
+-- p gave no more items than both lists have, and where it ended at least as many as either; and it showed their join then, where the keys of both rise
+abbrev pub JoinsSlices : {W K A B : Type 0} {steps : W → Option (Bor K × EitherOrBoth (Bor A) (Bor B)) → W → Type 0} → (K → K → Ordering) → List (K × A) → List (K × B) → Run steps → Type 0
+JoinsSlices cmp xs ys p = (p.len ≤ length xs + length ys) × (p.whole ≡ true → length xs ≤ p.len) × (p.whole ≡ true → length ys ≤ p.len)
+    × (p.whole ≡ true → Rising cmp xs → Rising cmp ys → IsJoin cmp xs ys (map deref_joined p.items))
