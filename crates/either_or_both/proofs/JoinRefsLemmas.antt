@@ -1,4 +1,4 @@
--- What the walk over two slices gives, from runs of what it walks over.
+-- What a walk over references gives, from runs of what it walks over.
 use Rattle.std.proofs.Common.{◌≡◌, ◌∙◌, ◌≤◌, true, List, [], ◌∷◌, ◌++◌, length, map, Option, append-nil, arith, sym, ap, subst}
 use Rattle.std.proofs.iter.runs.Made.{took}
 use Rattle.std.proofs.lemmas.List.{length-append, length-map}
@@ -10,7 +10,7 @@ use Rattle.std.specs.declared.cmp.Ordering.{Ordering}
 use Rattle.eob_both.specs.declared.either_or_both.EitherOrBoth.{EitherOrBoth}
 use Rattle.either_or_both.specs.Join.{Rising, IsJoin}
 use Rattle.either_or_both.specs.JoinLaws.{deref_joined}
-use Rattle.either_or_both.specs.OuterJoin.{IsJoinRun, JoinsSlices}
+use Rattle.either_or_both.specs.OuterJoin.{IsJoinRun, IsShownJoinRun, JoinsSlices}
 use Rattle.either_or_both.proofs.RisingLemmas.{shown_rises, shown_join}
 
 module _ {S A X : Type 0} (view : A → X) (rest : S → List X) where
@@ -37,9 +37,19 @@ module _ {S A X : Type 0} (view : A → X) (rest : S → List X) where
       let none : rest h.0 ≡ [] = (h.2 w).1.0 in
       sym (sym (ap rest from) ∙ shown_so_far p.items p.from h.0 h.1 ∙ ap (λ l. map view p.items ++ l) none ∙ append-nil (map view p.items))
 
+module _ {W S T K A B : Type 0} {joins : W → Option (Bor K × EitherOrBoth (Bor A) (Bor B)) → W → Type 0} (cmp : K → K → Ordering) where
+  -- a run of a join of references, read as what they show
+  pub shown_run : {firsts : S → Option (Bor K × Bor A) → S → Type 0} {seconds : T → Option (Bor K × Bor B) → T → Type 0} (p : Run joins) (s : S) (t : T)
+      → SomeRun firsts s (λ a. SomeRun seconds t (λ b. IsJoinRun (λ j k. cmp j.now k.now) p a b)) → SomeRun firsts s (λ a. SomeRun seconds t (λ b. IsShownJoinRun cmp p a b))
+  shown_run p s t h =
+      let a = h.0 in
+      let b = h.2.0 in
+      let is = h.2.2 in
+      (a, h.1, (b, h.2.1, (is.0, is.1, is.2, is.3, λ up_x up_y. shown_join cmp A B a.items b.items p.items (is.4 (shown_rises cmp A a.items up_x) (shown_rises cmp B b.items up_y)))))
+
 module _ {W S T K A B : Type 0} {joins : W → Option (Bor K × EitherOrBoth (Bor A) (Bor B)) → W → Type 0} (cmp : K → K → Ordering) (lefts : S → List (K × A)) (rights : T → List (K × B)) where
   pub slices_join : (p : Run joins) (s : S) (t : T) (xs : List (K × A)) (ys : List (K × B)) → lefts s ≡ xs → rights t ≡ ys
-      → SomeRun (YieldsFirstBy deref_pair lefts) s (λ a. SomeRun (YieldsFirstBy deref_pair rights) t (λ b. IsJoinRun (λ j k. cmp j.now k.now) p a b)) → JoinsSlices cmp xs ys p
+      → SomeRun (YieldsFirstBy deref_pair lefts) s (λ a. SomeRun (YieldsFirstBy deref_pair rights) t (λ b. IsShownJoinRun cmp p a b)) → JoinsSlices cmp xs ys p
   slices_join p s t xs ys l r h =
       let a = h.0 in
       let b = h.2.0 in
@@ -54,8 +64,6 @@ module _ {W S T K A B : Type 0} {joins : W → Option (Bor K × EitherOrBoth (Bo
         (λ w. let e : length a.items ≡ length xs = sym (length-map a.items deref_pair) ∙ ap length (all_a w) in omega (arith, e, a.long, is.0)),
         (λ w. let e : length b.items ≡ length ys = sym (length-map b.items deref_pair) ∙ ap length (all_b w) in omega (arith, e, b.long, is.1)),
         λ w up_x up_y.
-            let up_a = shown_rises cmp A a.items (subst (Rising cmp) (sym (all_a w)) up_x) in
-            let up_b = shown_rises cmp B b.items (subst (Rising cmp) (sym (all_b w)) up_y) in
-            let joined = shown_join cmp A B a.items b.items p.items (is.4 up_a up_b) in
+            let joined = is.4 (subst (Rising cmp) (sym (all_a w)) up_x) (subst (Rising cmp) (sym (all_b w)) up_y) in
             subst (λ k. IsJoin cmp xs k (map deref_joined p.items)) (all_b w) (subst (λ k. IsJoin cmp k (map deref_pair b.items) (map deref_joined p.items)) (all_a w) joined),
       )
