@@ -4,13 +4,20 @@
 //! each shape of container is one call.
 ghost use Rattle.std.specs.Prelude.{◌≡◌, List, IfOk};
 ghost use Rattle.std.specs.Iterator.{Drains, IsFinite};
-ghost use Rattle.eob_both.specs.Places.{map_places};
 ghost use Rattle.eob_both.specs.Sides as both;
-ghost use Rattle.eob_both.specs.Sides.{pair_of};
 ghost use Rattle.either_or_both.specs.Either.{lefts, rights};
 
+mod btree_map;
+mod btree_set;
+mod hash_map;
+mod hash_set;
+mod index_map;
+mod index_set;
+mod vec;
+mod vec_deque;
+
 use crate::{Either, EitherOrBoth};
-use std::alloc::{AllocError, Allocator};
+use std::alloc::AllocError;
 
 // Collects values of `EitherOrBoth` with the same places.
 fn collect_places<L, R, C: FromIterator<EitherOrBoth<L, R>>, U: IntoIterator<Item = Either<L, R>>>(
@@ -24,27 +31,4 @@ fn collect_places<L, R, C: FromIterator<EitherOrBoth<L, R>>, U: IntoIterator<Ite
         × (both.lefts ys ≡ lefts xs) × (both.rights ys ≡ rights xs) × C.from_iter_gives ys v) }
 {
     C::from_iter(alloc, iter.into_iter().map(EitherOrBoth::from))
-}
-
-impl<L: Drop, R: Drop, A: Allocator + Copy> FromIterator<Either<L, R>>
-    for EitherOrBoth<Vec<L, A>, Vec<R, A>> {
-    type Alloc = A;
-
-    ghost from_iter_gives = { λ xs v. map_places (λ l. l.items) (λ r. r.items) v ≡ pair_of (lefts xs) (rights xs) };
-
-    /// Collects the left values into one vector and the right values into another, in order, and answers Both where both
-    /// vectors are empty or neither is, else the one that is not empty. Takes a finite source. `AllocError` where a request for
-    /// memory was refused: then the values that came are dropped, and the source is asked no more.
-    ///
-    /// ```
-    /// let values = [Either::Left(2), Either::Left(1)];
-    /// let pair: EitherOrBoth<Vec<u8>, Vec<char>> = values.into_iter().collect(alloc)?;
-    /// assert_eq!(rt; pair, EitherOrBoth::Left(vec![in alloc; 2, 1]?));
-    /// ```
-    fn from_iter<U: IntoIterator<Item = Either<L, R>>>(
-        alloc: A,
-        iter: U,
-    ) -> Result<Self, AllocError> {
-        collect_places(alloc, iter)
-    }
 }

@@ -7,6 +7,8 @@
 
 mod collect;
 mod either;
+pub mod join;
+pub mod laws;
 
 pub use either::Either;
 pub use eob_both::{EitherOrBoth, TryFromOptionsError, iter};

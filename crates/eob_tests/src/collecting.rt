@@ -134,7 +134,7 @@ fn lists_of_values(rt: HostRuntime) -> Result<(), AllocError> {
 /// The items of a list, with a hint that is true and tells next to nothing: memory for as many items as it allows is never to
 /// be had.
 #[derive(Drop)]
-struct Vague<'a, T>(&'a [T]);
+pub struct Vague<'a, T>(pub &'a [T]);
 
 impl<'a, T: Copy> Iterator for Vague<'a, T> {
     type Item = T;

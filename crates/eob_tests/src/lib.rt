@@ -11,6 +11,8 @@ mod calls;
 #[cfg(test)]
 mod collecting;
 #[cfg(test)]
+mod containers;
+#[cfg(test)]
 mod conversions;
 #[cfg(test)]
 mod counted;
@@ -38,3 +40,5 @@ mod text;
 mod transpositions;
 #[cfg(test)]
 mod unwraps;
+#[cfg(test)]
+mod values;

@@ -1,5 +1,5 @@
 //! Callers of `Either`.
-ghost use Rattle.std.specs.Prelude.{◌≡◌, ◌↔◌, ◌⊎◌, Some, None, Ok, Err, IsSome, IsNone, IsOk, IsErr, IsTrue, IfOk, IfSome, is_some, true, option_map, unwrap_or, ◌+◌, ◌*◌, ◌^◌, ◌<◌, string_bytes, codes, [], ◌∷◌, ◌++◌};
+ghost use Rattle.std.specs.Prelude.{◌≡◌, ◌↔◌, ◌⊎◌, Some, None, Ok, Err, IsSome, IsNone, IsOk, IsErr, IsTrue, IfOk, IfSome, is_some, true, option_map, unwrap_or, ◌+◌, ◌*◌, ◌^◌, ◌<◌, string_bytes, codes, slice_get, [], ◌∷◌, ◌++◌};
 ghost use Rattle.std.specs.Option.{ForSome};
 ghost use Rattle.std.specs.Fmt.{decimal};
 ghost use Rattle.std.specs.declared.cmp.Ordering.TheVariants.{Equal};
@@ -97,9 +97,10 @@ pub fn only_value<T>(v: Either<T, T>) -> T
     v.reduce()
 }
 
-/// The same behind a reference.
+/// A byte that stands alone on the left, or the first of the two on the right, behind a reference.
 pub fn first_byte(v: &Either<u8, [u8; 2]>) -> u8
-    ensures { IfSome (left_place v.now) (λ l. result ≡ l) }
+    ensures left { IfSome (left_place v.now) (λ l. result ≡ l) }
+    ensures right { IfSome (right_place v.now) (λ r. slice_get r 0 ≡ Some result) }
 {
     v.as_ref().bireduce(|l| *l, |r| r[0])
 }
@@ -308,14 +309,6 @@ pub fn collect_list<L: Drop, R: Drop>(
     xs.into_iter().collect(alloc)
 }
 
-/// Results collected into what they gave and what they failed with.
-pub fn sort_results(
-    alloc: Global,
-    xs: Vec<Result<u8, char>>,
-) -> Result<EitherOrBoth<Vec<char>, Vec<u8>>, AllocError> {
-    xs.into_iter().map(Either::from).collect(alloc)
-}
-
 /// Writing to the place, by a match on the value itself: no clause of `as_mut` tells a caller's proof what was written.
 pub fn write_place(v: &mut Either<u8, u8>)
     ensures left { left_place v.new ≡ option_map (λ _. 10) (left_place v.old) }
@@ -325,4 +318,24 @@ pub fn write_place(v: &mut Either<u8, u8>)
         Either::Left(l) => *l = 10,
         Either::Right(r) => *r = 20,
     }
+}
+
+/// Writing to the left place through a reference: what was written is there, and a right value is as it was.
+pub fn write_left(v: &mut Either<u8, char>, new: u8)
+    ensures left { left_place v.new ≡ option_map (λ _. new) (left_place v.old) }
+    ensures right { right_place v.new ≡ right_place v.old }
+{
+    if let Some(l) = v.left_mut() {
+        *l = new;
+    }
+}
+
+/// The same on the right, through the `&mut` of a caller, in a function that gives up where there is no right value.
+pub fn write_right(v: &mut Either<u8, char>, new: char) -> Option<()>
+    ensures left { left_place v.new ≡ left_place v.old }
+    ensures right { right_place v.new ≡ option_map (λ _. new) (right_place v.old) }
+{
+    let r = v.right_mut()?;
+    *r = new;
+    Some(())
 }

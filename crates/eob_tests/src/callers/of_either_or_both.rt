@@ -201,7 +201,7 @@ pub fn cloned_back(v: &EitherOrBoth<u8, char>) -> Result<EitherOrBoth<u8, char>,
     v.as_ref().cloned()
 }
 
-/// Clones of texts behind references.
+/// A clone of a value that holds a text has a text with the same bytes.
 pub fn cloned_texts(
     v: &EitherOrBoth<String, char>,
 ) -> Result<EitherOrBoth<String, char>, AllocError>
@@ -654,7 +654,7 @@ pub fn looked_at_both(v: EitherOrBoth<u8, char>) -> EitherOrBoth<u8, char>
     v.biinspect(|_l: &u8| (), |_r: &char| ())
 }
 
-/// The text that a box holds.
+/// The number in a box on the left, or 0.
 pub fn boxed_left(v: &EitherOrBoth<Box<u8>, Box<u8>>) -> u8
     ensures { result ≡ unwrap_or (option_map (λ b. b.value) (left_place v.now)) 0 }
 {
@@ -684,4 +684,37 @@ pub fn listed_values<T: Drop>(alloc: Global, v: EitherOrBoth<T, T>) -> Result<Ve
     ensures { IfOk result (λ xs. xs.items ≡ values_of v) }
 {
     v.into_iter().collect(alloc)
+}
+
+/// Clones of numbers behind references are the numbers, and come.
+pub fn clones_of_references_come(
+    v: &EitherOrBoth<u8, char>,
+) -> Result<EitherOrBoth<u8, char>, AllocError>
+    ensures comes { IsOk result }
+    ensures same { IfOk result (λ c. c ≡ v.now) }
+{
+    v.as_ref().cloned()
+}
+
+/// Writing to the left place through a reference: what was written is there, and the right place is as it was.
+pub fn write_left<R>(v: &mut EitherOrBoth<u8, R>, new: u8)
+    ensures left { left_place v.new ≡ option_map (λ _. new) (left_place v.old) }
+    ensures right { right_place v.new ≡ right_place v.old }
+{
+    if let Some(l) = v.left_mut() {
+        *l = new;
+    }
+}
+
+/// Both places are written, one after the other.
+pub fn write_in_turn(v: &mut EitherOrBoth<u8, char>)
+    ensures left { left_place v.new ≡ option_map (λ _. 7) (left_place v.old) }
+    ensures right { right_place v.new ≡ option_map (λ _. 100) (right_place v.old) }
+{
+    if let Some(l) = v.left_mut() {
+        *l = 7;
+    }
+    if let Some(r) = v.right_mut() {
+        *r = 'd';
+    }
 }

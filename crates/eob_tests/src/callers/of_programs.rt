@@ -3,11 +3,14 @@ ghost use Rattle.std.specs.Prelude.{◌≡◌, ◌↔◌, Some, None, Ok, Err, I
 ghost use Rattle.std.specs.Option.{ForSome};
 ghost use Rattle.std.specs.Ordering.{nat_cmp};
 ghost use Rattle.std.specs.BTreeMap.{get};
+ghost use Rattle.std.specs.List.{filter_map};
 ghost use Rattle.std.specs.List.Sorted.{IsSorted};
-ghost use Rattle.either_or_both.specs.Places.{left_place, right_place, MapsPlace, MatchPlaces};
+ghost use Rattle.std.specs.Result.{result_ok, result_err};
+ghost use Rattle.either_or_both.specs.Places.{left_place, right_place, map_places, MapsPlace, MatchPlaces};
 ghost use Rattle.either_or_both.specs.Order.{places_cmp};
-ghost use Rattle.either_or_both.specs.Sides.{lefts, rights};
+ghost use Rattle.either_or_both.specs.Sides.{lefts, rights, pair_of};
 
+use either_or_both::laws::law_results;
 use either_or_both::{Either, EitherOrBoth, TryFromOptionsError};
 use std::alloc::{AllocError, AllocFailed, Global};
 use std::collections::BTreeMap;
@@ -155,11 +158,14 @@ pub fn sum_lefts(list: &[EitherOrBoth<u8, char>]) -> u32 {
     sum
 }
 
-/// Results parted into what they gave and what they failed with.
-pub fn part(
+/// Results parted: on the left exactly the errors, on the right exactly the successes, each in order.
+pub fn part<T: Drop, E: Drop>(
     alloc: Global,
-    results: Vec<Result<u8, char>>,
-) -> Result<EitherOrBoth<Vec<char>, Vec<u8>>, AllocError> {
+    results: Vec<Result<T, E>>,
+) -> Result<EitherOrBoth<Vec<E>, Vec<T>>, AllocError>
+    ensures { IfOk result (λ v. map_places (λ l. l.items) (λ r. r.items) v ≡ pair_of (filter_map result_err results.items) (filter_map result_ok results.items)) }
+{
+    law_results(&results);
     results.into_iter().map(Either::from).collect(alloc)
 }
 
@@ -177,7 +183,7 @@ pub fn part_lists(
     ))
 }
 
-/// Left values of a list of results, each by its own error.
+/// The left number, or the right one where there is no left; where a result is an error, an error.
 pub fn all_good(v: EitherOrBoth<Result<u8, char>, Result<u8, char>>) -> Result<u16, char>
     ensures { IsOk result → ((e : _) → left_place v ≡ Some (Err e) → ⊥) }
 {

@@ -1,0 +1,15 @@
+use Rattle.std.proofs.Common.{refl}
+use Rattle.either_or_both.proofs.either.references.Either+mut+L+mut+R.cloned.Goals as goal
+
+-- on each arm the reference ends as it came
+pub returns-in_err-clone-in-Left-clause-kept : goal.returns-in_err-clone-in-Left-clause-kept
+returns-in_err-clone-in-Left-clause-kept g c = rw c.in-Left.is refl
+
+pub returns-in_err-clone-in-Right-clause-kept : goal.returns-in_err-clone-in-Right-clause-kept
+returns-in_err-clone-in-Right-clause-kept g c = rw c.in-Right.is refl
+
+pub returns-in_ok-clone-in-Left-clause-kept : goal.returns-in_ok-clone-in-Left-clause-kept
+returns-in_ok-clone-in-Left-clause-kept g c = rw c.in-Left.is refl
+
+pub returns-in_ok-clone-in-Right-clause-kept : goal.returns-in_ok-clone-in-Right-clause-kept
+returns-in_ok-clone-in-Right-clause-kept g c = rw c.in-Right.is refl

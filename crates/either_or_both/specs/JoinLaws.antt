@@ -1,0 +1,56 @@
+-- What follows for every full outer join of two lists whose keys rise.
+use Rattle.std.specs.Prelude.{◌≡◌, ℕ, ◌+◌, IsSome, List, length, map, All, count_by, is_some}
+use Rattle.std.specs.List.{AllZip}
+use Rattle.std.specs.Map.{values_of}
+use Rattle.std.specs.declared.cmp.Ordering.{Ordering}
+use Rattle.std.specs.declared.cmp.Ordering.TheVariants.{Equal}
+use Rattle.eob_both.specs.declared.either_or_both.EitherOrBoth.{EitherOrBoth}
+use Rattle.eob_both.specs.declared.either_or_both.EitherOrBoth.TheVariants.{Left, Both, Right}
+use Rattle.eob_both.specs.Places.{left_place, right_place}
+use Rattle.eob_both.specs.Sides.{lefts, rights}
+use Rattle.either_or_both.specs.Join.{Rising, SameKeys, IsJoin, value_under}
+
+-- the places in the other order
+abbrev pub flipped : {L R : Type 0} → EitherOrBoth L R → EitherOrBoth R L
+flipped (Left l) = Right l
+flipped (Both l r) = Both r l
+flipped (Right r) = Left r
+
+-- both places of each value are present
+abbrev pub AllBoth : {K A B : Type 0} → List (K × EitherOrBoth A B) → Type 0
+AllBoth zs = All (λ z. IsSome (left_place z.1) × IsSome (right_place z.1)) zs
+
+module _ {K : Type 0} (cmp : K → K → Ordering) where
+  -- how many keys of p are keys of q too
+  abbrev pub shared_keys : {A B : Type 0} → List (K × A) → List (K × B) → ℕ
+  shared_keys p q = count_by (λ x. is_some (value_under cmp q x.0)) p
+
+  module _ (A B : Type 0) where
+    -- two joins of the same lists have equal keys and the same values, place by place
+    abbrev pub OneJoinLaw : Type 0
+    OneJoinLaw = (p : List (K × A)) (q : List (K × B)) (ys zs : List (K × EitherOrBoth A B)) → IsJoin cmp p q ys → IsJoin cmp p q zs
+        → AllZip (λ y z. (cmp y.0 z.0 ≡ Equal) × (y.1 ≡ z.1)) ys zs
+
+    -- each value of a join has as its places what the two lists have under its key
+    abbrev pub JoinPlacesLaw : Type 0
+    JoinPlacesLaw = (p : List (K × A)) (q : List (K × B)) (zs : List (K × EitherOrBoth A B)) → IsJoin cmp p q zs
+        → All (λ z. (left_place z.1 ≡ value_under cmp p z.0) × (right_place z.1 ≡ value_under cmp q z.0)) zs
+
+    -- the left values of a join are the left list's, in order, and its right values are the right list's
+    abbrev pub JoinSidesLaw : Type 0
+    JoinSidesLaw = (p : List (K × A)) (q : List (K × B)) (zs : List (K × EitherOrBoth A B)) → Rising cmp p → Rising cmp q → IsJoin cmp p q zs
+        → (lefts (values_of zs) ≡ values_of p) × (rights (values_of zs) ≡ values_of q)
+
+    -- a join is as long as both lists together, less the keys that they share
+    abbrev pub JoinLengthLaw : Type 0
+    JoinLengthLaw = (p : List (K × A)) (q : List (K × B)) (zs : List (K × EitherOrBoth A B)) → Rising cmp p → Rising cmp q → IsJoin cmp p q zs
+        → length zs + shared_keys p q ≡ length p + length q
+
+    -- the join of the two lists in the other order has the same keys, and each value flipped
+    abbrev pub JoinFlipLaw : Type 0
+    JoinFlipLaw = (p : List (K × A)) (q : List (K × B)) (zs : List (K × EitherOrBoth A B)) → IsJoin cmp p q zs
+        → IsJoin cmp q p (map (λ z. (z.0, flipped z.1)) zs)
+
+    -- where the two lists have the same keys, each value of a join is Both
+    abbrev pub JoinBothLaw : Type 0
+    JoinBothLaw = (p : List (K × A)) (q : List (K × B)) (zs : List (K × EitherOrBoth A B)) → SameKeys cmp p q → IsJoin cmp p q zs → AllBoth zs

@@ -1,0 +1,73 @@
+-- The sides, the steps and the runs of `OuterJoin`.
+use Rattle.std.specs.Prelude.{◌≡◌, ℕ, ◌<◌, ◌≤◌, ◌+◌, ◌^◌, true, Option, Some, None, IfSome, SomeIff}
+use Rattle.std.specs.Iterator.{Count, IsFinite, at_most, count_add, count_map}
+use Rattle.std.specs.Iterator.Runs.{Run, SomeRun, EachRunFrom}
+use Rattle.std.specs.Ordering.{MatchOrdering}
+use Rattle.std.specs.declared.cmp.Ordering.{Ordering}
+use Rattle.eob_both.specs.declared.either_or_both.EitherOrBoth.{EitherOrBoth}
+use Rattle.eob_both.specs.declared.either_or_both.EitherOrBoth.TheVariants.{Left, Both, Right}
+use Rattle.either_or_both.specs.declared.join.walk.JoinedPairs.{JoinedPairs}
+use Rattle.either_or_both.specs.Join.{Rising, IsJoin}
+
+-- how many items a side has left at most: the one that is held, and those of its iterator; a side that holds none has ended
+abbrev pub held_remaining : {X : Type 0} → Option X → Count → Count
+held_remaining None c = at_most 0
+held_remaining (Some x) c = count_map (λ n. n + 1) c
+
+module _ {I J K A B : Type 0} where
+  -- a side that holds an item may be asked for the next one
+  abbrev pub join_can : (I → Type 0) → (J → Type 0) → JoinedPairs I J (K × A) (K × B) → Type 0
+  join_can first second s = IfSome s.left (λ _. first s.lefts) × IfSome s.right (λ _. second s.rights)
+
+  -- the items of both sides
+  abbrev pub join_remaining : (I → Count) → (J → Count) → JoinedPairs I J (K × A) (K × B) → Count
+  join_remaining first second s = count_add (held_remaining s.left (first s.lefts)) (held_remaining s.right (second s.rights))
+
+  module _ (cmp : K → K → Ordering) (firsts : I → Option (K × A) → I → Type 0) (seconds : J → Option (K × B) → J → Type 0) where
+    -- a side takes the next item of its iterator
+    abbrev pub TakesLeft : JoinedPairs I J (K × A) (K × B) → JoinedPairs I J (K × A) (K × B) → Type 0
+    TakesLeft s t = firsts s.lefts t.left t.lefts
+
+    abbrev pub TakesRight : JoinedPairs I J (K × A) (K × B) → JoinedPairs I J (K × A) (K × B) → Type 0
+    TakesRight s t = seconds s.rights t.right t.rights
+
+    -- a side stays as it is
+    abbrev pub KeepsLeft : JoinedPairs I J (K × A) (K × B) → JoinedPairs I J (K × A) (K × B) → Type 0
+    KeepsLeft s t = (t.left ≡ s.left) × (t.lefts ≡ s.lefts)
+
+    abbrev pub KeepsRight : JoinedPairs I J (K × A) (K × B) → JoinedPairs I J (K × A) (K × B) → Type 0
+    KeepsRight s t = (t.right ≡ s.right) × (t.rights ≡ s.rights)
+
+    -- what a call gives and leaves, by the items that the two sides hold
+    abbrev pub StepsFrom : Option (K × A) → Option (K × B) → JoinedPairs I J (K × A) (K × B) → Option (K × EitherOrBoth A B) → JoinedPairs I J (K × A) (K × B) → Type 0
+    StepsFrom None None s r t = (r ≡ None) × KeepsLeft s t × KeepsRight s t
+    StepsFrom (Some x) None s r t = (r ≡ Some (x.0, Left x.1)) × TakesLeft s t × KeepsRight s t
+    StepsFrom None (Some y) s r t = (r ≡ Some (y.0, Right y.1)) × KeepsLeft s t × TakesRight s t
+    StepsFrom (Some x) (Some y) s r t =
+        MatchOrdering (cmp x.0 y.0)
+        ((r ≡ Some (x.0, Left x.1)) × TakesLeft s t × KeepsRight s t)
+        ((r ≡ Some (x.0, Both x.1 y.1)) × TakesLeft s t × TakesRight s t)
+        ((r ≡ Some (y.0, Right y.1)) × KeepsLeft s t × TakesRight s t)
+
+    -- a call of `next`
+    abbrev pub join_steps : JoinedPairs I J (K × A) (K × B) → Option (K × EitherOrBoth A B) → JoinedPairs I J (K × A) (K × B) → Type 0
+    join_steps s r t = StepsFrom s.left s.right s r t
+
+-- p gave the items of a and of b: their join, where the keys of both rise; and where it ended both had ended
+abbrev pub IsJoinRun : {W S T K A B : Type 0} {steps : W → Option (K × EitherOrBoth A B) → W → Type 0} {firsts : S → Option (K × A) → S → Type 0} {seconds : T → Option (K × B) → T → Type 0}
+    → (K → K → Ordering) → Run steps → Run firsts → Run seconds → Type 0
+IsJoinRun cmp p a b = (a.len ≤ p.len) × (b.len ≤ p.len) × (p.len ≤ a.len + b.len) × (p.whole ≡ true → (a.whole ≡ true) × (b.whole ≡ true))
+    × (Rising cmp a.items → Rising cmp b.items → IsJoin cmp a.items b.items p.items)
+
+-- z is the walk over what x and y were made into: it may be called, it ends where those end, and behind each run of it stand runs of those
+abbrev pub JoinsRuns : {X Y S T K A B : Type 0} → (K → K → Ordering) → (X → S → Type 0) → (Y → T → Type 0) → (S → Count) → (T → Count)
+    → (S → Option (K × A) → S → Type 0) → (T → Option (K × B) → T → Type 0) → X → Y → JoinedPairs S T (K × A) (K × B) → Type 0
+JoinsRuns {S = S} {T = T} cmp gives others first second firsts seconds x y z = (s : S) × (t : T) × gives x s × others y t
+    × (IsFinite (first s) → IsFinite (second t) → IsFinite (join_remaining first second z))
+    × EachRunFrom (join_steps cmp firsts seconds) z (λ p. SomeRun firsts s (λ a. SomeRun seconds t (λ b. IsJoinRun cmp p a b)))
+
+-- the sum of two upper bounds, where both are there and it fits
+abbrev pub IsBoundSum : Option ℕ → Option ℕ → Option ℕ → Type 0
+IsBoundSum None n r = r ≡ None
+IsBoundSum (Some m) None r = r ≡ None
+IsBoundSum (Some m) (Some n) r = SomeIff r (m + n < 2 ^ 64) (m + n)

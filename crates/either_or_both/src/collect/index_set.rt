@@ -1,0 +1,32 @@
+//! A set whose values stand in the order in which they came first.
+ghost use Rattle.eob_both.specs.Collector.{Collects};
+ghost use Rattle.eob_both.specs.Contents.{AreFirstItems};
+ghost use Rattle.either_or_both.specs.Either.{lefts, rights};
+
+use super::collect_places;
+use crate::{Either, EitherOrBoth};
+use indexmap::IndexSet;
+use std::alloc::{AllocError, Allocator};
+use std::hash::{BuildHasher, Hash};
+
+impl<
+    K1: Hash + Eq + Drop,
+    S1: BuildHasher + Default + Drop,
+    K2: Hash + Eq + Drop,
+    S2: BuildHasher + Default + Drop,
+    A: Allocator + Copy,
+> FromIterator<Either<K1, K2>> for EitherOrBoth<IndexSet<K1, S1, A>, IndexSet<K2, S2, A>> {
+    type Alloc = A;
+
+    ghost from_iter_gives = { λ xs v. Collects (λ l. l.keys) (λ r. r.keys) (AreFirstItems K1.eq) (AreFirstItems K2.eq) (lefts xs) (rights xs) v };
+
+    /// Collects the left values into one set and the right values into another, where a value stands as it came first. The answer
+    /// is Both where both sets are empty or neither is, else the one that is not empty. Takes a finite source. `AllocError` where a
+    /// request for memory was refused: then the values that came are dropped, and the source is asked no more.
+    fn from_iter<U: IntoIterator<Item = Either<K1, K2>>>(
+        alloc: A,
+        iter: U,
+    ) -> Result<Self, AllocError> {
+        collect_places(alloc, iter)
+    }
+}

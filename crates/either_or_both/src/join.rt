@@ -1,0 +1,100 @@
+//! The full outer join by key of two lists of keyed pairs whose keys rise: at once here, item by item in [`OuterJoin`].
+//!
+//! Each key of either list stands once in the join, in order, with the values that the two lists have under it. What follows of
+//! every join stands in the functions `law_join_*`, which do nothing.
+ghost use Rattle.std.specs.Prelude.{IfOk, IsTrue, ◌↔◌};
+ghost use Rattle.either_or_both.specs.Join.{IsJoin, Rising, SameKeys};
+ghost use Rattle.either_or_both.specs.JoinLaws.{AllBoth};
+
+mod laws;
+mod walk;
+
+use crate::EitherOrBoth;
+pub use laws::{
+    law_join_both, law_join_flip, law_join_length, law_join_places, law_join_sides, law_one_join,
+};
+use std::alloc::{AllocError, Allocator, Global};
+use std::cmp::Ordering;
+use std::collections::VecDeque;
+pub use walk::{JoinedPairs, OuterJoin, outer_join_lazily};
+
+/// Whether each key is less than the next, as [`outer_join`] asks of both lists. Takes no memory.
+///
+/// ```
+/// assert!(rt; is_rising(&[(1, 'a'), (2, 'b')]));
+/// assert!(rt; !is_rising(&[(1, 'a'), (1, 'b')]));
+/// ```
+pub fn is_rising<K: Ord, V>(list: &[(K, V)]) -> bool
+    ensures { IsTrue result ↔ Rising K.cmp list.now }
+{
+    list.is_sorted_by(|pair, next| pair.0.cmp(&next.0).is_lt())
+}
+
+/// The full outer join of two lists whose keys rise: each key of either list once, in order, with the left list's value as left
+/// place and the right list's as right place. That the keys rise is asked and not tested. `AllocError` where a request for memory
+/// was refused: then both lists are dropped.
+///
+/// ```
+/// let left = vec![in alloc; (1, 'a'), (3, 'b')]?;
+/// let right = vec![in alloc; (2, 'x'), (3, 'y')]?;
+/// let joined = outer_join(alloc, left, right)?;
+/// assert_eq!(rt; joined, [(1, Left('a')), (2, Right('x')), (3, Both('b', 'y'))]);
+/// ```
+pub fn outer_join<K: Ord + Drop, A: Drop, B: Drop>(
+    alloc: Global,
+    left: Vec<(K, A)>,
+    right: Vec<(K, B)>,
+) -> Result<Vec<(K, EitherOrBoth<A, B>)>, AllocError>
+    requires left { Rising K.cmp left.items }
+    requires right { Rising K.cmp right.items }
+    ensures join { IfOk result (λ joined. IsJoin K.cmp left.items right.items joined.items) }
+    ensures both { SameKeys K.cmp left.items right.items → IfOk result (λ joined. AllBoth joined.items) }
+{
+    join_lists(alloc, left, right)
+}
+
+// The join, with memory of any allocator. As queues the lists take no more memory, and give their first pairs one by one.
+fn join_lists<K: Ord + Drop, A: Drop, B: Drop, M: Allocator>(
+    alloc: M,
+    left: Vec<(K, A), M>,
+    right: Vec<(K, B), M>,
+) -> Result<Vec<(K, EitherOrBoth<A, B>), M>, AllocError>
+    requires left { Rising K.cmp left.items }
+    requires right { Rising K.cmp right.items }
+    ensures { IfOk result (λ joined. IsJoin K.cmp left.items right.items joined.items) }
+{
+    let mut joined = Vec::new(alloc);
+    let mut left = VecDeque::from_vec(left);
+    let mut right = VecDeque::from_vec(right);
+    'join: loop {
+        match left.front() {
+            Some(l) => match right.front() {
+                Some(r) => match l.0.cmp(&r.0) {
+                    Ordering::Less => match left.pop_front() {
+                        Some((key, a)) => joined.push((key, EitherOrBoth::Left(a)))?,
+                        None => unreachable!(),
+                    },
+                    Ordering::Equal => match left.pop_front() {
+                        Some((key, a)) => match right.pop_front() {
+                            Some((_other, b)) => joined.push((key, EitherOrBoth::Both(a, b)))?,
+                            None => unreachable!(),
+                        },
+                        None => unreachable!(),
+                    },
+                    Ordering::Greater => match right.pop_front() {
+                        Some((other, b)) => joined.push((other, EitherOrBoth::Right(b)))?,
+                        None => unreachable!(),
+                    },
+                },
+                None => match left.pop_front() {
+                    Some((key, a)) => joined.push((key, EitherOrBoth::Left(a)))?,
+                    None => unreachable!(),
+                },
+            },
+            None => match right.pop_front() {
+                Some((key, b)) => joined.push((key, EitherOrBoth::Right(b)))?,
+                None => return Ok(joined),
+            },
+        }
+    }
+}

@@ -1,0 +1,32 @@
+//! What follows for every full outer join, as contracts of functions that do nothing.
+ghost use Rattle.either_or_both.specs.JoinLaws.{JoinBothLaw, JoinFlipLaw, JoinLengthLaw, JoinPlacesLaw, JoinSidesLaw, OneJoinLaw};
+
+/// Two joins of the same lists have equal keys and the same values, place by place.
+pub fn law_one_join<K: Ord, A, B>()
+    ensures { OneJoinLaw K.cmp A B }
+{}
+
+/// Each value of a join has as its places what the two lists have under its key.
+pub fn law_join_places<K: Ord, A, B>()
+    ensures { JoinPlacesLaw K.cmp A B }
+{}
+
+/// The left values of a join are the left list's, in order, and its right values are the right list's.
+pub fn law_join_sides<K: Ord, A, B>()
+    ensures { JoinSidesLaw K.cmp A B }
+{}
+
+/// A join is as long as both lists together, less the keys that they share.
+pub fn law_join_length<K: Ord, A, B>()
+    ensures { JoinLengthLaw K.cmp A B }
+{}
+
+/// The join of the lists in the other order has the same keys, and each value flipped.
+pub fn law_join_flip<K: Ord, A, B>()
+    ensures { JoinFlipLaw K.cmp A B }
+{}
+
+/// Where the two lists have the same keys, each value of a join is Both.
+pub fn law_join_both<K: Ord, A, B>()
+    ensures { JoinBothLaw K.cmp A B }
+{}

@@ -1,0 +1,51 @@
+//! A map in the order of its keys, each of which has the value of its last place.
+ghost use Rattle.eob_both.specs.Collector.{Collects};
+ghost use Rattle.eob_both.specs.Contents.{IsRisingMap};
+ghost use Rattle.eob_both.specs.Sides.{lefts, rights};
+
+use super::collect_sides;
+use super::collector::Collector;
+use crate::EitherOrBoth;
+use std::alloc::{AllocError, Allocator};
+use std::collections::BTreeMap;
+
+impl<K: Ord + Drop, V: Drop, A: Allocator + Copy> Collector<A> for BTreeMap<K, V, A> {
+    type Value = (K, V);
+
+    ghost contents = { λ m. m.entries };
+
+    ghost holds = { IsRisingMap K.cmp };
+
+    fn empty(alloc: A) -> Self {
+        BTreeMap::new(alloc)
+    }
+
+    #[inline(always)]
+    fn put(&mut self, value: (K, V)) -> Result<(), AllocError> {
+        let (key, value) = value;
+        self.insert(key, value)?;
+        Ok(())
+    }
+
+    fn holds_none(&self) -> bool {
+        self.is_empty()
+    }
+}
+
+impl<K1: Ord + Drop, V1: Drop, K2: Ord + Drop, V2: Drop, A: Allocator + Copy> FromIterator<
+    EitherOrBoth<(K1, V1), (K2, V2)>,
+> for EitherOrBoth<BTreeMap<K1, V1, A>, BTreeMap<K2, V2, A>> {
+    type Alloc = A;
+
+    ghost from_iter_gives = { λ xs v. Collects (λ l. l.entries) (λ r. r.entries) (IsRisingMap K1.cmp) (IsRisingMap K2.cmp) (lefts xs) (rights xs) v };
+
+    /// Collects the left entries into one map and the right entries into another, where a key has the value of its last place. The
+    /// answer is Both where both maps are empty or neither is, else the one that is not empty. Takes a finite source. `AllocError`
+    /// where a request for memory was refused: then the values that came are dropped, and the source is asked no more.
+    fn from_iter<U: IntoIterator<Item = EitherOrBoth<(K1, V1), (K2, V2)>>>(
+        alloc: A,
+        iter: U,
+    ) -> Result<Self, AllocError> {
+        collect_sides(alloc, iter)
+    }
+}

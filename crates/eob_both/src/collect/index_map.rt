@@ -1,0 +1,70 @@
+//! A map whose keys stand in the order in which they came first, each with the value of its last place.
+ghost use Rattle.eob_both.specs.Collector.{Collects};
+ghost use Rattle.eob_both.specs.Contents.{IsFirstList};
+ghost use Rattle.eob_both.specs.Sides.{lefts, rights};
+
+use super::collect_sides;
+use super::collector::Collector;
+use crate::EitherOrBoth;
+use indexmap::IndexMap;
+use std::alloc::{AllocError, Allocator};
+use std::hash::{BuildHasher, Hash};
+
+impl<K: Hash + Eq + Drop, V: Drop, S: BuildHasher + Default + Drop, A: Allocator + Copy> Collector<
+    A,
+> for IndexMap<K, V, S, A> {
+    type Value = (K, V);
+
+    ghost contents = { λ m. m.entries };
+
+    ghost holds = { IsFirstList K.eq };
+
+    fn empty(alloc: A) -> Self {
+        IndexMap::with_hasher(alloc, S::default())
+    }
+
+    #[inline(always)]
+    fn put(&mut self, value: (K, V)) -> Result<(), AllocError> {
+        let (key, value) = value;
+        self.insert(key, value)?;
+        Ok(())
+    }
+
+    fn holds_none(&self) -> bool {
+        self.is_empty()
+    }
+}
+
+impl<
+    K1: Hash + Eq + Drop,
+    V1: Drop,
+    S1: BuildHasher + Default + Drop,
+    K2: Hash + Eq + Drop,
+    V2: Drop,
+    S2: BuildHasher + Default + Drop,
+    A: Allocator + Copy,
+> FromIterator<EitherOrBoth<(K1, V1), (K2, V2)>>
+    for EitherOrBoth<IndexMap<K1, V1, S1, A>, IndexMap<K2, V2, S2, A>> {
+    type Alloc = A;
+
+    ghost from_iter_gives = { λ xs v. Collects (λ l. l.entries) (λ r. r.entries) (IsFirstList K1.eq) (IsFirstList K2.eq) (lefts xs) (rights xs) v };
+
+    /// Collects the left entries into one map and the right entries into another, where a key stands as it came first, with the
+    /// value of its last place. The answer is Both where both maps are empty or neither is, else the one that is not empty. Takes a
+    /// finite source. `AllocError` where a request for memory was refused: then the values that came are dropped, and the source is
+    /// asked no more.
+    ///
+    /// ```
+    /// let entries = [EitherOrBoth::Left(("a", 1)), EitherOrBoth::Both(("b", 2), ("z", 'z')), EitherOrBoth::Left(("a", 3))];
+    /// let pair: EitherOrBoth<IndexMap<&str, u8>, IndexMap<&str, char>> = entries.into_iter().collect(alloc)?;
+    /// let (left, right) = pair.both().unwrap();
+    /// assert_eq!(rt; (left.get_index(0), left.get_index(1)), (Some((&"a", &3)), Some((&"b", &2))));
+    /// assert_eq!(rt; right.get_index(0), Some((&"z", &'z')));
+    /// ```
+    fn from_iter<U: IntoIterator<Item = EitherOrBoth<(K1, V1), (K2, V2)>>>(
+        alloc: A,
+        iter: U,
+    ) -> Result<Self, AllocError> {
+        collect_sides(alloc, iter)
+    }
+}

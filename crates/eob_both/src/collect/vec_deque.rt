@@ -1,0 +1,49 @@
+//! A queue with two ends, which holds the values in the order in which they came.
+ghost use Rattle.std.specs.Prelude.{◌≡◌};
+ghost use Rattle.eob_both.specs.Places.{map_places};
+ghost use Rattle.eob_both.specs.Sides.{collected};
+
+use super::collect_sides;
+use super::collector::Collector;
+use crate::EitherOrBoth;
+use std::alloc::{AllocError, Allocator};
+use std::collections::VecDeque;
+
+impl<T: Drop, A: Allocator + Copy> Collector<A> for VecDeque<T, A> {
+    type Value = T;
+
+    ghost contents = { λ v. v.items };
+
+    ghost holds = { λ xs held. held ≡ xs };
+
+    fn empty(alloc: A) -> Self {
+        VecDeque::new(alloc)
+    }
+
+    #[inline(always)]
+    fn put(&mut self, value: T) -> Result<(), AllocError> {
+        self.push_back(value)?;
+        Ok(())
+    }
+
+    fn holds_none(&self) -> bool {
+        self.is_empty()
+    }
+}
+
+impl<L: Drop, R: Drop, A: Allocator + Copy> FromIterator<EitherOrBoth<L, R>>
+    for EitherOrBoth<VecDeque<L, A>, VecDeque<R, A>> {
+    type Alloc = A;
+
+    ghost from_iter_gives = { λ xs v. map_places (λ l. l.items) (λ r. r.items) v ≡ collected xs };
+
+    /// Collects the left values into one queue and the right values into another, in order, and answers Both where both
+    /// queues are empty or neither is, else the one that is not empty. Takes a finite source. `AllocError` where a request for
+    /// memory was refused: then the values that came are dropped, and the source is asked no more.
+    fn from_iter<U: IntoIterator<Item = EitherOrBoth<L, R>>>(
+        alloc: A,
+        iter: U,
+    ) -> Result<Self, AllocError> {
+        collect_sides(alloc, iter)
+    }
+}
