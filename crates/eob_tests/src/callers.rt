@@ -1,6 +1,6 @@
 //! Small callers that are proved from the contracts of `either_or_both` alone, with no proof of their own: laws that join several
 //! calls, and uses as a program makes them. A module for each enum, one for collected containers, one for uses inside other types,
-//! and one for the README's example.
+//! one for streams, and one for the README's example.
 ghost use Rattle.std.specs.Prelude.{◌≡◌, fold};
 
 pub mod of_containers;
@@ -8,6 +8,7 @@ pub mod of_either;
 pub mod of_either_or_both;
 pub mod of_joins;
 pub mod of_programs;
+pub mod of_streams;
 pub mod of_values;
 pub mod readme;
 

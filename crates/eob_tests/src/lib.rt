@@ -33,6 +33,8 @@ mod references;
 #[cfg(test)]
 mod serialized;
 #[cfg(test)]
+mod streams;
+#[cfg(test)]
 mod text;
 #[cfg(test)]
 mod transpositions;

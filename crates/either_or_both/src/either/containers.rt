@@ -1,8 +1,6 @@
 //! An [`Either`] of growing containers as a container, and an [`Either`] of pointers as a pointer.
 //!
 //! Each call acts on the held side alone and keeps the variant.
-ghost use Rattle.std.specs.Prelude.{◌≡◌, is_some};
-ghost use Rattle.either_or_both.specs.Either.{left_place};
 ghost use Rattle.either_or_both.specs.EitherStreams.{HoldsOfHeld, HeldBecomes};
 
 use crate::Either;
