@@ -4,7 +4,13 @@
 //!
 //! `next_gives` and `next_back_gives` of the walks say what a call asks of which side. What this means for the lists that the
 //! sides have still to come stands here, since a further clause on `next` would be read by every loop over a walk.
-ghost use Rattle.std.specs.Prelude.{List};
+ghost use Rattle.std.specs.Prelude.{◌≡◌, ◌+◌, ◌-◌, true, List, [], map};
+ghost use Rattle.std.specs.Iterator.Runs.{EveryRun};
+ghost use Rattle.std.specs.List.{range_with_len};
+ghost use Rattle.std.specs.Range.{range_steps};
+ghost use Rattle.std.specs.Borrow.{Bor};
+ghost use Rattle.std.specs.Map.Iter.{deref};
+ghost use Rattle.eob_both.specs.Places.{map_places};
 ghost use Rattle.eob_both.specs.Aligned.{aligned, AlignedByIndex};
 ghost use Rattle.eob_both.specs.Swap.{SwapNextTakesFirst, SwapBackTakesLast, SwapHasAligned};
 ghost use Rattle.eob_both.specs.Chain.{ChainNextTakesFirst, ChainBackTakesLast, ChainHasBoth};
@@ -59,4 +65,22 @@ pub fn law_chain_to_come<T: DoubleEndedIterator>()
 /// right place, each absent past its end, and it ends with the longer list.
 pub fn law_aligned_by_index<L, R>()
     ensures { (p : List L) (q : List R) → AlignedByIndex p q (aligned p q) }
+{}
+
+/// A function of each place, over an aligned list, gives the aligned list of what it gives of the two lists.
+pub fn law_aligned_map<L, R, T, U>()
+    ensures { (f : L → T) (g : R → U) (p : List L) (q : List R) → map (map_places f g) (aligned p q) ≡ aligned (map f p) (map g q) }
+{}
+
+/// An aligned list of references, read by what they point to, is the aligned list of what the references of each side point to.
+pub fn law_aligned_refs<L, R>()
+    ensures both { (p : List (Bor L)) (q : List (Bor R)) → map (map_places deref deref) (aligned p q) ≡ aligned (map deref p) (map deref q) }
+    ensures left { (p : List (Bor L)) → map (map_places deref (deref {X = R})) (aligned p []) ≡ aligned (map deref p) [] }
+    ensures right { (q : List (Bor R)) → map (map_places (deref {X = L}) deref) (aligned [] q) ≡ aligned [] (map deref q) }
+{}
+
+/// A range of unsigned numbers gives the numbers from its start up to its end. `std` has no such clause: a caller with a range as
+/// a side calls this law first.
+pub fn law_range()
+    ensures { EveryRun (range_steps (λ n m. m - n) (λ n m. m ≡ n + 1)) (λ p. p.whole ≡ true → p.items ≡ range_with_len p.from.start (p.from.end - p.from.start)) }
 {}
