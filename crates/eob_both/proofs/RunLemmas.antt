@@ -16,29 +16,10 @@ use Rattle.eob_both.specs.Swap.{swap_left, swap_right, swap_steps}
 use Rattle.eob_both.specs.Chain.{chain_left, chain_right, chain_steps}
 use Rattle.eob_both.specs.Aligned.{aligned}
 use Rattle.eob_both.specs.Runs.{IsSwapRun, IsLeftRun, IsRightRun, SwapsRuns, IsInTurnRun, IsLoneRun, ChainsRuns}
-use Rattle.eob_both.proofs.AlignedLemmas.{aligned-nil, length-aligned, aligned-map, places_as_they_are}
+use Rattle.eob_both.proofs.AlignedLemmas.{left_at, right_at, aligned-nil, length-aligned, aligned-map, places_as_they_are}
 
 never : false ≡ true → ⊥
 never e = cc
-
-module _ {A B : Type 0} where
-  left_at : (xs : List A) (ys : List B) (k : ℕ) → item_left (slice_get (aligned xs ys) k) ≡ slice_get xs k
-  left_at [] [] k = refl
-  left_at [] (y ∷ ys) zero = refl
-  left_at [] (y ∷ ys) (suc k) = left_at [] ys k
-  left_at (x ∷ xs) [] zero = refl
-  left_at (x ∷ xs) [] (suc k) = ap (λ l. item_left (slice_get l k)) (sym (aligned-nil {B = B} xs)) ∙ left_at xs [] k
-  left_at (x ∷ xs) (y ∷ ys) zero = refl
-  left_at (x ∷ xs) (y ∷ ys) (suc k) = left_at xs ys k
-
-  right_at : (xs : List A) (ys : List B) (k : ℕ) → item_right (slice_get (aligned xs ys) k) ≡ slice_get ys k
-  right_at [] [] k = refl
-  right_at [] (y ∷ ys) zero = refl
-  right_at [] (y ∷ ys) (suc k) = right_at [] ys k
-  right_at (x ∷ xs) [] zero = refl
-  right_at (x ∷ xs) [] (suc k) = ap (λ l. item_right (slice_get l k)) (sym (aligned-nil {B = B} xs)) ∙ right_at xs [] k
-  right_at (x ∷ xs) (y ∷ ys) zero = refl
-  right_at (x ∷ xs) (y ∷ ys) (suc k) = right_at xs ys k
 
 module _ {S A : Type 0} (steps : S → Option A → S → Type 0) where
   -- calls of a side gave xs, and where c is true then None
