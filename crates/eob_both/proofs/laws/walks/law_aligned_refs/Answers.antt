@@ -1,7 +1,7 @@
 use Rattle.std.proofs.Common.{[]}
 use Rattle.std.specs.Map.Iter.{deref}
 use Rattle.eob_both.proofs.AlignedLemmas.{aligned-map}
-use Rattle.eob_both.proofs.laws.law_aligned_refs.Goals as goal
+use Rattle.eob_both.proofs.laws.walks.law_aligned_refs.Goals as goal
 
 pub returns-clause-both : goal.returns-clause-both
 returns-clause-both g c = aligned-map deref deref
