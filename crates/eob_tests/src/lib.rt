@@ -36,3 +36,5 @@ mod text;
 mod transpositions;
 #[cfg(test)]
 mod unwraps;
+#[cfg(test)]
+mod walks;
