@@ -42,3 +42,4 @@ mod transpositions;
 mod unwraps;
 #[cfg(test)]
 mod values;
+mod walks;
