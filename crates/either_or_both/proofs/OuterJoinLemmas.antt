@@ -1,12 +1,12 @@
 -- A run of the walk over two sides, read back to runs of those: it gives the list that the loop of a join makes of their items.
-use Rattle.std.proofs.Common.{◌≡◌, ◌∙◌, ◌+◌, ◌≤◌, suc, Bool, true, false, List, [], ◌∷◌, length, Option, Some, None, T, arith, refl, sym, ap, ap₂, subst}
+use Rattle.std.proofs.Common.{◌≡◌, ◌∙◌, ◌+◌, ◌≤◌, Bool, true, false, List, [], ◌∷◌, length, Option, Some, None, T, arith, refl, sym, ap, ap₂, subst}
 use Rattle.std.proofs.iter.runs.Made.{run, took}
 use Rattle.std.proofs.lemmas.List.{length-map}
 use Rattle.std.specs.Cmp.{IsTotalOrder}
 use Rattle.std.specs.Iterator.{Count, DrainsIf, IsFinite, MakesProgress, count_add}
 use Rattle.std.specs.Iterator.Runs.{SomeRun, EachRunFrom}
 use Rattle.std.specs.declared.cmp.Ordering.{Ordering}
-use Rattle.std.specs.declared.cmp.Ordering.TheVariants.{Less, Equal, Greater}
+use Rattle.std.specs.declared.cmp.Ordering.TheVariants.{Less, Greater}
 use Rattle.eob_both.specs.declared.either_or_both.EitherOrBoth.{EitherOrBoth}
 use Rattle.eob_both.specs.declared.either_or_both.EitherOrBoth.TheVariants.{Left, Both, Right}
 use Rattle.either_or_both.specs.declared.join.walk.JoinedPairs.{JoinedPairs}

@@ -1,12 +1,15 @@
 -- What follows for every full outer join of two lists whose keys rise.
-use Rattle.std.specs.Prelude.{◌≡◌, ℕ, ◌+◌, IsSome, List, length, map, All, count_by, is_some}
-use Rattle.std.specs.List.{AllZip}
-use Rattle.std.specs.Map.{values_of}
+use Rattle.std.specs.Prelude.{◌≡◌, ◌↔◌, ℕ, ◌+◌, IsSome, List, length, map, All, count_by, is_some}
+use Rattle.std.specs.Borrow.{Bor}
+use Rattle.std.specs.List.{AllAdjacentBelow, AllZip}
+use Rattle.std.specs.List.Sorted.{IsStrictlySortedBy}
+use Rattle.std.specs.Map.{keys_of, values_of}
+use Rattle.std.specs.Map.Iter.{deref_pair}
 use Rattle.std.specs.declared.cmp.Ordering.{Ordering}
-use Rattle.std.specs.declared.cmp.Ordering.TheVariants.{Equal}
+use Rattle.std.specs.declared.cmp.Ordering.TheVariants.{Less, Equal}
 use Rattle.eob_both.specs.declared.either_or_both.EitherOrBoth.{EitherOrBoth}
 use Rattle.eob_both.specs.declared.either_or_both.EitherOrBoth.TheVariants.{Left, Both, Right}
-use Rattle.eob_both.specs.Places.{left_place, right_place}
+use Rattle.eob_both.specs.Places.{left_place, right_place, map_places}
 use Rattle.eob_both.specs.Sides.{lefts, rights}
 use Rattle.either_or_both.specs.Join.{Rising, SameKeys, IsJoin, value_under}
 
@@ -15,6 +18,10 @@ abbrev pub flipped : {L R : Type 0} → EitherOrBoth L R → EitherOrBoth R L
 flipped (Left l) = Right l
 flipped (Both l r) = Both r l
 flipped (Right r) = Left r
+
+-- what a pair of a key and a value shows, where these are references
+abbrev pub deref_joined : {K A B : Type 0} → Bor K × EitherOrBoth (Bor A) (Bor B) → K × EitherOrBoth A B
+deref_joined z = (z.0.now, map_places (λ a. a.now) (λ b. b.now) z.1)
 
 -- both places of each value are present
 abbrev pub AllBoth : {K A B : Type 0} → List (K × EitherOrBoth A B) → Type 0
@@ -54,3 +61,21 @@ module _ {K : Type 0} (cmp : K → K → Ordering) where
     -- where the two lists have the same keys, each value of a join is Both
     abbrev pub JoinBothLaw : Type 0
     JoinBothLaw = (p : List (K × A)) (q : List (K × B)) (zs : List (K × EitherOrBoth A B)) → SameKeys cmp p q → IsJoin cmp p q zs → AllBoth zs
+
+    -- what a join of two lists of references shows is the join of what the two lists show
+    abbrev pub ShownJoinLaw : Type 0
+    ShownJoinLaw = (p : List (Bor K × Bor A)) (q : List (Bor K × Bor B)) (zs : List (Bor K × EitherOrBoth (Bor A) (Bor B))) → IsJoin (λ j k. cmp j.now k.now) p q zs
+        → IsJoin cmp (map deref_pair p) (map deref_pair q) (map deref_joined zs)
+
+  module _ (V : Type 0) where
+    -- a list rises exactly where each key is less than the next
+    abbrev pub RisingLaw : Type 0
+    RisingLaw = (xs : List (K × V)) → Rising cmp xs ↔ AllAdjacentBelow (λ x y. cmp x.0 y.0 ≡ Less) xs (length xs)
+
+    -- the entries of an ordered map rise
+    abbrev pub SortedRisesLaw : Type 0
+    SortedRisesLaw = (xs : List (K × V)) → IsStrictlySortedBy cmp (keys_of xs) → Rising cmp xs
+
+    -- a list of references rises where what it shows does
+    abbrev pub ShownRisesLaw : Type 0
+    ShownRisesLaw = (xs : List (Bor K × Bor V)) → Rising cmp (map deref_pair xs) → Rising (λ j k. cmp j.now k.now) xs

@@ -1,13 +1,18 @@
 -- The sides, the steps and the runs of `OuterJoin`.
-use Rattle.std.specs.Prelude.{◌≡◌, ℕ, ◌<◌, ◌≤◌, ◌+◌, ◌^◌, true, Option, Some, None, IfSome, SomeIff}
+use Rattle.std.specs.Prelude.{◌≡◌, ℕ, ◌<◌, ◌≤◌, ◌+◌, ◌^◌, true, List, length, map, Option, Some, None, IfSome, SomeIff}
+use Rattle.std.specs.Borrow.{Bor}
+use Rattle.std.specs.Slice.Iter.{iter_rest}
 use Rattle.std.specs.Iterator.{Count, IsFinite, at_most, count_add, count_map}
 use Rattle.std.specs.Iterator.Runs.{Run, SomeRun, EachRunFrom}
+use Rattle.std.specs.Map.Iter.{deref_pair}
 use Rattle.std.specs.Ordering.{MatchOrdering}
 use Rattle.std.specs.declared.cmp.Ordering.{Ordering}
 use Rattle.eob_both.specs.declared.either_or_both.EitherOrBoth.{EitherOrBoth}
 use Rattle.eob_both.specs.declared.either_or_both.EitherOrBoth.TheVariants.{Left, Both, Right}
 use Rattle.either_or_both.specs.declared.join.walk.JoinedPairs.{JoinedPairs}
+use Rattle.either_or_both.specs.declared.join.refs.PairRefs.{PairRefs}
 use Rattle.either_or_both.specs.Join.{Rising, IsJoin}
+use Rattle.either_or_both.specs.JoinLaws.{deref_joined}
 
 -- how many items a side has left at most: the one that is held, and those of its iterator; a side that holds none has ended
 abbrev pub held_remaining : {X : Type 0} → Option X → Count → Count
@@ -66,8 +71,29 @@ JoinsRuns {S = S} {T = T} cmp gives others first second firsts seconds x y z = (
     × (IsFinite (first s) → IsFinite (second t) → IsFinite (join_remaining first second z))
     × EachRunFrom (join_steps cmp firsts seconds) z (λ p. SomeRun firsts s (λ a. SomeRun seconds t (λ b. IsJoinRun cmp p a b)))
 
+-- the same for references: the join is of what they show
+abbrev pub IsShownJoinRun : {W S T K A B : Type 0} {steps : W → Option (Bor K × EitherOrBoth (Bor A) (Bor B)) → W → Type 0} {firsts : S → Option (Bor K × Bor A) → S → Type 0} {seconds : T → Option (Bor K × Bor B) → T → Type 0}
+    → (K → K → Ordering) → Run steps → Run firsts → Run seconds → Type 0
+IsShownJoinRun cmp p a b = (a.len ≤ p.len) × (b.len ≤ p.len) × (p.len ≤ a.len + b.len) × (p.whole ≡ true → (a.whole ≡ true) × (b.whole ≡ true))
+    × (Rising cmp (map deref_pair a.items) → Rising cmp (map deref_pair b.items) → IsJoin cmp (map deref_pair a.items) (map deref_pair b.items) (map deref_joined p.items))
+
+abbrev pub JoinsShownRuns : {X Y S T K A B : Type 0} → (K → K → Ordering) → (X → S → Type 0) → (Y → T → Type 0) → (S → Count) → (T → Count)
+    → (S → Option (Bor K × Bor A) → S → Type 0) → (T → Option (Bor K × Bor B) → T → Type 0) → X → Y → JoinedPairs S T (Bor K × Bor A) (Bor K × Bor B) → Type 0
+JoinsShownRuns {S = S} {T = T} cmp gives others first second firsts seconds x y z = (s : S) × (t : T) × gives x s × others y t
+    × (IsFinite (first s) → IsFinite (second t) → IsFinite (join_remaining first second z))
+    × EachRunFrom (join_steps (λ j k. cmp j.now k.now) firsts seconds) z (λ p. SomeRun firsts s (λ a. SomeRun seconds t (λ b. IsShownJoinRun cmp p a b)))
+
 -- the sum of two upper bounds, where both are there and it fits
 abbrev pub IsBoundSum : Option ℕ → Option ℕ → Option ℕ → Type 0
 IsBoundSum None n r = r ≡ None
 IsBoundSum (Some m) None r = r ≡ None
 IsBoundSum (Some m) (Some n) r = SomeIff r (m + n < 2 ^ 64) (m + n)
+
+-- the pairs that references are still to come to
+abbrev pub pairs_left : {K V : Type 0} → PairRefs K V → List (K × V)
+pairs_left s = iter_rest s.rest
+
+-- p gave no more items than both lists have, and where it ended at least as many as either; and it showed their join then, where the keys of both rise
+abbrev pub JoinsSlices : {W K A B : Type 0} {steps : W → Option (Bor K × EitherOrBoth (Bor A) (Bor B)) → W → Type 0} → (K → K → Ordering) → List (K × A) → List (K × B) → Run steps → Type 0
+JoinsSlices cmp xs ys p = (p.len ≤ length xs + length ys) × (p.whole ≡ true → length xs ≤ p.len) × (p.whole ≡ true → length ys ≤ p.len)
+    × (p.whole ≡ true → Rising cmp xs → Rising cmp ys → IsJoin cmp xs ys (map deref_joined p.items))

@@ -1,9 +1,21 @@
-//! What follows from the definitions that the contracts cite, each law a public function that does nothing: a call of it gives a
-//! caller's proof the fact. Those of `EitherOrBoth` alone are passed on from `eob_both`.
+//! What holds of all lists, keys, values, pairs and walks. The functions named `law_*` have no body, and their contracts say it: a
+//! caller calls one to learn it. Those of `EitherOrBoth` alone are passed on from `eob_both`. The other functions do what the laws
+//! speak of: they regroup a list, drive a walk from both ends, and collect a pair of containers again.
 
+mod drive;
+mod normal;
+mod recollect;
 mod results;
 
+pub use drive::{Driven, End, drive_chain, drive_items, drive_swap, law_whole_walk};
 pub use eob_both::laws::{
-    law_first_items, law_first_list, law_last_value, law_last_value_by_order,
+    law_aligned_by_index, law_aligned_map, law_aligned_refs, law_chain_next, law_chain_next_back,
+    law_chain_to_come, law_first_items, law_first_list, law_last_value, law_last_value_by_order,
+    law_range, law_swap_next, law_swap_next_back, law_swap_to_come,
+};
+pub use normal::{is_normal, law_aligned, law_equal_pairs, law_twice, law_unchanged, regroup};
+pub use recollect::{
+    recollect_btree_map, recollect_btree_set, recollect_hash_map, recollect_hash_set,
+    recollect_index_map, recollect_index_set, recollect_vec, recollect_vec_deque,
 };
 pub use results::law_results;

@@ -130,7 +130,7 @@ module _ {K V : Type 0} (eq : K → K → Bool) (laws : IsEquivalence eq) where
       by true h r = rw h
       by false h r = rw h r
 
-  last_value-cons : (e : K × V) (kvs : List (K × V)) (q : K) → last_value eq (e ∷ kvs) q ≡ option_or (last_value eq kvs q) (cond (eq q e.0) (Some e.1) None)
+  pub last_value-cons : (e : K × V) (kvs : List (K × V)) (q : K) → last_value eq (e ∷ kvs) q ≡ option_or (last_value eq kvs q) (cond (eq q e.0) (Some e.1) None)
   last_value-cons e kvs q = ap (lookup (eq q)) (reverse-append (e ∷ []) kvs) ∙ lookup-push (reverse kvs) e q
 
   pub last_value-push : (kvs : List (K × V)) (e : K × V) (q : K) → last_value eq (kvs ++ e ∷ []) q ≡ cond (eq e.0 q) (Some e.1) (last_value eq kvs q)

@@ -64,6 +64,20 @@ module _ {K V : Type 0} (eq : K → K → Bool) where
     pub last : (k : K) → lookup (eq k) es ≡ last_value kvs k
     pub count : length es ≡ distinct_count eq (keys_of kvs)
 
+-- equal contents, of maps and sets that may be walked in another order
+module _ {K : Type 0} (eq : K → K → Bool) where
+  -- ls has the items of ks, each once, and no other
+  pub record AreSameMembers (ks ls : List K) : Type 0 where
+    pub once : IsDistinct eq ls
+    pub same : (k : K) → is_member eq ls k ≡ is_member eq ks k
+    pub count : length ls ≡ length ks
+
+  -- fs binds the keys of es to the same values, each key once, and no other key
+  pub record IsSameMap {V : Type 0} (es fs : List (K × V)) : Type 0 where
+    pub once : IsDistinct eq (keys_of fs)
+    pub same : (k : K) → lookup (eq k) fs ≡ lookup (eq k) es
+    pub count : length fs ≡ length es
+
 module _ {K : Type 0} (cmp : K → K → Ordering) where
   -- ks has the items of xs, each once and in rising order, and no other
   pub record AreRisingMembers (xs ks : List K) : Type 0 where
@@ -77,3 +91,17 @@ module _ {K V : Type 0} (cmp : K → K → Ordering) where
     pub rising : IsStrictlySortedBy cmp (keys_of es)
     pub last : (k : K) → lookup (is_at (cmp k)) es ≡ last_value (eq_by_cmp cmp) kvs k
     pub count : length es ≡ distinct_count (eq_by_cmp cmp) (keys_of kvs)
+
+-- equal contents, in rising order
+module _ {K : Type 0} (cmp : K → K → Ordering) where
+  -- ls has the items of ks, each once and in rising order, and no other
+  pub record AreSameRisingMembers (ks ls : List K) : Type 0 where
+    pub rising : IsStrictlySortedBy cmp ls
+    pub same : (k : K) → list_any (is_at (cmp k)) ls ≡ list_any (is_at (cmp k)) ks
+    pub count : length ls ≡ length ks
+
+  -- fs binds the keys of es to the same values, each key once, and no other key, and its keys rise
+  pub record IsSameRisingMap {V : Type 0} (es fs : List (K × V)) : Type 0 where
+    pub rising : IsStrictlySortedBy cmp (keys_of fs)
+    pub same : (k : K) → lookup (is_at (cmp k)) fs ≡ lookup (is_at (cmp k)) es
+    pub count : length fs ≡ length es

@@ -1,62 +1,11 @@
-//! Laws of the paired walk and of the chain, over any iterators as their sides: which item of which list each call takes. A
-//! caller's proof that holds a walk in its hands, and not only a chain of iterators over it, calls the law that it needs. None
-//! of these functions does anything.
-//!
-//! `next_gives` and `next_back_gives` of the walks say what a call asks of which side. What this means for the lists that the
-//! sides have still to come stands here, since a further clause on `next` would be read by every loop over a walk.
-ghost use Rattle.std.specs.Prelude.{List};
-ghost use Rattle.eob_both.specs.Aligned.{aligned, AlignedByIndex};
-ghost use Rattle.eob_both.specs.Swap.{SwapNextTakesFirst, SwapBackTakesLast, SwapHasAligned};
-ghost use Rattle.eob_both.specs.Chain.{ChainNextTakesFirst, ChainBackTakesLast, ChainHasBoth};
+//! What holds of all lists and of all walks: each law is a public function that does nothing, and whose contract says it. A caller
+//! calls one to learn it.
 
 mod contents;
+mod walks;
 
 pub use contents::{law_first_items, law_first_list, law_last_value, law_last_value_by_order};
-
-/// `next` of the paired walk takes the first item of the aligned list of what its sides give, or answers `None` where that is
-/// empty, and leaves the rest of it.
-pub fn law_swap_next<L: Iterator, R: Iterator>()
-    ensures { SwapNextTakesFirst L.next_gives R.next_gives }
-{}
-
-/// `next_back` of the paired walk takes the last item, where the sides have lists still to come and count them, or answers `None`
-/// where there is none, and leaves the rest.
-pub fn law_swap_next_back<L, R>()
-where
-    L: DoubleEndedIterator + ExactSizeIterator,
-    R: DoubleEndedIterator + ExactSizeIterator,
-    ensures { SwapBackTakesLast L.DoubleEndedIterator R.DoubleEndedIterator }
-{}
-
-/// Where the sides have lists still to come and count them, the paired walk has the aligned list still to come, however its ends
-/// are called, and counts it.
-pub fn law_swap_to_come<L, R>()
-where
-    L: DoubleEndedIterator + ExactSizeIterator,
-    R: DoubleEndedIterator + ExactSizeIterator,
-    ensures { SwapHasAligned L.DoubleEndedIterator R.DoubleEndedIterator }
-{}
-
-/// `next` of the chain takes the first item of the left list followed by the right one, or answers `None` where both are empty,
-/// and leaves the rest.
-pub fn law_chain_next<T: Iterator>()
-    ensures { ChainNextTakesFirst T.next_gives }
-{}
-
-/// `next_back` of the chain takes the last item, where the sides have lists still to come, or answers `None` where there is none,
-/// and leaves the rest.
-pub fn law_chain_next_back<T: DoubleEndedIterator>()
-    ensures { ChainBackTakesLast T.DoubleEndedIterator }
-{}
-
-/// Where the sides have lists still to come, the chain has the left one followed by the right one still to come, however its ends
-/// are called.
-pub fn law_chain_to_come<T: DoubleEndedIterator>()
-    ensures { ChainHasBoth T.DoubleEndedIterator }
-{}
-
-/// The aligned list by index: its item at each index has the left list's item there in its left place and the right list's in its
-/// right place, each absent past its end, and it ends with the longer list.
-pub fn law_aligned_by_index<L, R>()
-    ensures { (p : List L) (q : List R) → AlignedByIndex p q (aligned p q) }
-{}
+pub use walks::{
+    law_aligned_by_index, law_aligned_map, law_aligned_refs, law_chain_next, law_chain_next_back,
+    law_chain_to_come, law_range, law_swap_next, law_swap_next_back, law_swap_to_come,
+};

@@ -1,5 +1,5 @@
 //! What follows for every full outer join, as contracts of functions that do nothing.
-ghost use Rattle.either_or_both.specs.JoinLaws.{JoinBothLaw, JoinFlipLaw, JoinLengthLaw, JoinPlacesLaw, JoinSidesLaw, OneJoinLaw};
+ghost use Rattle.either_or_both.specs.JoinLaws.{JoinBothLaw, JoinFlipLaw, JoinLengthLaw, JoinPlacesLaw, JoinSidesLaw, OneJoinLaw, RisingLaw, ShownJoinLaw, ShownRisesLaw, SortedRisesLaw};
 
 /// Two joins of the same lists have equal keys and the same values, place by place.
 pub fn law_one_join<K: Ord, A, B>()
@@ -29,4 +29,24 @@ pub fn law_join_flip<K: Ord, A, B>()
 /// Where the two lists have the same keys, each value of a join is Both.
 pub fn law_join_both<K: Ord, A, B>()
     ensures { JoinBothLaw K.cmp A B }
+{}
+
+/// A list rises exactly where each key is less than the next.
+pub fn law_rising<K: Ord, V>()
+    ensures { RisingLaw K.cmp V }
+{}
+
+/// A list whose keys are sorted strictly rises, as the entries of an ordered map do.
+pub fn law_sorted_rises<K: Ord, V>()
+    ensures { SortedRisesLaw K.cmp V }
+{}
+
+/// A list of references rises where what it shows does.
+pub fn law_shown_rises<K: Ord, V>()
+    ensures { ShownRisesLaw K.cmp V }
+{}
+
+/// What a join of two lists of references shows is the join of what the two lists show.
+pub fn law_shown_join<K: Ord, A, B>()
+    ensures { ShownJoinLaw K.cmp A B }
 {}

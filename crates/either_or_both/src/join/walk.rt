@@ -6,6 +6,7 @@ ghost use Rattle.either_or_both.specs.OuterJoin.{IsBoundSum, JoinsRuns, held_rem
 
 use crate::EitherOrBoth;
 use std::cmp::Ordering;
+use std::iter::FusedIterator;
 
 /// The full outer join of two iterators of pairs whose keys rise, item by item. It holds the next pair of each side; a side that
 /// holds none has ended, and is asked no more. Made by [`outer_join_lazily`](super::outer_join_lazily).
@@ -117,6 +118,15 @@ where
         )
     }
 }
+
+impl<K, A, B, I, J> FusedIterator for JoinedPairs<I, J, (K, A), (K, B)>
+where
+    K: Ord + Drop,
+    A: Drop,
+    B: Drop,
+    I: Iterator<Item = (K, A)>,
+    J: Iterator<Item = (K, B)>,
+{}
 
 // The hint of a side: an ended one is not asked.
 fn side_hint<I: Iterator>(held: &Option<I::Item>, rest: &I) -> (usize, Option<usize>)

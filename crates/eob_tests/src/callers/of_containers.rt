@@ -12,7 +12,10 @@ ghost use Rattle.either_or_both.specs.Either as either;
 ghost use Rattle.either_or_both.specs.Places.{left_place, right_place};
 ghost use Rattle.either_or_both.specs.Sides.{lefts, rights, collected};
 
-use either_or_both::laws::{law_first_items, law_last_value, law_last_value_by_order};
+use either_or_both::laws::{
+    law_first_items, law_last_value, law_last_value_by_order, recollect_hash_map,
+    recollect_index_set,
+};
 use either_or_both::{Either, EitherOrBoth};
 use indexmap::{IndexMap, IndexSet};
 use std::alloc::{AllocError, Global};
@@ -373,4 +376,48 @@ pub fn repeated_key(alloc: Global) -> Result<Option<(u8, char)>, AllocError>
         },
         None => Ok(None),
     }
+}
+
+/// A pair that was collected and is collected again answers `get` as before.
+pub fn get_after_recollecting(
+    alloc: Global,
+    entries: Vec<EitherOrBoth<(u8, char), (u8, bool)>>,
+    key: u8,
+) -> Result<Option<char>, AllocError>
+    ensures { IfOk result (λ r. r ≡ last_value nat_eq (lefts entries.items) key) }
+{
+    let pair: EitherOrBoth<HashMap<u8, char>, HashMap<u8, bool>> = entries
+        .into_iter()
+        .collect(alloc)?;
+    match recollect_hash_map(alloc, pair)?.left() {
+        Some(map) => Ok(map.get(&key).copied()),
+        None => Ok(None),
+    }
+}
+
+/// It keeps the order of insertion.
+pub fn order_after_recollecting(
+    alloc: Global,
+    values: Vec<EitherOrBoth<u8, char>>,
+) -> Result<Vec<u8>, AllocError>
+    ensures { IfOk result (λ ks. ks.items ≡ first_items nat_eq (lefts values.items)) }
+{
+    let pair: EitherOrBoth<IndexSet<u8>, IndexSet<char>> = values.into_iter().collect(alloc)?;
+    match recollect_index_set(alloc, pair)?.left() {
+        Some(set) => set.into_iter().collect(alloc),
+        None => Ok(Vec::new(alloc)),
+    }
+}
+
+/// It keeps the variant.
+pub fn variant_after_recollecting(
+    alloc: Global,
+    values: Vec<EitherOrBoth<u8, char>>,
+) -> Result<(bool, bool), AllocError>
+    ensures left { IfOk result (λ r. r.0 ≡ is_some (left_place (collected values.items))) }
+    ensures right { IfOk result (λ r. r.1 ≡ is_some (right_place (collected values.items))) }
+{
+    let pair: EitherOrBoth<IndexSet<u8>, IndexSet<char>> = values.into_iter().collect(alloc)?;
+    let again = recollect_index_set(alloc, pair)?;
+    Ok((again.has_left(), again.has_right()))
 }

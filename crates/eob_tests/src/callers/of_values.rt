@@ -1,12 +1,15 @@
-//! Callers of the walks over the values of both enums.
-ghost use Rattle.std.specs.Prelude.{◌≡◌, IfOk, drop, length};
+//! Callers of the walks over the values of both enums, and over the held side of an `Either`.
+ghost use Rattle.std.specs.Prelude.{◌≡◌, IfOk, [], ◌∷◌, drop, filter, length, map, slice_get, ◌-◌, ◌%◌, ◌==◌};
 ghost use Rattle.std.specs.Option.{option_or};
 ghost use Rattle.either_or_both.specs.Places.{left_place, right_place};
 ghost use Rattle.either_or_both.specs.Values.{values_of};
+ghost use Rattle.either_or_both.specs.Aligned.{aligned};
+ghost use Rattle.either_or_both.specs.Either.{held, MatchPlaces};
+ghost use Rattle.either_or_both.specs.declared.either.Either.TheVariants.{Left, Right};
 ghost use mathlib.Core.List.{reverse};
 
-use either_or_both::EitherOrBoth;
 use either_or_both::iter::IntoIterEitherOrBoth;
+use either_or_both::{Either, EitherOrBoth};
 use std::alloc::{AllocError, Global};
 
 /// The values, right first.
@@ -58,4 +61,97 @@ pub fn default_len() -> usize
     ensures { result ≡ 0 }
 {
     IntoIterEitherOrBoth::<u8>::default().len()
+}
+
+/// The one value of an `Either`, from either end.
+pub fn lone_value_reversed<T: Drop>(alloc: Global, v: Either<T, T>) -> Result<Vec<T>, AllocError>
+    ensures { IfOk result (λ xs. xs.items ≡ held v ∷ []) }
+{
+    v.into_iter().rev().collect(alloc)
+}
+
+/// It is there by reference too.
+pub fn lone_value_copied(alloc: Global, v: &Either<u8, u8>) -> Result<Vec<u8>, AllocError>
+    ensures { IfOk result (λ xs. xs.items ≡ held v.now ∷ []) }
+{
+    v.iter().copied().collect(alloc)
+}
+
+/// The items of the vector that an `Either` holds.
+pub fn inner_items<T: Drop>(alloc: Global, v: Either<Vec<T>, Vec<T>>) -> Result<Vec<T>, AllocError>
+    ensures { IfOk result (λ xs. xs.items ≡ (held v).items) }
+{
+    v.into_iter_inner().collect(alloc)
+}
+
+/// The same of one that is borrowed.
+pub fn inner_copied(alloc: Global, v: &Either<Vec<u8>, Vec<u8>>) -> Result<Vec<u8>, AllocError>
+    ensures { IfOk result (λ xs. xs.items ≡ (held v.now).items) }
+{
+    v.iter_inner().copied().collect(alloc)
+}
+
+/// The last of them.
+pub fn last_inner(v: Either<Vec<u8>, Vec<u8>>) -> Option<u8>
+    ensures { result ≡ slice_get (held v).items (length (held v).items - 1) }
+{
+    v.into_iter_inner().next_back()
+}
+
+/// How many there are.
+pub fn inner_len<T: Drop>(v: Either<Vec<T>, Vec<T>>) -> usize
+    ensures { result ≡ length (held v).items }
+{
+    v.into_iter_inner().len()
+}
+
+/// The items of the vector that an `Either` holds, in the held variant.
+pub fn wrapped_items<T: Drop, U: Drop>(
+    alloc: Global,
+    v: Either<Vec<T>, Vec<U>>,
+) -> Result<Vec<Either<T, U>>, AllocError>
+    ensures { IfOk result (λ xs. MatchPlaces v (λ l. xs.items ≡ map (λ x. Left x) l.items) (λ r. xs.items ≡ map (λ y. Right y) r.items)) }
+{
+    v.into_iter_swap().collect(alloc)
+}
+
+/// The even numbers of a slice, each as a right value.
+pub fn wrapped_evens(alloc: Global, s: &[u32]) -> Result<Vec<Either<char, u32>>, AllocError>
+    ensures { IfOk result (λ xs. xs.items ≡ map (λ y. Right y) (filter (λ x. x % 2 == 0) s.now)) }
+{
+    Either::<Vec<char>, _>::Right(s.iter().copied().filter(|x| *x % 2 == 0))
+        .into_iter_swap()
+        .collect(alloc)
+}
+
+/// How many items the walk over a borrowed side gives.
+pub fn wrapped_count<T, U>(v: &Either<Vec<T>, Vec<U>>) -> usize
+    ensures { MatchPlaces v.now (λ l. result ≡ length l.items) (λ r. result ≡ length r.items) }
+{
+    v.iter_swap().count()
+}
+
+/// A walk in a walk: the items in the inner variant of the outer one.
+pub fn wrapped_twice<T: Drop>(
+    alloc: Global,
+    v: Vec<T>,
+) -> Result<Vec<Either<Either<T, u8>, u8>>, AllocError>
+    ensures { IfOk result (λ xs. xs.items ≡ map (λ x. Left x) (map (λ x. Left x) v.items)) }
+{
+    Either::<_, Vec<u8>>::Left(Either::<Vec<T>, Vec<u8>>::Left(v).into_iter_swap())
+        .into_iter_swap()
+        .collect(alloc)
+}
+
+/// An inner walk beside a vector, in the paired walk of an `EitherOrBoth`.
+pub fn beside_inner<T: Drop, U: Drop>(
+    alloc: Global,
+    v: Either<Vec<T>, Vec<T>>,
+    w: Vec<U>,
+) -> Result<Vec<EitherOrBoth<T, U>>, AllocError>
+    ensures { IfOk result (λ xs. xs.items ≡ aligned (held v).items w.items) }
+{
+    EitherOrBoth::Both(v.into_iter_inner(), w)
+        .into_iter_swap()
+        .collect(alloc)
 }

@@ -1,0 +1,81 @@
+//! The full outer join by reference, of two slices and of other sources of references: nothing is moved or cloned.
+ghost use Rattle.std.specs.Prelude.{◌≡◌, ⊤};
+ghost use Rattle.std.specs.Iterator.{IsFinite, YieldsFirstBy, item_count};
+ghost use Rattle.std.specs.Iterator.Runs.{EachRunFrom};
+ghost use Rattle.std.specs.Map.Iter.{deref_pair};
+ghost use Rattle.either_or_both.specs.OuterJoin.{JoinsShownRuns, JoinsSlices, join_can, join_remaining, join_steps, pairs_left};
+
+use super::{JoinedPairs, OuterJoin, outer_join_lazily};
+use std::slice;
+
+/// References to the keys and the values of a slice of pairs, pair by pair. Made by [`outer_join_slices`].
+#[derive(Debug, Drop)]
+pub struct PairRefs<'a, K, V> {
+    rest: slice::Iter<'a, (K, V)>,
+}
+
+impl<'a, K, V> PairRefs<'a, K, V> {
+    fn new(list: &'a [(K, V)]) -> Self
+        ensures { pairs_left result ≡ list.now }
+    {
+        PairRefs { rest: list.iter() }
+    }
+}
+
+impl<'a, K, V> Iterator for PairRefs<'a, K, V> {
+    type Item = (&'a K, &'a V);
+
+    ghost next_gives = { YieldsFirstBy deref_pair pairs_left };
+
+    ghost remaining = { item_count pairs_left };
+
+    #[inline(always)]
+    fn next(&mut self) -> Option<(&'a K, &'a V)> {
+        match self.rest.next() {
+            Some(pair) => Some((&pair.0, &pair.1)),
+            None => None,
+        }
+    }
+
+    fn size_hint(&self) -> (usize, Option<usize>) {
+        self.rest.size_hint()
+    }
+}
+
+/// The full outer join of two sources of references to keys and values, whose keys rise, as [`outer_join_lazily`] gives it: such as
+/// of the walks over two maps that stay as they are. It is that walk, and its contract speaks of what the references show.
+pub fn outer_join_refs<'a, K: Ord, A, B, U, V>(
+    left: U,
+    right: V,
+) -> JoinedPairs<U::IntoIter, V::IntoIter, (&'a K, &'a A), (&'a K, &'a B)>
+where
+    U: IntoIterator<Item = (&'a K, &'a A)>,
+    V: IntoIterator<Item = (&'a K, &'a B)>,
+    requires left { (it : U.IntoIter) → U.into_iter_gives left it → U.IntoIter.can_next it }
+    requires right { (it : V.IntoIter) → V.into_iter_gives right it → V.IntoIter.can_next it }
+    ensures can { join_can U.IntoIter.can_next V.IntoIter.can_next result }
+    ensures runs { JoinsShownRuns K.cmp U.into_iter_gives V.into_iter_gives U.IntoIter.remaining V.IntoIter.remaining U.IntoIter.next_gives V.IntoIter.next_gives left right result }
+{
+    outer_join_lazily(left, right)
+}
+
+/// The full outer join of two slices of pairs whose keys rise, as a walk over references to their keys and values.
+///
+/// ```
+/// let left = [(1, 'a'), (3, 'b')];
+/// let right = [(3, 'y')];
+/// let mut walk = outer_join_slices(&left, &right);
+/// assert_eq!(rt; walk.next(), Some((&1, Left(&'a'))));
+/// assert_eq!(rt; walk.next(), Some((&3, Both(&'b', &'y'))));
+/// assert_eq!(rt; walk.next(), None);
+/// ```
+pub fn outer_join_slices<'a, K: Ord, A, B>(
+    left: &'a [(K, A)],
+    right: &'a [(K, B)],
+) -> OuterJoin<PairRefs<'a, K, A>, PairRefs<'a, K, B>>
+    ensures can { join_can (λ _. ⊤) (λ _. ⊤) result }
+    ensures finite { IsFinite (join_remaining (item_count pairs_left) (item_count pairs_left) result) }
+    ensures runs { EachRunFrom (join_steps (λ j k. K.cmp j.now k.now) (YieldsFirstBy deref_pair pairs_left) (YieldsFirstBy deref_pair pairs_left)) result (λ p. JoinsSlices K.cmp left.now right.now p) }
+{
+    outer_join_refs(PairRefs::new(left), PairRefs::new(right))
+}

@@ -1,0 +1,161 @@
+//! Walks whose two ends are called in a given order: what each call answers, and how many items are left.
+//!
+//! Each driver makes the walk, calls `next` for each Front and `next_back` for each Back, and gives the answers in order.
+ghost use Rattle.std.specs.Prelude.{◌≡◌, List, ◌++◌, length, map, IfOk};
+ghost use Rattle.std.specs.Option.{option_map};
+ghost use Rattle.eob_both.specs.Aligned.{aligned};
+ghost use Rattle.eob_both.specs.Ends.{HasBound, IsExactly, CountedToCome, PlaceToCome, StillToCome};
+ghost use Rattle.eob_both.specs.Places.{left_place, right_place, map_places};
+ghost use Rattle.eob_both.specs.Values.{values_of};
+ghost use Rattle.either_or_both.specs.Answers.{answers, left_over, Listed, MatchEnd, WholeWalkLaw};
+
+use crate::EitherOrBoth;
+use std::alloc::{AllocError, Allocator, Global};
+
+/// An end of a walk.
+#[derive(Debug, Clone, Copy, PartialEq, Eq)]
+pub enum End {
+    /// The front, from which `next` takes.
+    Front,
+    /// The back, from which `next_back` takes.
+    Back,
+}
+
+/// What a walk answered to calls of its ends, and what it has left.
+#[derive(Debug, PartialEq, Eq, Drop)]
+pub struct Driven<I> {
+    /// One answer for each call.
+    pub answers: Vec<Option<I>>,
+    /// How many items are left.
+    pub rest: usize,
+}
+
+// One call of an end.
+fn call_end<I: DoubleEndedIterator>(walk: &mut I, end: End) -> Option<I::Item>
+    requires front { I.can_next walk.old }
+    requires back { I.can_next_back walk.old }
+    ensures { MatchEnd end (I.next_gives walk.old result walk.new) (I.next_back_gives walk.old result walk.new) }
+{
+    match end {
+        End::Front => walk.next(),
+        End::Back => walk.next_back(),
+    }
+}
+
+// The answers of a walk to calls of its ends, which need not know its length.
+fn call_ends<I: DoubleEndedIterator, A: Allocator>(
+    alloc: A,
+    walk: &mut I,
+    ends: &[End],
+) -> Result<Vec<Option<I::Item>, A>, AllocError>
+where
+    I::Item: Drop,
+    requires { (list : Listed I.Item) × StillToCome I.DoubleEndedIterator list.view list.items walk.old }
+    ensures answers { (list : Listed I.Item) → StillToCome I.DoubleEndedIterator list.view list.items walk.old
+        → IfOk result (λ v. map (option_map list.view) v.items ≡ answers list.items ends.now) }
+    ensures rest { (list : Listed I.Item) → CountedToCome I.DoubleEndedIterator list.view list.items walk.old
+        → IfOk result (λ _. (left : List I.Item) × CountedToCome I.DoubleEndedIterator list.view left walk.new × (length left ≡ left_over list.items ends.now)) }
+{
+    let mut answers = Vec::new(alloc);
+    for end in ends {
+        answers.push(call_end(walk, *end))?;
+    }
+    Ok(answers)
+}
+
+// The answers of a walk that knows its length, and how many items it has left.
+fn drive<I: DoubleEndedIterator + ExactSizeIterator, A: Allocator>(
+    alloc: A,
+    mut walk: I,
+    ends: &[End],
+) -> Result<(Vec<Option<I::Item>, A>, usize), AllocError>
+where
+    I::Item: Drop,
+    requires { (list : Listed I.Item) × CountedToCome I.DoubleEndedIterator list.view list.items walk }
+    ensures answers { (list : Listed I.Item) → CountedToCome I.DoubleEndedIterator list.view list.items walk
+        → IfOk result (λ d. map (option_map list.view) d.0.items ≡ answers list.items ends.now) }
+    ensures rest { (list : Listed I.Item) → CountedToCome I.DoubleEndedIterator list.view list.items walk
+        → IfOk result (λ d. d.1 ≡ left_over list.items ends.now) }
+{
+    let answers = call_ends(alloc, &mut walk, ends)?;
+    let rest = walk.len();
+    Ok((answers, rest))
+}
+
+/// Calls the ends of the paired walk over a pair in turn. Where the sides have lists still to come, which are counted, the answers
+/// are those of calls of the aligned list, and the rest is what is left of it. `AllocError` where a request for memory was refused:
+/// then the pair is dropped.
+///
+/// ```
+/// let pair = EitherOrBoth::Both([1, 2, 3], ['a']);
+/// let driven = drive_swap(alloc, pair, &[End::Back, End::Front])?;
+/// assert_eq!(rt; driven.answers, [Some(EitherOrBoth::Left(3)), Some(EitherOrBoth::Both(1, 'a'))]);
+/// assert_eq!(rt; driven.rest, 1);
+/// ```
+pub fn drive_swap<L, R>(
+    alloc: Global,
+    pair: EitherOrBoth<L, R>,
+    ends: &[End],
+) -> Result<Driven<EitherOrBoth<L::Item, R::Item>>, AllocError>
+where
+    L: IntoIterator,
+    R: IntoIterator,
+    L::IntoIter: DoubleEndedIterator + ExactSizeIterator,
+    R::IntoIter: DoubleEndedIterator + ExactSizeIterator,
+    L::Item: Drop,
+    R::Item: Drop,
+    requires { (a : Listed L.Item) × (b : Listed R.Item) × PlaceToCome L.into_iter_gives IsExactly L.IntoIter.DoubleEndedIterator a.view a.items (left_place pair)
+        × PlaceToCome R.into_iter_gives IsExactly R.IntoIter.DoubleEndedIterator b.view b.items (right_place pair) }
+    ensures answers { (a : Listed L.Item) (b : Listed R.Item) → PlaceToCome L.into_iter_gives IsExactly L.IntoIter.DoubleEndedIterator a.view a.items (left_place pair)
+        → PlaceToCome R.into_iter_gives IsExactly R.IntoIter.DoubleEndedIterator b.view b.items (right_place pair)
+        → IfOk result (λ d. map (option_map (map_places a.view b.view)) d.answers.items ≡ answers (aligned a.items b.items) ends.now) }
+    ensures rest { (a : Listed L.Item) (b : Listed R.Item) → PlaceToCome L.into_iter_gives IsExactly L.IntoIter.DoubleEndedIterator a.view a.items (left_place pair)
+        → PlaceToCome R.into_iter_gives IsExactly R.IntoIter.DoubleEndedIterator b.view b.items (right_place pair)
+        → IfOk result (λ d. d.rest ≡ left_over (aligned a.items b.items) ends.now) }
+{
+    let (answers, rest) = drive(alloc, pair.into_iter_swap(), ends)?;
+    Ok(Driven { answers, rest })
+}
+
+/// Calls the ends of the chain over a pair in turn. Where the sides have lists still to come, the answers are those of calls of the
+/// left list followed by the right one. `AllocError` where a request for memory was refused: then the pair is dropped.
+pub fn drive_chain<T>(
+    alloc: Global,
+    pair: EitherOrBoth<T, T>,
+    ends: &[End],
+) -> Result<Vec<Option<T::Item>>, AllocError>
+where
+    T: IntoIterator,
+    T::IntoIter: DoubleEndedIterator,
+    T::Item: Drop,
+    requires { (view : T.Item → T.Item) × (p : List T.Item) × (q : List T.Item)
+        × PlaceToCome T.into_iter_gives HasBound T.IntoIter.DoubleEndedIterator view p (left_place pair)
+        × PlaceToCome T.into_iter_gives HasBound T.IntoIter.DoubleEndedIterator view q (right_place pair) }
+    ensures { (view : T.Item → T.Item) (p : List T.Item) (q : List T.Item)
+        → PlaceToCome T.into_iter_gives HasBound T.IntoIter.DoubleEndedIterator view p (left_place pair)
+        → PlaceToCome T.into_iter_gives HasBound T.IntoIter.DoubleEndedIterator view q (right_place pair)
+        → IfOk result (λ v. map (option_map view) v.items ≡ answers (p ++ q) ends.now) }
+{
+    let mut walk = pair.into_iter_chain();
+    call_ends(alloc, &mut walk, ends)
+}
+
+/// Calls the ends of the walk over the one or two values of a value in turn. The answers are those of calls of the values, left
+/// first, and the rest is what is left of them. `AllocError` where a request for memory was refused: then the value is dropped.
+pub fn drive_items<T: Drop>(
+    alloc: Global,
+    value: EitherOrBoth<T, T>,
+    ends: &[End],
+) -> Result<Driven<T>, AllocError>
+    ensures answers { IfOk result (λ d. d.answers.items ≡ answers (values_of value) ends.now) }
+    ensures rest { IfOk result (λ d. d.rest ≡ left_over (values_of value) ends.now) }
+{
+    let (answers, rest) = drive(alloc, value.into_iter(), ends)?;
+    Ok(Driven { answers, rest })
+}
+
+/// As many calls as there are items, or more, take the whole list: what came from the front, and then what came from the back in
+/// reverse order.
+pub fn law_whole_walk<T>()
+    ensures { WholeWalkLaw T }
+{}

@@ -1,0 +1,115 @@
+//! The one normal form of a list of values: the values that are both first, and then those of one side. Regrouping gives it.
+ghost use Rattle.std.specs.Prelude.{◌≡◌, ◌≤◌, ◌↔◌, true, length, All, IfOk, IsTrue};
+ghost use Rattle.std.specs.List.{prefix_len};
+ghost use Rattle.eob_both.specs.Aligned.{aligned};
+ghost use Rattle.eob_both.specs.Collector.{contents_at};
+ghost use Rattle.eob_both.specs.Places.{left_place, right_place};
+ghost use Rattle.eob_both.specs.Sides.{lefts, rights};
+ghost use Rattle.either_or_both.specs.Laws.{AlignedLaw, EqualPairsLaw, TwiceLaw, UnchangedLaw};
+ghost use Rattle.either_or_both.specs.Normal.{is_both, is_left, is_right, IsNormal, IsOneSided};
+
+use crate::EitherOrBoth;
+use std::alloc::{AllocError, Allocator, Global};
+
+/// Collects the values into vectors and walks these side by side: the left values and the right values lined up again, first with
+/// first. `AllocError` where a request for memory was refused: then the values are dropped.
+///
+/// ```
+/// let list = vec![in alloc; EitherOrBoth::Left(1), EitherOrBoth::Right('a'), EitherOrBoth::Left(2)]?;
+/// let regrouped = regroup(alloc, list)?;
+/// assert_eq!(rt; regrouped, [EitherOrBoth::Both(1, 'a'), EitherOrBoth::Left(2)]);
+/// ```
+pub fn regroup<L: Drop, R: Drop>(
+    alloc: Global,
+    list: Vec<EitherOrBoth<L, R>>,
+) -> Result<Vec<EitherOrBoth<L, R>>, AllocError>
+    ensures { IfOk result (λ made. made.items ≡ aligned (lefts list.items) (rights list.items)) }
+{
+    regroup_in(alloc, list)
+}
+
+// The same, with memory of any allocator.
+fn regroup_in<L: Drop, R: Drop, A: Allocator + Copy>(
+    alloc: A,
+    list: Vec<EitherOrBoth<L, R>, A>,
+) -> Result<Vec<EitherOrBoth<L, R>, A>, AllocError>
+    ensures { IfOk result (λ made. made.items ≡ aligned (lefts list.items) (rights list.items)) }
+{
+    line_up(alloc, list.into_iter().collect(alloc)?)
+}
+
+// The values of both vectors side by side. Pushed one by one: std's collecting may take a refused request for the end.
+fn line_up<L: Drop, R: Drop, A: Allocator>(
+    alloc: A,
+    pair: EitherOrBoth<Vec<L, A>, Vec<R, A>>,
+) -> Result<Vec<EitherOrBoth<L, R>, A>, AllocError>
+    ensures { IfOk result (λ made. made.items ≡ aligned (contents_at (λ v. v.items) (left_place pair)) (contents_at (λ v. v.items) (right_place pair))) }
+{
+    let mut lined_up = Vec::new(alloc);
+    for value in pair.into_iter_swap() {
+        lined_up.push(value)?;
+    }
+    Ok(lined_up)
+}
+
+/// Whether the values before some place are both, and those from it on are left values alone or right values alone: the lists that
+/// [`regroup`] leaves as they are. Takes no memory.
+///
+/// ```
+/// assert!(rt; is_normal(&[EitherOrBoth::Both(1, 'a'), EitherOrBoth::Left(2)]));
+/// assert!(rt; !is_normal(&[EitherOrBoth::Left(1), EitherOrBoth::Right('a')]));
+/// ```
+pub fn is_normal<L, R>(list: &[EitherOrBoth<L, R>]) -> bool
+    ensures { IsTrue result ↔ IsNormal list.now }
+{
+    is_one_sided(&list[leading_boths(list)..])
+}
+
+// How many values at the front are both.
+fn leading_boths<L, R>(list: &[EitherOrBoth<L, R>]) -> usize
+    ensures count { result ≡ prefix_len is_both list.now }
+    ensures within { result ≤ length list.now }
+{
+    list.iter().take_while(|value| value.is_both()).count()
+}
+
+// Whether each value is a left value alone, or each is a right value alone.
+fn is_one_sided<L, R>(list: &[EitherOrBoth<L, R>]) -> bool
+    ensures { IsTrue result ↔ IsOneSided list.now }
+{
+    all_left(list) || all_right(list)
+}
+
+fn all_left<L, R>(list: &[EitherOrBoth<L, R>]) -> bool
+    ensures { IsTrue result ↔ All (λ x. is_left x ≡ true) list.now }
+{
+    list.iter().all(|value| value.is_left())
+}
+
+fn all_right<L, R>(list: &[EitherOrBoth<L, R>]) -> bool
+    ensures { IsTrue result ↔ All (λ x. is_right x ≡ true) list.now }
+{
+    list.iter().all(|value| value.is_right())
+}
+
+/// The two sides of an aligned list are the lists that were aligned. It is as long as the longer one, and at each index it has the
+/// left list's item there and the right list's, each absent past its end.
+pub fn law_aligned<L, R>()
+    ensures { AlignedLaw L R }
+{}
+
+/// Two lists are collected into equal pairs, and regrouped into equal lists, exactly where their left values and their right values
+/// agree in order.
+pub fn law_equal_pairs<L, R>()
+    ensures { EqualPairsLaw L R }
+{}
+
+/// Regrouping leaves exactly the normal lists as they are.
+pub fn law_unchanged<L, R>()
+    ensures { UnchangedLaw L R }
+{}
+
+/// Regrouping twice gives what regrouping once gives.
+pub fn law_twice<L, R>()
+    ensures { TwiceLaw L R }
+{}

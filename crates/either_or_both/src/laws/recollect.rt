@@ -1,0 +1,274 @@
+//! Pairs of containers, walked side by side and collected again into the same shape.
+//!
+//! Whatever the pair, the answer is the collected pair of its two sides: a side that is absent counts as empty, and a side that is
+//! empty is given up where the other one is not. So a pair that was collected comes back with equal contents and the same variant.
+ghost use Rattle.std.specs.Prelude.{◌≡◌, List, [], IfOk};
+ghost use Rattle.std.specs.Iterator.{IsFinite};
+ghost use Rattle.eob_both.specs.Collector.{Collects, contents_at};
+ghost use Rattle.eob_both.specs.Contents.{AreSameMembers, AreSameRisingMembers, IsSameMap, IsSameRisingMap};
+ghost use Rattle.eob_both.specs.Places.{left_place, right_place, map_places};
+ghost use Rattle.eob_both.specs.Sides.{lefts, rights, pair_of};
+ghost use Rattle.either_or_both.specs.Walked.{GivesList};
+
+use crate::EitherOrBoth;
+use indexmap::{IndexMap, IndexSet};
+use std::alloc::{AllocError, Allocator, Global};
+use std::collections::{BTreeMap, BTreeSet, HashMap, HashSet, VecDeque};
+use std::hash::{BuildHasher, Hash};
+
+// A container whose walk gives what it holds.
+trait Walked: IntoIterator {
+    // The contents of a container, as a list.
+    ghost contents: { Self → List Self.Item };
+
+    // Holds of the contents of every container, and of no contents.
+    ghost is_held: { List Self.Item → Type 0 };
+
+    ghost walks: { (c : Self) (it : Self.IntoIter) → Self.into_iter_gives c it → Self.IntoIter.can_next it × IsFinite (Self.IntoIter.remaining it) × is_held (contents c) × GivesList Self.IntoIter.next_gives it (contents c) };
+
+    ghost holds_none: { is_held [] };
+}
+
+impl<T: Drop, A: Allocator> Walked for Vec<T, A> {
+    ghost use Rattle.std.specs.Prelude.{⊤};
+    ghost use Rattle.std.specs.Vec.Iter.{into_iter_items, into_iter_steps};
+    ghost use Rattle.either_or_both.specs.Walked.{gives_list};
+
+    ghost contents = { λ c. c.items };
+
+    ghost is_held = { λ _. ⊤ };
+
+    ghost walks = { λ c it h. (tt, tt, tt, gives_list into_iter_steps into_iter_items it c.items h.0 h.3) };
+
+    ghost holds_none = { tt };
+}
+
+impl<T: Drop, A: Allocator> Walked for VecDeque<T, A> {
+    ghost use Rattle.std.specs.Prelude.{⊤};
+    ghost use Rattle.std.specs.Vec.Iter.{into_iter_items, into_iter_steps};
+    ghost use Rattle.either_or_both.specs.Walked.{gives_list};
+
+    ghost contents = { λ c. c.items };
+
+    ghost is_held = { λ _. ⊤ };
+
+    ghost walks = { λ c it h. (tt, tt, tt, gives_list into_iter_steps into_iter_items it c.items h.1 h.2) };
+
+    ghost holds_none = { tt };
+}
+
+impl<K: Hash + Eq + Drop, V: Drop, S: BuildHasher + Drop, A: Allocator> Walked
+    for HashMap<K, V, S, A> {
+    ghost use Rattle.std.specs.List.{IsDistinct};
+    ghost use Rattle.std.specs.Map.{keys_of};
+    ghost use Rattle.std.specs.Map.Iter.{TakesFirst};
+    ghost use Rattle.either_or_both.specs.Walked.{gives_list, no_key_twice};
+
+    ghost contents = { λ c. c.entries };
+
+    ghost is_held = { λ es. IsDistinct K.eq (keys_of es) };
+
+    ghost walks = { λ c it h. (tt, tt, h.4, gives_list (TakesFirst (λ x. x)) (λ s. s) it c.entries h.0 h.2) };
+
+    ghost holds_none = { no_key_twice K.eq };
+}
+
+impl<K: Hash + Eq + Drop, S: BuildHasher + Drop, A: Allocator> Walked for HashSet<K, S, A> {
+    ghost use Rattle.std.specs.List.{IsDistinct};
+    ghost use Rattle.std.specs.Map.Iter.{TakesFirst};
+    ghost use Rattle.either_or_both.specs.Walked.{gives_list, no_key_twice};
+
+    ghost contents = { λ c. c.keys };
+
+    ghost is_held = { IsDistinct K.eq };
+
+    ghost walks = { λ c it h. (tt, tt, h.3, gives_list (TakesFirst (λ x. x)) (λ s. s) it c.keys h.0 h.2) };
+
+    ghost holds_none = { no_key_twice K.eq };
+}
+
+impl<K: Hash + Eq + Drop, V: Drop, S: BuildHasher + Drop, A: Allocator> Walked
+    for IndexMap<K, V, S, A> {
+    ghost use Rattle.std.specs.List.{IsDistinct};
+    ghost use Rattle.std.specs.Map.{keys_of};
+    ghost use Rattle.std.specs.Map.Iter.{TakesFirst};
+    ghost use Rattle.either_or_both.specs.Walked.{gives_list, no_key_twice};
+
+    ghost contents = { λ c. c.entries };
+
+    ghost is_held = { λ es. IsDistinct K.eq (keys_of es) };
+
+    ghost walks = { λ c it h. (tt, tt, h.4, gives_list (TakesFirst (λ x. x)) (λ s. s) it c.entries h.0 h.2) };
+
+    ghost holds_none = { no_key_twice K.eq };
+}
+
+impl<K: Hash + Eq + Drop, S: BuildHasher + Drop, A: Allocator> Walked for IndexSet<K, S, A> {
+    ghost use Rattle.std.specs.List.{IsDistinct};
+    ghost use Rattle.std.specs.Map.Iter.{TakesFirst};
+    ghost use Rattle.either_or_both.specs.Walked.{gives_list, no_key_twice};
+
+    ghost contents = { λ c. c.keys };
+
+    ghost is_held = { IsDistinct K.eq };
+
+    ghost walks = { λ c it h. (tt, tt, h.3, gives_list (TakesFirst (λ x. x)) (λ s. s) it c.keys h.0 h.2) };
+
+    ghost holds_none = { no_key_twice K.eq };
+}
+
+impl<K: Ord + Drop, V: Drop, A: Allocator> Walked for BTreeMap<K, V, A> {
+    ghost use Rattle.std.specs.List.Sorted.{IsStrictlySortedBy};
+    ghost use Rattle.std.specs.Map.{keys_of};
+    ghost use Rattle.std.specs.Map.Iter.{TakesFirst};
+    ghost use Rattle.either_or_both.specs.Walked.{gives_list, none_rise};
+
+    ghost contents = { λ c. c.entries };
+
+    ghost is_held = { λ es. IsStrictlySortedBy K.cmp (keys_of es) };
+
+    ghost walks = { λ c it h. (tt, tt, h.5, gives_list (TakesFirst (λ x. x)) (λ s. s) it c.entries h.0 h.2) };
+
+    ghost holds_none = { none_rise K.cmp };
+}
+
+impl<K: Ord + Drop, A: Allocator> Walked for BTreeSet<K, A> {
+    ghost use Rattle.std.specs.List.Sorted.{IsStrictlySortedBy};
+    ghost use Rattle.std.specs.Map.Iter.{TakesFirst};
+    ghost use Rattle.either_or_both.specs.Walked.{gives_list, none_rise};
+
+    ghost contents = { λ c. c.keys };
+
+    ghost is_held = { IsStrictlySortedBy K.cmp };
+
+    ghost walks = { λ c it h. (tt, tt, h.4, gives_list (TakesFirst (λ x. x)) (λ s. s) it c.keys h.0 h.2) };
+
+    ghost holds_none = { none_rise K.cmp };
+}
+
+// Walks the pair and collects what comes.
+fn recollect<C: Walked, D: Walked, P: FromIterator<EitherOrBoth<C::Item, D::Item>>>(
+    alloc: P::Alloc,
+    pair: EitherOrBoth<C, D>,
+) -> Result<P, AllocError>
+    requires any { (xs : List (EitherOrBoth C.Item D.Item)) → P.can_from_iter xs }
+    requires whole { (v : P) → P.is_complete v }
+    ensures { IfOk result (λ v. (xs : List (EitherOrBoth C.Item D.Item)) × (lefts xs ≡ contents_at C.contents (left_place pair)) × (rights xs ≡ contents_at D.contents (right_place pair))
+        × C.is_held (contents_at C.contents (left_place pair)) × D.is_held (contents_at D.contents (right_place pair)) × P.from_iter_gives xs v) }
+{
+    pair.into_iter_swap().collect(alloc)
+}
+
+/// Walks a pair of vectors side by side, and collects what comes into a pair of vectors: the collected pair of its two sides.
+/// `AllocError` where a request for memory was refused; the pair that was handed in is then dropped.
+///
+/// ```
+/// let pair = recollect_vec(alloc, EitherOrBoth::Both(vec![in alloc; 1]?, Vec::<char>::new(alloc)))?;
+/// assert_eq!(rt; pair, EitherOrBoth::Left(vec![in alloc; 1]?));
+/// ```
+pub fn recollect_vec<L: Drop, R: Drop>(
+    alloc: Global,
+    pair: EitherOrBoth<Vec<L>, Vec<R>>,
+) -> Result<EitherOrBoth<Vec<L>, Vec<R>>, AllocError>
+    ensures { IfOk result (λ v. map_places (λ l. l.items) (λ r. r.items) v ≡ pair_of (contents_at (λ l. l.items) (left_place pair)) (contents_at (λ r. r.items) (right_place pair))) }
+{
+    recollect(alloc, pair)
+}
+
+/// The same of a pair of hashed maps, in whatever order they are walked: each key of a side keeps its value.
+pub fn recollect_hash_map<
+    K1: Hash + Eq + Drop,
+    V1: Drop,
+    S1: BuildHasher + Default + Drop,
+    K2: Hash + Eq + Drop,
+    V2: Drop,
+    S2: BuildHasher + Default + Drop,
+>(
+    alloc: Global,
+    pair: EitherOrBoth<HashMap<K1, V1, S1>, HashMap<K2, V2, S2>>,
+) -> Result<EitherOrBoth<HashMap<K1, V1, S1>, HashMap<K2, V2, S2>>, AllocError>
+    ensures { IfOk result (λ v. Collects (λ l. l.entries) (λ r. r.entries) (IsSameMap K1.eq) (IsSameMap K2.eq)
+        (contents_at (λ l. l.entries) (left_place pair)) (contents_at (λ r. r.entries) (right_place pair)) v) }
+{
+    recollect(alloc, pair)
+}
+
+/// The same of a pair of hashed sets, in whatever order they are walked.
+pub fn recollect_hash_set<
+    K1: Hash + Eq + Drop,
+    S1: BuildHasher + Default + Drop,
+    K2: Hash + Eq + Drop,
+    S2: BuildHasher + Default + Drop,
+>(
+    alloc: Global,
+    pair: EitherOrBoth<HashSet<K1, S1>, HashSet<K2, S2>>,
+) -> Result<EitherOrBoth<HashSet<K1, S1>, HashSet<K2, S2>>, AllocError>
+    ensures { IfOk result (λ v. Collects (λ l. l.keys) (λ r. r.keys) (AreSameMembers K1.eq) (AreSameMembers K2.eq)
+        (contents_at (λ l. l.keys) (left_place pair)) (contents_at (λ r. r.keys) (right_place pair)) v) }
+{
+    recollect(alloc, pair)
+}
+
+/// The same of a pair of maps in the order of insertion, which is kept.
+pub fn recollect_index_map<
+    K1: Hash + Eq + Drop,
+    V1: Drop,
+    S1: BuildHasher + Default + Drop,
+    K2: Hash + Eq + Drop,
+    V2: Drop,
+    S2: BuildHasher + Default + Drop,
+>(
+    alloc: Global,
+    pair: EitherOrBoth<IndexMap<K1, V1, S1>, IndexMap<K2, V2, S2>>,
+) -> Result<EitherOrBoth<IndexMap<K1, V1, S1>, IndexMap<K2, V2, S2>>, AllocError>
+    ensures { IfOk result (λ v. map_places (λ l. l.entries) (λ r. r.entries) v ≡ pair_of (contents_at (λ l. l.entries) (left_place pair)) (contents_at (λ r. r.entries) (right_place pair))) }
+{
+    recollect(alloc, pair)
+}
+
+/// The same of a pair of sets in the order of insertion, which is kept.
+pub fn recollect_index_set<
+    K1: Hash + Eq + Drop,
+    S1: BuildHasher + Default + Drop,
+    K2: Hash + Eq + Drop,
+    S2: BuildHasher + Default + Drop,
+>(
+    alloc: Global,
+    pair: EitherOrBoth<IndexSet<K1, S1>, IndexSet<K2, S2>>,
+) -> Result<EitherOrBoth<IndexSet<K1, S1>, IndexSet<K2, S2>>, AllocError>
+    ensures { IfOk result (λ v. map_places (λ l. l.keys) (λ r. r.keys) v ≡ pair_of (contents_at (λ l. l.keys) (left_place pair)) (contents_at (λ r. r.keys) (right_place pair))) }
+{
+    recollect(alloc, pair)
+}
+
+/// The same of a pair of queues.
+pub fn recollect_vec_deque<L: Drop, R: Drop>(
+    alloc: Global,
+    pair: EitherOrBoth<VecDeque<L>, VecDeque<R>>,
+) -> Result<EitherOrBoth<VecDeque<L>, VecDeque<R>>, AllocError>
+    ensures { IfOk result (λ v. map_places (λ l. l.items) (λ r. r.items) v ≡ pair_of (contents_at (λ l. l.items) (left_place pair)) (contents_at (λ r. r.items) (right_place pair))) }
+{
+    recollect(alloc, pair)
+}
+
+/// The same of a pair of maps in the order of their keys: each key of a side keeps its value.
+pub fn recollect_btree_map<K1: Ord + Drop, V1: Drop, K2: Ord + Drop, V2: Drop>(
+    alloc: Global,
+    pair: EitherOrBoth<BTreeMap<K1, V1>, BTreeMap<K2, V2>>,
+) -> Result<EitherOrBoth<BTreeMap<K1, V1>, BTreeMap<K2, V2>>, AllocError>
+    ensures { IfOk result (λ v. Collects (λ l. l.entries) (λ r. r.entries) (IsSameRisingMap K1.cmp) (IsSameRisingMap K2.cmp)
+        (contents_at (λ l. l.entries) (left_place pair)) (contents_at (λ r. r.entries) (right_place pair)) v) }
+{
+    recollect(alloc, pair)
+}
+
+/// The same of a pair of sets in the order of their values.
+pub fn recollect_btree_set<K1: Ord + Drop, K2: Ord + Drop>(
+    alloc: Global,
+    pair: EitherOrBoth<BTreeSet<K1>, BTreeSet<K2>>,
+) -> Result<EitherOrBoth<BTreeSet<K1>, BTreeSet<K2>>, AllocError>
+    ensures { IfOk result (λ v. Collects (λ l. l.keys) (λ r. r.keys) (AreSameRisingMembers K1.cmp) (AreSameRisingMembers K2.cmp)
+        (contents_at (λ l. l.keys) (left_place pair)) (contents_at (λ r. r.keys) (right_place pair)) v) }
+{
+    recollect(alloc, pair)
+}
