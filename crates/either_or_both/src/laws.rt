@@ -6,6 +6,7 @@ mod drive;
 mod normal;
 mod recollect;
 mod results;
+mod walks;
 
 pub use drive::{Driven, End, drive_chain, drive_items, drive_swap, law_whole_walk};
 pub use eob_both::laws::{
@@ -19,10 +20,6 @@ pub use recollect::{
     recollect_index_map, recollect_index_set, recollect_vec, recollect_vec_deque,
 };
 pub use results::law_results;
-//! Laws: functions that do nothing, whose contracts hold of all lists and iterators. A caller calls one to learn it.
-
-mod walks;
-
 pub use walks::{
     law_held_swap_len, law_held_swap_next, law_held_swap_next_back, law_held_swap_to_come,
     law_inner_len, law_inner_next, law_inner_next_back, law_inner_to_come,

@@ -29,7 +29,7 @@ use Rattle.eob_both.proofs.SwapLemmas.{swap_to_come}
 use Rattle.eob_both.proofs.ChainLemmas.{chain_to_come}
 use Rattle.eob_both.proofs.StdEnds.{vec_ends, vec_to_come, slice_ends, slice_to_come, range_ends, range_to_come, once_ends, once_to_come, deque_ends, deque_to_come, rev_ends, rev_to_come, ref_to}
 use Rattle.eob_both.proofs.EndsLemmas.{to_come_over, to_come_same, to_come_uncounted}
-use Rattle.either_or_both.proofs.ItemsLemmas.{items_ends, items_to_come}
+use Rattle.either_or_both.proofs.ShownLemmas.{shown_ends, shown_to_come}
 
 -- the list of a place, which is empty where the place is absent
 abbrev pub listed_at : {X A : Type 0} → (X → List A) → Option X → List A
@@ -92,8 +92,8 @@ pub chain_comes : {S A : Type 0} (it : Ends S A) (v : A → A) (rest : S → Lis
 chain_comes it v rest f s = chain_to_come it v _ _ s (side_comes_bounded it v rest f (chain_left s)) (side_comes_bounded it v rest f (chain_right s))
 
 -- the walk over the one or two values of a value
-pub values_come : {T : Type 0} (v : EitherOrBoth T T) (s : IntoIterEitherOrBoth T) → values_left s ≡ values_of v → CountedToCome items_ends (λ x. x) (values_of v) s
-values_come v s e = rw (← e) (items_to_come s)
+pub values_come : {T : Type 0} (v : EitherOrBoth T T) (s : IntoIterEitherOrBoth T) → values_left s ≡ values_of v → CountedToCome (shown_ends values_left) (λ x. x) (values_of v) s
+values_come v s e = rw (← e) (shown_to_come values_left s)
 
 -- a list that is counted is bounded
 pub uncounted : {S A : Type 0} (it : Ends S A) (view : A → A) (rest : S → List A) → ((s : S) → CountedToCome it view (rest s) s) → (s : S) → StillToCome it view (rest s) s

@@ -14,7 +14,7 @@ ghost use Rattle.eob_both.specs.Swap.{swap_left, swap_right};
 ghost use Rattle.eob_both.specs.Values.{values_left};
 ghost use Rattle.eob_both.proofs.StdEnds.{once_to_come, range_rest, range_to_come, ref_to, vec_to_come};
 ghost use Rattle.eob_listing.specs.Listed.{chain_comes, deque_to_come_by_ref, listed_at, place_as_is, rev_comes, rev_counts, same_ref, slice_to_come_by_ref, uncounted, walk_comes};
-ghost use Rattle.either_or_both.proofs.ItemsLemmas.{items_to_come};
+ghost use Rattle.either_or_both.proofs.ShownLemmas.{shown_to_come};
 
 use either_or_both::iter::{ChainedIterEitherOrBoth, IntoIterEitherOrBoth, SwapIterEitherOrBoth};
 use std::alloc::Allocator;
@@ -154,11 +154,11 @@ impl<T: Drop> ListedIter for IntoIterEitherOrBoth<T> {
 
     ghost rest = { values_left };
 
-    ghost has_rest = { uncounted _ (λ x. x) values_left items_to_come };
+    ghost has_rest = { uncounted _ (λ x. x) values_left (shown_to_come values_left) };
 }
 
 impl<T: Drop> CountedIter for IntoIterEitherOrBoth<T> {
-    ghost counts_rest = { items_to_come };
+    ghost counts_rest = { shown_to_come values_left };
 }
 
 impl<T: Drop> OwnIter for IntoIterEitherOrBoth<T> {

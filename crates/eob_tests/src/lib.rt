@@ -17,6 +17,8 @@ mod conversions;
 #[cfg(test)]
 mod counted;
 #[cfg(test)]
+mod ends;
+#[cfg(test)]
 mod forms;
 #[cfg(test)]
 mod getters;

@@ -1,6 +1,6 @@
 //! Tests: the paired walk and the chain of `EitherOrBoth`, from both ends, what they ask of their sides, and their hints.
 
-mod sides;
+pub mod sides;
 
 use either_or_both::EitherOrBoth;
 use either_or_both::EitherOrBoth::{Both, Left, Right};

@@ -1,5 +1,6 @@
 //! Sides of a walk made for tests: one that counts how often it is asked, and one whose hint is known.
 
+use eob_listing::listing::{CountedListing, Listing, OwnListing};
 use std::cell::Cell;
 use std::iter::FusedIterator;
 
@@ -44,10 +45,11 @@ impl<'a, T> Counting<'a, T> {
 impl<'a, T: Copy> Iterator for Counting<'a, T> {
     type Item = T;
 
-    ghost use Rattle.std.specs.Prelude.{length};
-    ghost use Rattle.std.specs.Iterator.{at_most};
+    ghost use Rattle.std.specs.Iterator.{item_count, YieldsFirst};
 
-    ghost remaining = { λ s. at_most (length s.rest.now) };
+    ghost next_gives = { YieldsFirst (λ s. s.rest.now) };
+
+    ghost remaining = { item_count (λ s. s.rest.now) };
 
     fn next(&mut self) -> Option<T> {
         count(&self.asked.next);
@@ -62,6 +64,10 @@ impl<'a, T: Copy> Iterator for Counting<'a, T> {
 }
 
 impl<'a, T: Copy> DoubleEndedIterator for Counting<'a, T> {
+    ghost use Rattle.std.specs.Iterator.{YieldsLast};
+
+    ghost next_back_gives = { YieldsLast (λ s. s.rest.now) };
+
     fn next_back(&mut self) -> Option<T> {
         count(&self.asked.next_back);
         let (last, rest) = self.rest.split_last()?;
@@ -77,6 +83,31 @@ impl<'a, T: Copy> ExactSizeIterator for Counting<'a, T> {
 }
 
 impl<'a, T: Copy> FusedIterator for Counting<'a, T> {}
+
+// It has its list still to come, as a driver asks of the sides of its walk.
+impl<'a, T: Copy> Listing for Counting<'a, T> {
+    ghost use Rattle.eob_listing.specs.Listed.{at_same, uncounted_walk};
+    ghost use Rattle.either_or_both.proofs.ShownLemmas.{shown_to_come};
+
+    ghost view = { λ x. x };
+
+    ghost listed = { λ s. s.rest.now };
+
+    ghost comes = { uncounted_walk _ _ (λ x. x) (λ s. s.rest.now) (at_same _ _ (λ x. x) _ (shown_to_come (λ s. s.rest.now))) };
+}
+
+impl<'a, T: Copy> CountedListing for Counting<'a, T> {
+    ghost use Rattle.eob_listing.specs.Listed.{at_same};
+    ghost use Rattle.either_or_both.proofs.ShownLemmas.{shown_to_come};
+
+    ghost counts = { at_same _ _ (λ x. x) _ (shown_to_come (λ s. s.rest.now)) };
+}
+
+impl<'a, T: Copy> OwnListing for Counting<'a, T> {
+    ghost use Rattle.std.specs.Prelude.{refl};
+
+    ghost as_is = { λ x. refl };
+}
 
 /// A side whose hint is known: endless, or with a number of items left, which a vague one tells as an upper bound alone.
 #[derive(Debug, Clone, Copy)]
