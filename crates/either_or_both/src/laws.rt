@@ -5,6 +5,8 @@
 mod drive;
 mod normal;
 mod recollect;
+#[cfg(test)]
+mod refused;
 mod results;
 
 pub use drive::{Driven, End, drive_chain, drive_items, drive_swap, law_whole_walk};

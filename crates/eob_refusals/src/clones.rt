@@ -1,9 +1,8 @@
 //! Clones of both enums and of their walks, and clones of what references show.
 
-use crate::tokens::Tokens;
 use either_or_both::EitherOrBoth::{Both, Left, Right};
 use either_or_both::{Either, EitherOrBoth};
-use refusing::Refusing;
+use refusing::{RUNS, Refusing, Tokens};
 use std::alloc::{AllocError, Global};
 use std::fmt::Debug;
 use std::process::Abort;
@@ -13,9 +12,6 @@ use std::test::Fail;
 type Memory<'a> = &'a Refusing<Global>;
 
 type List<'a> = Vec<Rc<u8>, Memory<'a>>;
-
-// The runs that a test makes before it gives up.
-const RUNS: u64 = 99;
 
 fn shown<T: Debug>(alloc: Global, value: &T) -> Result<String, AllocError> {
     format!(in alloc; "{value:?}")

@@ -29,7 +29,7 @@ pub fn regroup<L: Drop, R: Drop>(
 }
 
 // The same, with memory of any allocator.
-fn regroup_in<L: Drop, R: Drop, A: Allocator + Copy>(
+pub(super) fn regroup_in<L: Drop, R: Drop, A: Allocator + Copy>(
     alloc: A,
     list: Vec<EitherOrBoth<L, R>, A>,
 ) -> Result<Vec<EitherOrBoth<L, R>, A>, AllocError>
