@@ -95,6 +95,27 @@ fn of_values_and_walks(rt: HostRuntime) -> Result<(), Fail> {
         alloc,
         m,
         t,
+        Either::<List>::Left(list(m, t)?).into_iter(),
+    )?;
+    check(
+        &rt,
+        alloc,
+        m,
+        t,
+        Either::<List>::Right(list(m, t)?).into_iter_inner(),
+    )?;
+    check(
+        &rt,
+        alloc,
+        m,
+        t,
+        Either::<List>::Left(list(m, t)?).into_iter_swap(),
+    )?;
+    check(
+        &rt,
+        alloc,
+        m,
+        t,
         Both(list(m, t)?, list(m, t)?).into_iter_swap(),
     )
 }
