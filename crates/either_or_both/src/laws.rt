@@ -5,6 +5,8 @@
 mod drive;
 mod normal;
 mod recollect;
+#[cfg(test)]
+mod refused;
 mod results;
 mod walks;
 

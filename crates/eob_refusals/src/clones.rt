@@ -1,9 +1,8 @@
 //! Clones of both enums and of their walks, and clones of what references show.
 
-use crate::tokens::Tokens;
 use either_or_both::EitherOrBoth::{Both, Left, Right};
 use either_or_both::{Either, EitherOrBoth};
-use refusing::Refusing;
+use refusing::{RUNS, Refusing, Tokens};
 use std::alloc::{AllocError, Global};
 use std::fmt::Debug;
 use std::process::Abort;
@@ -13,9 +12,6 @@ use std::test::Fail;
 type Memory<'a> = &'a Refusing<Global>;
 
 type List<'a> = Vec<Rc<u8>, Memory<'a>>;
-
-// The runs that a test makes before it gives up.
-const RUNS: u64 = 99;
 
 fn shown<T: Debug>(alloc: Global, value: &T) -> Result<String, AllocError> {
     format!(in alloc; "{value:?}")
@@ -93,6 +89,27 @@ fn of_values_and_walks(rt: HostRuntime) -> Result<(), Fail> {
         m,
         t,
         Both(list(m, t)?, list(m, t)?).into_iter_chain(),
+    )?;
+    check(
+        &rt,
+        alloc,
+        m,
+        t,
+        Either::<List>::Left(list(m, t)?).into_iter(),
+    )?;
+    check(
+        &rt,
+        alloc,
+        m,
+        t,
+        Either::<List>::Right(list(m, t)?).into_iter_inner(),
+    )?;
+    check(
+        &rt,
+        alloc,
+        m,
+        t,
+        Either::<List>::Left(list(m, t)?).into_iter_swap(),
     )?;
     check(
         &rt,

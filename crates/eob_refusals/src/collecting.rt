@@ -2,11 +2,10 @@
 
 ghost use Rattle.std.specs.Prelude.{List};
 
-use crate::tokens::Tokens;
 use either_or_both::EitherOrBoth::{Both, Left, Right};
 use either_or_both::{Either, EitherOrBoth};
 use indexmap::{IndexMap, IndexSet};
-use refusing::{Refusing, Source, Watch};
+use refusing::{RUNS, Refusing, Source, Tokens, Watch};
 use std::alloc::{AllocError, Global};
 use std::collections::{BTreeMap, BTreeSet, HashMap, HashSet, VecDeque};
 use std::fmt::Debug;
@@ -18,9 +17,6 @@ use std::test::Fail;
 type Memory<'a> = &'a Refusing<Global>;
 
 type Hasher = BuildHasherDefault<FoldHasher>;
-
-// The runs that a test makes before it gives up.
-const RUNS: u64 = 99;
 
 // Collects the items with each request refused in turn. A refused run asks the source no more, the run that meets no refusal
 // answers `want`, and each drops what it took.

@@ -1,15 +1,11 @@
 //! Containers in an `Either` that grow.
 
-use crate::tokens::Tokens;
 use either_or_both::Either;
-use refusing::{Refusing, Source, Watch};
+use refusing::{RUNS, Refusing, Source, Tokens, Watch};
 use std::alloc::Global;
 use std::process::Abort;
 use std::rc::Rc;
 use std::test::Fail;
-
-// The runs that a test makes before it gives up.
-const RUNS: u64 = 99;
 
 // Extends a vector on one side with each request and all after it refused in turn. The side is kept and holds what it held, and a
 // beginning of the items.

@@ -11,5 +11,3 @@ mod clones;
 mod collecting;
 #[cfg(test)]
 mod extending;
-#[cfg(test)]
-mod tokens;

@@ -1,14 +1,21 @@
 //! For tests alone: memory of which a chosen request is refused, and what the tests of refused requests share.
 //!
 //! [`Refusing`] is the allocator. Lent as a `&Refusing<_>` it is `Copy`, and what is built with it keeps asking it. [`Source`] gives
-//! items and sees whether it is asked after a refusal.
+//! items and sees whether it is asked after a refusal, and [`Tokens`] are values of which each that is alive is counted.
 #![tactic(auto)]
 
+mod runs;
 mod source;
+mod tokens;
 
+pub use runs::Runs;
 pub use source::{Source, Watch};
 use std::alloc::{AllocError, Allocator};
 use std::cell::Cell;
+pub use tokens::Tokens;
+
+/// How many runs a test makes at most, before it gives up.
+pub const RUNS: u64 = 99;
 
 // Counts the requests, and refuses the one with a given number.
 #[derive(Drop)]
@@ -125,4 +132,8 @@ pub enum Wrong {
     AskedOn,
     /// It asked for no memory, so that none could be refused.
     NeverAsked,
+    /// Its whole answer is another one.
+    Differs,
+    /// It kept a value that it was to drop, or dropped one that it was not to.
+    Kept,
 }

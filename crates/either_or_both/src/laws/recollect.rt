@@ -17,7 +17,7 @@ use std::collections::{BTreeMap, BTreeSet, HashMap, HashSet, VecDeque};
 use std::hash::{BuildHasher, Hash};
 
 // A container whose walk gives what it holds.
-trait Walked: IntoIterator {
+pub(super) trait Walked: IntoIterator {
     // The contents of a container, as a list.
     ghost contents: { Self → List Self.Item };
 
@@ -147,7 +147,7 @@ impl<K: Ord + Drop, A: Allocator> Walked for BTreeSet<K, A> {
 }
 
 // Walks the pair and collects what comes.
-fn recollect<C: Walked, D: Walked, A: Allocator>(
+pub(super) fn recollect<C: Walked, D: Walked, A: Allocator>(
     alloc: A,
     pair: EitherOrBoth<C, D>,
 ) -> Result<EitherOrBoth<C, D>, AllocError>
