@@ -1,8 +1,11 @@
 //! From a command, or from the number of a bad line, to its answer.
 ghost use Rattle.eob_walk.specs.Growth.{Extends};
 
+mod joins;
+
 use crate::line::{Command, Sides};
 use either_or_both::EitherOrBoth;
+use joins::append_join;
 use std::alloc::{AllocError, Allocator};
 
 /// Appends the answer to a command.
@@ -39,6 +42,7 @@ fn append_text<A: Allocator>(
 {
     match command {
         Command::Collect(sides) => append_sides(output, sides),
+        Command::Join(joined) => append_join(output, joined),
     }
 }
 

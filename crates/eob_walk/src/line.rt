@@ -5,7 +5,10 @@
 ghost use Rattle.std.specs.Prelude.{◌↔◌, IsTrue};
 ghost use Rattle.eob_walk.specs.Names.{IsName, IsNameByte};
 
+mod joins;
+
 use either_or_both::EitherOrBoth;
+use joins::{Joined, parse_join};
 use std::alloc::{AllocError, Allocator};
 
 /// The words of two sides, collected from the items of a line.
@@ -16,6 +19,8 @@ pub type Sides<'a, A> = EitherOrBoth<Vec<&'a [u8], A>, Vec<&'a [u8], A>>;
 pub enum Command<'a, A: Allocator> {
     /// `collect ITEM..`: its items, collected into vectors.
     Collect(Sides<'a, A>),
+    /// `join K=V.. / K=V..`: the join of its two tables.
+    Join(Joined<'a, A>),
 }
 
 /// The command of a line, or None where the line is bad.
@@ -34,6 +39,10 @@ pub fn parse_line<'a, A: Allocator + Copy>(
                 None => Ok(None),
             }
         }
+        Some(b"join") => match parse_join(alloc, words)? {
+            Some(joined) => Ok(Some(Command::Join(joined))),
+            None => Ok(None),
+        },
         _ => Ok(None),
     }
 }

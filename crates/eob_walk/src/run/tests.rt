@@ -1,5 +1,7 @@
 //! What the program writes for its input, and how a run ends over streams that give little, take little or fail.
 
+mod joins;
+
 use super::{Outcome, run};
 use std::alloc::{AllocError, Global};
 use std::cell::Cell;
