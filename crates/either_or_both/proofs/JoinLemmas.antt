@@ -201,6 +201,7 @@ module _ {K : Type 0} (cmp : K → K → Ordering) where
         (ap (λ n. cond (is_some (value_under cmp ys x.0)) 1 0 + n) (skipped y ys xs (up_weaker cmp (λ k. cmp x.0 k ≡ Less) (λ k. cmp y.0 k ≡ Less) (λ k l. o.trans y.0 x.0 k h.0 l) xs h.1)))
 
     shared_is : {A B : Type 0} (xs : List (K × A)) (ys : List (K × B)) → shared_keys cmp xs ys ≡ shared xs ys
+    unfolding shared_keys
     shared_is [] ys = refl
     shared_is (x ∷ xs) ys = sum_by-cons (λ z. cond (is_some (value_under cmp ys z.0)) 1 0) x xs ∙ ap (λ n. cond (is_some (value_under cmp ys x.0)) 1 0 + n) (shared_is xs ys)
 

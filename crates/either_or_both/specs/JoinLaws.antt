@@ -30,7 +30,7 @@ AllBoth zs = All (λ z. IsSome (left_place z.1) × IsSome (right_place z.1)) zs
 
 module _ {K : Type 0} (cmp : K → K → Ordering) where
   -- how many keys of p are keys of q too
-  abbrev pub shared_keys : {A B : Type 0} → List (K × A) → List (K × B) → ℕ
+  unfoldable pub shared_keys : {A B : Type 0} → List (K × A) → List (K × B) → ℕ
   shared_keys p q = count_by (λ x. is_some (value_under cmp q x.0)) p
 
   -- zs has a lone left value for each key of p alone, a lone right value for each key of q alone, and Both for each key of both

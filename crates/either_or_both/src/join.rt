@@ -94,12 +94,12 @@ pub fn outer_join_in<K: Ord + Drop, A: Drop, B: Drop, M: Allocator>(
                     },
                 },
                 None => match left.pop_front() {
-                    Some((key, a)) => joined.push((key, EitherOrBoth::Left(a)))?,
+                    Some((key, rest)) => joined.push((key, EitherOrBoth::Left(rest)))?,
                     None => unreachable!(),
                 },
             },
             None => match right.pop_front() {
-                Some((key, b)) => joined.push((key, EitherOrBoth::Right(b)))?,
+                Some((key, rest)) => joined.push((key, EitherOrBoth::Right(rest)))?,
                 None => return Ok(joined),
             },
         }

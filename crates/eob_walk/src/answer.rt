@@ -2,10 +2,12 @@
 ghost use Rattle.eob_walk.specs.Growth.{Extends};
 
 mod items;
+mod joins;
 
 use crate::line::{Command, Sides};
 use either_or_both::EitherOrBoth;
 use items::{append_answers, append_items};
+use joins::append_join;
 use std::alloc::{AllocError, Allocator};
 
 /// Appends the answer to a command.
@@ -48,6 +50,7 @@ fn append_text<A: Allocator + Clone>(
         Command::Normal(true) => output.extend_from_slice(b"yes"),
         Command::Normal(false) => output.extend_from_slice(b"no"),
         Command::Ends(answers, rest) => append_answers(alloc, output, answers, *rest),
+        Command::Join(joined) => append_join(output, joined),
     }
 }
 

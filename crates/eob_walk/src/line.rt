@@ -5,10 +5,12 @@
 ghost use Rattle.std.specs.Prelude.{◌↔◌, IsTrue};
 ghost use Rattle.eob_walk.specs.Names.{IsName, IsNameByte};
 
+mod joins;
 mod walks;
 
 use either_or_both::EitherOrBoth;
 use either_or_both::laws::{is_normal, regroup_in};
+use joins::{Joined, parse_join};
 use std::alloc::{AllocError, Allocator};
 use walks::{parse_ends, parse_items};
 
@@ -32,6 +34,8 @@ pub enum Command<'a, A: Allocator> {
     Normal(bool),
     /// `ends FB ITEM..`: what the paired walk over its collected items answers to calls of its ends, and how many items it has left.
     Ends(Vec<Option<Item<'a>>, A>, usize),
+    /// `join K=V.. / K=V..`: the join of its two tables.
+    Join(Joined<'a, A>),
 }
 
 /// The command of a line, or None where the line is bad.
@@ -60,6 +64,10 @@ pub fn parse_line<'a, A: Allocator + Copy>(
         },
         Some(b"ends") => match words.next() {
             Some(calls) => parse_ends(alloc, calls, words),
+            None => Ok(None),
+        },
+        Some(b"join") => match parse_join(alloc, words)? {
+            Some(joined) => Ok(Some(Command::Join(joined))),
             None => Ok(None),
         },
         _ => Ok(None),

@@ -1,10 +1,14 @@
 //! Uses of the full outer join: reports on two versions of a table, layered settings, and joins of many kinds of source.
-ghost use Rattle.std.specs.Prelude.{◌≡◌, IfOk};
+ghost use Rattle.std.specs.Prelude.{◌≡◌, ◌-◌, IfOk, count_by, false, is_none, is_some, map, option_map, unwrap_or};
+ghost use Rattle.std.specs.Option.{option_zip};
+ghost use Rattle.either_or_both.specs.Places.{MatchPlaces, left_place, right_place};
 ghost use Rattle.either_or_both.specs.Join.{IsJoin, Rising};
+ghost use Rattle.either_or_both.specs.JoinLaws.{deref_joined};
 
 use either_or_both::EitherOrBoth;
-use either_or_both::join::outer_join_lazily;
+use either_or_both::join::{law_sorted_rises, outer_join_lazily, outer_join_slices};
 use std::alloc::{AllocError, Global};
+use std::collections::BTreeMap;
 
 /// The join of two lists, through the walk.
 pub fn walk_of_lists<K: Ord + Drop, A: Drop, B: Drop>(
@@ -17,4 +21,110 @@ pub fn walk_of_lists<K: Ord + Drop, A: Drop, B: Drop>(
     ensures { IfOk result (λ joined. IsJoin K.cmp left.items right.items joined.items) }
 {
     outer_join_lazily(left, right).collect(alloc)
+}
+
+/// The join of two ordered maps, whose entries rise by their own contract.
+pub fn walk_of_maps<K: Ord + Drop, A: Drop, B: Drop>(
+    alloc: Global,
+    left: BTreeMap<K, A>,
+    right: BTreeMap<K, B>,
+) -> Result<Vec<(K, EitherOrBoth<A, B>)>, AllocError>
+    ensures { IfOk result (λ joined. IsJoin K.cmp left.entries right.entries joined.items) }
+{
+    law_sorted_rises::<K, A>();
+    law_sorted_rises::<K, B>();
+    outer_join_lazily(left, right).collect(alloc)
+}
+
+/// The join of two slices that stay as they are.
+pub fn walk_of_slices<'a, K: Ord, A, B>(
+    alloc: Global,
+    left: &'a [(K, A)],
+    right: &'a [(K, B)],
+) -> Result<Vec<(&'a K, EitherOrBoth<&'a A, &'a B>)>, AllocError>
+    requires left { Rising K.cmp left.now }
+    requires right { Rising K.cmp right.now }
+    ensures { IfOk result (λ joined. IsJoin K.cmp left.now right.now (map deref_joined joined.items)) }
+{
+    outer_join_slices(left, right).collect(alloc)
+}
+
+/// How many keys of a table were added, removed, changed and left as they were.
+#[derive(Debug, Clone, Copy, PartialEq, Eq)]
+pub struct ChangeCounts {
+    pub added: usize,
+    pub removed: usize,
+    pub changed: usize,
+    pub same: usize,
+}
+
+/// How many keys stand in the right list alone.
+pub fn count_added<K, V>(joined: &[(K, EitherOrBoth<V, V>)]) -> usize
+    ensures { result ≡ count_by (λ row. is_none (left_place row.1)) joined.now }
+{
+    joined.iter().filter(|row| row.1.is_right()).count()
+}
+
+/// How many keys stand in the left list alone.
+pub fn count_removed<K, V>(joined: &[(K, EitherOrBoth<V, V>)]) -> usize
+    ensures { result ≡ count_by (λ row. is_none (right_place row.1)) joined.now }
+{
+    joined.iter().filter(|row| row.1.is_left()).count()
+}
+
+/// How many keys stand in both lists.
+pub fn count_shared<K, V>(joined: &[(K, EitherOrBoth<V, V>)]) -> usize
+    ensures { result ≡ count_by (λ row. is_some (option_zip (left_place row.1) (right_place row.1))) joined.now }
+{
+    joined.iter().filter(|row| row.1.is_both()).count()
+}
+
+// Whether a key has the same value in both lists.
+fn is_same<V: Eq>(cells: &EitherOrBoth<V, V>) -> bool
+    ensures { result ≡ unwrap_or (option_map (λ v. V.eq v.0 v.1) (option_zip (left_place cells.now) (right_place cells.now))) false }
+{
+    cells.as_ref().is_both_and(|old, new| old == new)
+}
+
+/// How many keys have the same value in both lists.
+pub fn count_same<K, V: Eq>(joined: &[(K, EitherOrBoth<V, V>)]) -> usize
+    ensures { result ≡ count_by (λ row. unwrap_or (option_map (λ v. V.eq v.0 v.1) (option_zip (left_place row.1) (right_place row.1))) false) joined.now }
+{
+    joined.iter().filter(|row| is_same(&row.1)).count()
+}
+
+/// The counts of a join of an old version with a new one.
+pub fn tally<K, V: Eq>(joined: &[(K, EitherOrBoth<V, V>)]) -> ChangeCounts
+    ensures added { result.added ≡ count_by (λ row. is_none (left_place row.1)) joined.now }
+    ensures removed { result.removed ≡ count_by (λ row. is_none (right_place row.1)) joined.now }
+    ensures changed { result.changed ≡ count_by (λ row. is_some (option_zip (left_place row.1) (right_place row.1))) joined.now - result.same }
+{
+    let same = count_same(joined);
+    ChangeCounts {
+        added: count_added(joined),
+        removed: count_removed(joined),
+        changed: count_shared(joined).saturating_sub(same),
+        same,
+    }
+}
+
+/// The setting that holds: the user's if he has made one, and else the site's.
+pub fn setting<V: Drop>(layers: EitherOrBoth<V, V>) -> V
+    ensures { MatchPlaces layers (λ _ user. result ≡ user) (λ site. result ≡ site) (λ user. result ≡ user) }
+{
+    layers.reduce_right(|site| site)
+}
+
+/// Settings by key, those of the user over those of the site.
+pub fn settings<K: Ord + Drop, V: Drop>(
+    alloc: Global,
+    site: Vec<(K, V)>,
+    user: Vec<(K, V)>,
+) -> Result<Vec<(K, V)>, AllocError>
+    requires site { Rising K.cmp site.items }
+    requires user { Rising K.cmp user.items }
+{
+    outer_join_lazily(site, user)
+        .map(|(key, layers)| (key, setting(layers)))
+        .collect(alloc)
 }

@@ -40,9 +40,9 @@ pub fn append_answers<A: Allocator + Clone>(
     output.extend_from_slice(left.as_bytes())
 }
 
-// Appends an item as the line has it, `l:W`, `r:W` or `b:W:W`, after a space where it is parted from another.
+/// Appends an item as the line has it, `l:W`, `r:W` or `b:W:W`, after a space where it is parted from another.
 #[tactic(auto, using(crate::proofs::GrowthLemmas::extends_trans))]
-fn append_item<A: Allocator>(
+pub(super) fn append_item<A: Allocator>(
     output: &mut Vec<u8, A>,
     parted: bool,
     item: &Item,

@@ -1,5 +1,7 @@
 //! What the program writes for its input, and how a run ends over streams that give little, take little or fail.
 
+mod joins;
+
 use super::{Outcome, run, run_in};
 use refusing::Refusing;
 use std::alloc::{AllocError, Global};
@@ -31,10 +33,18 @@ impl<'a> Read for Source<'a> {
     }
 }
 
+// A line of each command, a bad one among them, and what they are answered.
+const LINES: &[u8] =
+    b"collect l:1\nwalk l:1 r:a\n\nnormal b:1:a\nends fb l:1 l:2\njoin a=1 / b=2\ncollect b:a:b\n";
+
+const ANSWERS: &str =
+    "Left [1]\nb:1:a\nline 3: bad\nyes\nl:1 l:2 left 0\na=l:1 b=r:2\nBoth [a] [b]\n";
+
 // What a writer does with bytes that it has no room for.
 #[derive(Clone, Copy)]
 enum Full {
     Fails,
+    IsInterrupted,
     TakesNone,
 }
 
@@ -68,6 +78,7 @@ impl Write for Sink {
         let count = self.step.min(buf.len()).min(room);
         match self.full {
             Full::Fails if count == 0 => Err(io::Error::from(ErrorKind::StorageFull)),
+            Full::IsInterrupted if count == 0 => Err(io::Error::from(ErrorKind::Interrupted)),
             _ => {
                 self.taken.extend_from_slice(&buf[..count])?;
                 Ok(count)
@@ -86,7 +97,7 @@ impl Write for Sink {
 
 #[test]
 fn answers_lines(rt: HostRuntime) -> Result<(), Fail> {
-    let rows: [(&[u8], &str, u8); 16] = [
+    let rows: [(&[u8], &str, u8); 20] = [
         (b"collect b:1:c l:2\n", "Both [1 2] [c]\n", 0),
         (b"collect\n", "Both [] []\n", 0),
         (b"", "", 0),
@@ -97,9 +108,25 @@ fn answers_lines(rt: HostRuntime) -> Result<(), Fail> {
             "line 1: bad\nline 2: bad\nline 3: bad\n",
             2,
         ),
+        (b"walk l:1 r:a l:2\nwalk\n", "b:1:a l:2\n-\n", 0),
         (
-            b"walk l:1\ncollect r:a b:2:b\n",
-            "line 1: bad\nBoth [2] [a b]\n",
+            b"normal l:1 r:a l:2\nnormal b:1:a r:c\nnormal\n",
+            "no\nyes\nyes\n",
+            0,
+        ),
+        (
+            b"ends bfbf l:1 r:a l:2 l:3\n",
+            "l:3 b:1:a l:2 . left 0\n",
+            0,
+        ),
+        (
+            b"ends f\nends b l:1 r:a r:c\nends l:1\n",
+            ". left 0\nr:c left 1\nline 3: bad\n",
+            2,
+        ),
+        (
+            b"ends\nends fx l:1\nends b x\nwalk l:\nnormal b:1\nwalks\n",
+            "line 1: bad\nline 2: bad\nline 3: bad\nline 4: bad\nline 5: bad\nline 6: bad\n",
             2,
         ),
         (b"collect l:1\ncollect r:2\n", "Left [1]\nRight [2]\n", 0),
@@ -151,12 +178,12 @@ fn answers_lines(rt: HostRuntime) -> Result<(), Fail> {
 
 #[test]
 fn stops_where_writer_does(rt: HostRuntime) -> Result<(), Fail> {
-    let output = b"Left [1]\nline 2: bad\nBoth [a] [b]\n";
+    let output = ANSWERS.as_bytes();
     for room in 0..output.len() {
-        for full in [Full::Fails, Full::TakesNone] {
+        for full in [Full::Fails, Full::IsInterrupted, Full::TakesNone] {
             for step in [1, usize::MAX] {
                 let mut reader = Source {
-                    rest: b"collect l:1\n\ncollect b:a:b\n",
+                    rest: LINES,
                     step,
                     failure: None,
                 };
@@ -173,28 +200,54 @@ fn stops_where_writer_does(rt: HostRuntime) -> Result<(), Fail> {
     Ok(())
 }
 
-#[test]
-fn stops_where_read_or_last_flush_fails(rt: HostRuntime) -> Result<(), Fail> {
-    let rows: [(&[u8], &str); 4] = [
-        (b"", ""),
-        (b"collect l:1\ncoll", "Left [1]\n"),
-        (b"collect l:1\n", "Left [1]\n"),
-        (b"x\n", "line 1: bad\n"),
-    ];
-    for (input, output) in rows {
-        for kind in [ErrorKind::Interrupted, ErrorKind::Other] {
-            let mut reader = Source {
-                rest: input,
-                step: usize::MAX,
-                failure: Some(kind),
-            };
-            let mut writer = Sink::new(rt.alloc(), usize::MAX);
-            let outcome = run(rt.alloc(), &mut reader, &mut writer);
-            assert_eq!(rt; outcome, Outcome::Io, "a read: {output}");
-            assert_eq!(rt; writer.taken.as_slice(), output.as_bytes());
-            assert_eq!(rt; writer.flushes, 0);
+// How many bytes the first lines of a text have.
+fn lines_len(text: &[u8], lines: usize) -> usize {
+    let mut left = lines;
+    for (place, byte) in text.iter().enumerate() {
+        if left == 0 {
+            return place;
+        }
+        if *byte == b'\n' {
+            left = left.saturating_sub(1);
         }
     }
+    text.len()
+}
+
+// A run over a beginning of the lines, after which a read fails.
+fn fails_after(rt: &impl Abort, alloc: Global, input: &[u8], kind: ErrorKind, step: usize) {
+    let lines = input.iter().filter(|byte| **byte == b'\n').count();
+    let whole = lines_len(ANSWERS.as_bytes(), lines);
+    let mut reader = Source {
+        rest: input,
+        step,
+        failure: Some(kind),
+    };
+    let mut writer = Sink::new(alloc, usize::MAX);
+    let outcome = run(alloc, &mut reader, &mut writer);
+    assert_eq!(rt; outcome, Outcome::Io, "{lines}");
+    assert_eq!(rt;
+        Some(writer.taken.as_slice()),
+        ANSWERS.as_bytes().get(..whole),
+        "{lines}"
+    );
+    assert_eq!(rt; writer.flushes, 0, "{lines}");
+}
+
+/// After a failed read, which an interrupted one is too, the lines that were complete are answered, and no more.
+#[test]
+fn stops_where_read_fails(rt: HostRuntime) {
+    for cut in 0..LINES.len() {
+        let input = LINES.get(..cut).unwrap_or(b"");
+        for kind in [ErrorKind::Interrupted, ErrorKind::Other] {
+            fails_after(&rt, rt.alloc(), input, kind, 1);
+            fails_after(&rt, rt.alloc(), input, kind, usize::MAX);
+        }
+    }
+}
+
+#[test]
+fn stops_where_last_flush_fails(rt: HostRuntime) -> Result<(), Fail> {
     let rows: [(&[u8], &str); 3] = [
         (b"", ""),
         (b"collect l:1\n", "Left [1]\n"),
@@ -366,7 +419,8 @@ fn refuse_each(
 
 #[test]
 fn stops_where_memory_is_refused(rt: HostRuntime) -> Result<(), Fail> {
-    let rows: [(&[u8], &str, u8); 3] = [
+    let rows: [(&[u8], &str, u8); 4] = [
+        (LINES, ANSWERS, 2),
         (b"collect l:1\ncollect r:2\n", "Left [1]\nRight [2]\n", 0),
         (
             b"collect b:1:a l:2 r:b\n\ncollect\nx",
@@ -379,6 +433,86 @@ fn stops_where_memory_is_refused(rt: HostRuntime) -> Result<(), Fail> {
         for step in [1, 5, usize::MAX] {
             refuse_each(&rt, rt.alloc(), input, output, status, step)?;
         }
+    }
+    Ok(())
+}
+
+// Numbers that look random, from a seed.
+#[derive(Drop)]
+struct Random(u64);
+
+impl Random {
+    fn below(&mut self, bound: u64) -> u64 {
+        self.0 = self
+            .0
+            .wrapping_mul(6364136223846793005)
+            .wrapping_add(1442695040888963407);
+        (self.0 >> 33).checked_rem(bound).unwrap_or(0)
+    }
+}
+
+// A reader that gives pieces of a length that looks random.
+#[derive(Drop)]
+struct Pieces<'a> {
+    rest: &'a [u8],
+    random: Random,
+}
+
+impl<'a> Read for Pieces<'a> {
+    fn read(&mut self, buf: &mut [u8]) -> io::Result<usize> {
+        let piece = self.random.below(40).saturating_add(1) as usize;
+        let count = piece.min(buf.len()).min(self.rest.len());
+        buf[..count].copy_from_slice(&self.rest[..count]);
+        self.rest = &self.rest[count..];
+        Ok(count)
+    }
+}
+
+// Lines, and what they are answered; a bad one with its number.
+static KNOWN: [(&str, Option<&str>); 10] = [
+    ("collect l:1 r:b", Some("Both [1] [b]")),
+    ("collect", Some("Both [] []")),
+    ("walk r:a l:1 l:2", Some("b:1:a l:2")),
+    ("normal l:1 b:2:a", Some("no")),
+    ("ends bbf l:1 r:a r:c", Some("r:c b:1:a . left 0")),
+    ("join a=1 / a=2 b=3", Some("a=b:1:2 b=r:3")),
+    ("", None),
+    ("join b=1 a=1 /", None),
+    ("ends l:1", None),
+    ("collect l:A", None),
+];
+
+/// However the input is cut into pieces, the output is the same.
+#[test]
+fn answers_alike_whatever_the_cut(rt: HostRuntime) -> Result<(), Fail> {
+    let alloc = rt.alloc();
+    let mut random = Random(20261122);
+    for seed in 0..300u64 {
+        let mut input = Vec::new(alloc);
+        let mut output = String::new(alloc);
+        let mut any_bad = false;
+        for number in 0..random.below(12) {
+            let place = random.below(10) as usize;
+            let (line, answer) = KNOWN.get(place).copied().unwrap_or(("", None));
+            input.extend_from_slice(line.as_bytes())?;
+            input.push(b'\n')?;
+            match answer {
+                Some(answer) => writeln!(output, "{answer}")?,
+                None => {
+                    any_bad = true;
+                    let line = number.saturating_add(1);
+                    writeln!(output, "line {line}: bad")?;
+                }
+            }
+        }
+        let mut reader = Pieces {
+            rest: &input,
+            random: Random(seed),
+        };
+        let mut writer = Sink::new(alloc, usize::MAX);
+        let outcome = run(alloc, &mut reader, &mut writer);
+        assert_eq!(rt; writer.taken.as_slice(), output.as_bytes(), "{seed}");
+        assert_eq!(rt; outcome.status(), if any_bad { 2 } else { 0 }, "{seed}");
     }
     Ok(())
 }
