@@ -27,6 +27,8 @@ mod in_place;
 #[cfg(test)]
 mod inspection;
 #[cfg(test)]
+mod joins;
+#[cfg(test)]
 mod order;
 #[cfg(test)]
 mod queries;

@@ -1,0 +1,232 @@
+//! The full outer join, at once and item by item, beside a join by definition.
+
+use either_or_both::EitherOrBoth;
+use either_or_both::EitherOrBoth::{Both, Left, Right};
+use either_or_both::join::{
+    is_rising, outer_join, outer_join_lazily, outer_join_maps, outer_join_slices,
+};
+use std::alloc::{AllocError, Global};
+use std::cell::Cell;
+use std::cmp::Reverse;
+use std::collections::BTreeMap;
+use std::test::Fail;
+
+type Table<K, V> = &'static [(K, V)];
+
+type Joined<K, V> = &'static [(K, EitherOrBoth<V, V>)];
+
+static ROWS: [(Table<u8, char>, Table<u8, char>, Joined<u8, char>); 6] = [
+    (&[], &[], &[]),
+    (
+        &[(1, 'a'), (3, 'b')],
+        &[(2, 'x'), (3, 'y')],
+        &[(1, Left('a')), (2, Right('x')), (3, Both('b', 'y'))],
+    ),
+    (&[(1, 'a')], &[(1, 'x')], &[(1, Both('a', 'x'))]),
+    (
+        &[(1, 'a'), (2, 'b')],
+        &[],
+        &[(1, Left('a')), (2, Left('b'))],
+    ),
+    (
+        &[],
+        &[(1, 'x'), (2, 'y')],
+        &[(1, Right('x')), (2, Right('y'))],
+    ),
+    (
+        &[(4, 'a'), (9, 'b')],
+        &[(1, 'x'), (2, 'y'), (4, 'z')],
+        &[
+            (1, Right('x')),
+            (2, Right('y')),
+            (4, Both('a', 'z')),
+            (9, Left('b')),
+        ],
+    ),
+];
+
+#[test]
+fn joins_small_lists(rt: HostRuntime) -> Result<(), Fail> {
+    for (left, right, want) in ROWS.iter().copied() {
+        assert!(rt; is_rising(left) && is_rising(right));
+        if is_rising(left) && is_rising(right) {
+            let p = Vec::from_slice(rt.alloc(), left)?;
+            let q = Vec::from_slice(rt.alloc(), right)?;
+            let joined = outer_join(rt.alloc(), p.clone()?, q.clone()?)?;
+            assert_eq!(rt; joined.as_slice(), want);
+            let walked = outer_join_lazily(p, q).collect::<Vec<_>>(rt.alloc())?;
+            assert_eq!(rt; walked.as_slice(), want);
+        }
+    }
+    Ok(())
+}
+
+#[test]
+fn knows_lists_that_rise(rt: HostRuntime) {
+    assert!(rt; is_rising::<u8, char>(&[]));
+    assert!(rt; is_rising(&[(1, 'a')]));
+    assert!(rt; is_rising(&[(1, 'a'), (2, 'a')]));
+    assert!(rt; !is_rising(&[(1, 'a'), (1, 'b')]));
+    assert!(rt; !is_rising(&[(2, 'a'), (1, 'a')]));
+}
+
+// Numbers that look random and are the same in each run.
+#[derive(Drop)]
+struct Numbers {
+    state: u64,
+}
+
+impl Numbers {
+    fn next(&mut self) -> u32 {
+        self.state = self
+            .state
+            .wrapping_mul(6364136223846793005)
+            .wrapping_add(1442695040888963407);
+        (self.state >> 40) as u32
+    }
+
+    // A list of so many pairs, each key one to three above the one before.
+    fn list(&mut self, alloc: Global, len: u32) -> Result<Vec<(u32, u32)>, AllocError> {
+        let mut list = Vec::new(alloc);
+        let mut key = 0u32;
+        for _ in 0..len {
+            key = key.wrapping_add(1 + self.next() % 3);
+            list.push((key, self.next()))?;
+        }
+        Ok(list)
+    }
+}
+
+fn look_up(list: &[(u32, u32)], key: u32) -> Option<u32> {
+    for pair in list {
+        if pair.0 == key {
+            return Some(pair.1);
+        }
+    }
+    None
+}
+
+// Each key that a list may have, looked up in both.
+fn by_definition(
+    alloc: Global,
+    left: &[(u32, u32)],
+    right: &[(u32, u32)],
+) -> Result<Vec<(u32, EitherOrBoth<u32, u32>)>, AllocError> {
+    let mut joined = Vec::new(alloc);
+    for key in 0..160u32 {
+        match EitherOrBoth::try_from((look_up(left, key), look_up(right, key))) {
+            Ok(value) => joined.push((key, value))?,
+            Err(_) => {}
+        }
+    }
+    Ok(joined)
+}
+
+#[test]
+fn joins_as_defined(rt: HostRuntime) -> Result<(), Fail> {
+    let mut numbers = Numbers { state: 15 };
+    for left_len in 0..51u32 {
+        for right_len in 0..51u32 {
+            let left = numbers.list(rt.alloc(), left_len)?;
+            let right = numbers.list(rt.alloc(), right_len)?;
+            let want = by_definition(rt.alloc(), &left, &right)?;
+            assert!(rt; is_rising(&left) && is_rising(&right));
+            if is_rising(&left) && is_rising(&right) {
+                let mut lent = Vec::new(rt.alloc());
+                for (key, value) in outer_join_slices(&left, &right) {
+                    lent.push((*key, value.copied()))?;
+                }
+                assert_eq!(rt; lent.as_slice(), want.as_slice());
+                let walked = outer_join_lazily(left.clone()?, right.clone()?).collect::<Vec<_>>(
+                    rt.alloc(),
+                )?;
+                assert_eq!(rt; walked.as_slice(), want.as_slice());
+                let joined = outer_join(rt.alloc(), left, right)?;
+                assert_eq!(rt; joined.as_slice(), want.as_slice());
+            }
+        }
+    }
+    Ok(())
+}
+
+#[test]
+fn joins_by_texts_and_in_reverse(rt: HostRuntime) -> Result<(), Fail> {
+    let left = [("a10", 1), ("b", 2)];
+    let right = [("a9", 3), ("b", 4)];
+    let by_text = outer_join_lazily(left, right).collect::<Vec<_>>(rt.alloc())?;
+    let want = [("a10", Left(1)), ("a9", Right(3)), ("b", Both(2, 4))];
+    assert_eq!(rt; by_text.as_slice(), want.as_slice());
+
+    let left = [(Reverse(3), 'a'), (Reverse(1), 'b')];
+    let right = [(Reverse(2), 'x'), (Reverse(1), 'y')];
+    let falling = outer_join_lazily(left, right).collect::<Vec<_>>(rt.alloc())?;
+    let want = [
+        (Reverse(3), Left('a')),
+        (Reverse(2), Right('x')),
+        (Reverse(1), Both('b', 'y')),
+    ];
+    assert_eq!(rt; falling.as_slice(), want.as_slice());
+    Ok(())
+}
+
+#[test]
+fn joins_maps_that_stay(rt: HostRuntime) -> Result<(), Fail> {
+    let mut left = BTreeMap::new(rt.alloc());
+    left.insert(3, 'b')?;
+    left.insert(1, 'a')?;
+    let mut right = BTreeMap::new(rt.alloc());
+    right.insert(3, 'y')?;
+    let mut walk = outer_join_maps(&left, &right);
+    assert_eq!(rt; walk.size_hint(), (2, Some(3)));
+    assert_eq!(rt; walk.next(), Some((&1, Left(&'a'))));
+    assert_eq!(rt; walk.next(), Some((&3, Both(&'b', &'y'))));
+    assert_eq!(rt; walk.next(), None);
+    assert_eq!(rt; left.len(), 2);
+    Ok(())
+}
+
+// Pairs that are counted as they are asked for.
+#[derive(Drop)]
+struct Asked<'a> {
+    rest: &'a [(u8, char)],
+    calls: &'a Cell<u32>,
+}
+
+impl<'a> Iterator for Asked<'a> {
+    type Item = (u8, char);
+
+    fn next(&mut self) -> Option<(u8, char)> {
+        self.calls.set(self.calls.get().saturating_add(1));
+        match self.rest {
+            [first, rest @ ..] => {
+                self.rest = rest;
+                Some(*first)
+            }
+            [] => None,
+        }
+    }
+}
+
+#[test]
+fn asks_ended_side_no_more(rt: HostRuntime) {
+    let left = Cell::new(0u32);
+    let right = Cell::new(0u32);
+    let mut walk = outer_join_lazily(
+        Asked {
+            rest: &[(1, 'a')],
+            calls: &left,
+        },
+        Asked {
+            rest: &[(2, 'x'), (3, 'y')],
+            calls: &right,
+        },
+    );
+    assert_eq!(rt; (left.get(), right.get()), (1, 1));
+    assert_eq!(rt; walk.next(), Some((1, Left('a'))));
+    assert_eq!(rt; (left.get(), right.get()), (2, 1));
+    assert_eq!(rt; walk.next(), Some((2, Right('x'))));
+    assert_eq!(rt; walk.next(), Some((3, Right('y'))));
+    assert_eq!(rt; walk.next(), None);
+    assert_eq!(rt; walk.next(), None);
+    assert_eq!(rt; (left.get(), right.get()), (2, 3));
+}
