@@ -1,6 +1,7 @@
 -- The laws of the full outer join.
 use Rattle.std.proofs.Common.{◌≡◌, ◌∙◌, ◌⊎◌, ℕ, ◌+◌, suc, Bool, true, false, cond, List, [], ◌∷◌, length, map, All, Contains, is_some, option_map, Option, Some, None, arith, inl, inr, refl, sym, ap, true≢false}
-use Rattle.std.specs.Prelude.{⊤, IsSome, ◌↔◌}
+use Rattle.std.specs.Option.{option_zip}
+use Rattle.std.specs.Prelude.{count_by, is_none, ⊤, IsSome, ◌↔◌}
 use Rattle.std.proofs.lemmas.List.{length-map}
 use Rattle.std.proofs.lemmas.List.Sums.{sum_by-cons}
 use Rattle.std.specs.Cmp.{IsTotalOrder, alike_right, tied_back, tied_itself}
@@ -16,7 +17,7 @@ use Rattle.eob_both.specs.declared.either_or_both.EitherOrBoth.TheVariants.{Left
 use Rattle.eob_both.specs.Places.{from_places, left_place, right_place}
 use Rattle.eob_both.specs.Sides.{lefts, rights}
 use Rattle.either_or_both.specs.Join.{Rising, IsJoin, value_under}
-use Rattle.either_or_both.specs.JoinLaws.{flipped, shared_keys, OneJoinLaw, JoinPlacesLaw, JoinSidesLaw, JoinLengthLaw, JoinFlipLaw, JoinBothLaw}
+use Rattle.either_or_both.specs.JoinLaws.{flipped, shared_keys, OneJoinLaw, JoinPlacesLaw, JoinSidesLaw, JoinLengthLaw, JoinFlipLaw, JoinBothLaw, JoinCountsLaw}
 use Rattle.either_or_both.proofs.MergeLemmas.{Up, absent, absent_alike, alike_on, by_order, flipped_order, merge, place, rising, up, up_weaker, IsJoin-merge}
 
 -- the places of a value are those that it was made from
@@ -37,6 +38,29 @@ both_present : {A B : Type 0} (m : Option A) (n : Option B) (v : EitherOrBoth A 
 both_present m n (Left a) s e f = absurd (true≢false (sym (s.0 (ap is_some (sym e))) ∙ ap is_some (sym f)))
 both_present m n (Both a b) s e f = (refl, refl)
 both_present m n (Right b) s e f = absurd (true≢false (sym (s.1 (ap is_some (sym f))) ∙ ap is_some (sym e)))
+
+-- how many values of a list have one place, and how many both
+module _ {K A B : Type 0} where
+  lone_lefts : (zs : List (K × EitherOrBoth A B)) → count_by (λ (z : K × EitherOrBoth A B). is_none (right_place z.1)) zs + length (rights (values_of zs)) ≡ length zs
+  lone_lefts [] = refl
+  lone_lefts ((k, Left a) ∷ zs) = omega (arith, lone_lefts zs, sum_by-cons (λ (z : K × EitherOrBoth A B). cond (is_none (right_place z.1)) 1 0) (k, Left a) zs)
+  lone_lefts ((k, Both a b) ∷ zs) = omega (arith, lone_lefts zs, sum_by-cons (λ (z : K × EitherOrBoth A B). cond (is_none (right_place z.1)) 1 0) (k, Both a b) zs)
+  lone_lefts ((k, Right b) ∷ zs) = omega (arith, lone_lefts zs, sum_by-cons (λ (z : K × EitherOrBoth A B). cond (is_none (right_place z.1)) 1 0) (k, Right b) zs)
+
+  lone_rights : (zs : List (K × EitherOrBoth A B)) → count_by (λ (z : K × EitherOrBoth A B). is_none (left_place z.1)) zs + length (lefts (values_of zs)) ≡ length zs
+  lone_rights [] = refl
+  lone_rights ((k, Left a) ∷ zs) = omega (arith, lone_rights zs, sum_by-cons (λ (z : K × EitherOrBoth A B). cond (is_none (left_place z.1)) 1 0) (k, Left a) zs)
+  lone_rights ((k, Both a b) ∷ zs) = omega (arith, lone_rights zs, sum_by-cons (λ (z : K × EitherOrBoth A B). cond (is_none (left_place z.1)) 1 0) (k, Both a b) zs)
+  lone_rights ((k, Right b) ∷ zs) = omega (arith, lone_rights zs, sum_by-cons (λ (z : K × EitherOrBoth A B). cond (is_none (left_place z.1)) 1 0) (k, Right b) zs)
+
+  abbrev has_both : K × EitherOrBoth A B → Bool
+  has_both z = is_some (option_zip (left_place z.1) (right_place z.1))
+
+  boths : (zs : List (K × EitherOrBoth A B)) → count_by has_both zs + length zs ≡ length (lefts (values_of zs)) + length (rights (values_of zs))
+  boths [] = refl
+  boths ((k, Left a) ∷ zs) = omega (arith, boths zs, sum_by-cons (λ z. cond (has_both z) 1 0) (k, Left a) zs)
+  boths ((k, Both a b) ∷ zs) = omega (arith, boths zs, sum_by-cons (λ z. cond (has_both z) 1 0) (k, Both a b) zs)
+  boths ((k, Right b) ∷ zs) = omega (arith, boths zs, sum_by-cons (λ z. cond (has_both z) 1 0) (k, Right b) zs)
 
 module _ {K : Type 0} (cmp : K → K → Ordering) where
   up_map : {V W : Type 0} (f : V → W) (P : K → Type 0) (xs : List (K × V)) → Up cmp P xs → Up cmp P (map (λ x. (x.0, f x.1)) xs)
@@ -201,6 +225,14 @@ module _ {K : Type 0} (cmp : K → K → Ordering) where
     join_length A B p q zs g h j =
         let e : length zs ≡ length (merge cmp p q) = sym (length-map zs (λ z. z.1)) ∙ ap length (values_same p q zs g h j) ∙ length-map (merge cmp p q) (λ z. z.1) in
         omega (arith, e, shared_is p q, merge_length (λ k. ⊤) p q (up cmp p g) (up cmp q h))
+
+    pub join_counts : (A B : Type 0) → JoinCountsLaw cmp A B
+    join_counts A B p q zs g h j =
+        let sides = join_sides A B p q zs g h j in
+        let lefts_all : length (lefts (values_of zs)) ≡ length p = ap length sides.0 ∙ length-map p (λ x. x.1) in
+        let rights_all : length (rights (values_of zs)) ≡ length q = ap length sides.1 ∙ length-map q (λ y. y.1) in
+        let whole = join_length A B p q zs g h j in
+        (omega (arith, lone_lefts zs, rights_all, whole), omega (arith, lone_rights zs, lefts_all, whole), omega (arith, boths zs, lefts_all, rights_all, whole))
 
     pub join_both : (A B : Type 0) → JoinBothLaw cmp A B
     join_both A B p q zs s j =

@@ -10,7 +10,7 @@ use Rattle.std.specs.declared.cmp.Ordering.{Ordering}
 use Rattle.eob_both.specs.declared.either_or_both.EitherOrBoth.{EitherOrBoth}
 use Rattle.either_or_both.specs.Join.{Rising, IsJoin}
 use Rattle.either_or_both.specs.JoinLaws.{deref_joined}
-use Rattle.either_or_both.specs.OuterJoin.{IsJoinRun, IsShownJoinRun, JoinsSlices}
+use Rattle.either_or_both.specs.OuterJoin.{IsJoinRun, IsShownJoinRun, JoinsShown}
 use Rattle.either_or_both.proofs.RisingLemmas.{shown_rises, shown_join}
 
 module _ {S A X : Type 0} (view : A → X) (rest : S → List X) where
@@ -48,9 +48,9 @@ module _ {W S T K A B : Type 0} {joins : W → Option (Bor K × EitherOrBoth (Bo
       (a, h.1, (b, h.2.1, (is.0, is.1, is.2, is.3, λ up_x up_y. shown_join cmp A B a.items b.items p.items (is.4 (shown_rises cmp A a.items up_x) (shown_rises cmp B b.items up_y)))))
 
 module _ {W S T K A B : Type 0} {joins : W → Option (Bor K × EitherOrBoth (Bor A) (Bor B)) → W → Type 0} (cmp : K → K → Ordering) (lefts : S → List (K × A)) (rights : T → List (K × B)) where
-  pub slices_join : (p : Run joins) (s : S) (t : T) (xs : List (K × A)) (ys : List (K × B)) → lefts s ≡ xs → rights t ≡ ys
-      → SomeRun (YieldsFirstBy deref_pair lefts) s (λ a. SomeRun (YieldsFirstBy deref_pair rights) t (λ b. IsShownJoinRun cmp p a b)) → JoinsSlices cmp xs ys p
-  slices_join p s t xs ys l r h =
+  pub shown_walk : (p : Run joins) (s : S) (t : T) (xs : List (K × A)) (ys : List (K × B)) → lefts s ≡ xs → rights t ≡ ys
+      → SomeRun (YieldsFirstBy deref_pair lefts) s (λ a. SomeRun (YieldsFirstBy deref_pair rights) t (λ b. IsShownJoinRun cmp p a b)) → JoinsShown cmp xs ys p
+  shown_walk p s t xs ys l r h =
       let a = h.0 in
       let b = h.2.0 in
       let is = h.2.2 in

@@ -1,8 +1,9 @@
 -- What follows for every full outer join of two lists whose keys rise.
-use Rattle.std.specs.Prelude.{◌≡◌, ◌↔◌, ℕ, ◌+◌, IsSome, List, length, map, All, count_by, is_some}
+use Rattle.std.specs.Prelude.{◌≡◌, ◌↔◌, ℕ, ◌+◌, IsSome, List, length, map, All, count_by, is_none, is_some}
 use Rattle.std.specs.Borrow.{Bor}
 use Rattle.std.specs.List.{AllAdjacentBelow, AllZip}
 use Rattle.std.specs.List.Sorted.{IsStrictlySortedBy}
+use Rattle.std.specs.Option.{option_zip}
 use Rattle.std.specs.Map.{keys_of, values_of}
 use Rattle.std.specs.Map.Iter.{deref_pair}
 use Rattle.std.specs.declared.cmp.Ordering.{Ordering}
@@ -52,6 +53,12 @@ module _ {K : Type 0} (cmp : K → K → Ordering) where
     abbrev pub JoinLengthLaw : Type 0
     JoinLengthLaw = (p : List (K × A)) (q : List (K × B)) (zs : List (K × EitherOrBoth A B)) → Rising cmp p → Rising cmp q → IsJoin cmp p q zs
         → length zs + shared_keys p q ≡ length p + length q
+
+    -- a join has a lone left value for each key of p alone, a lone right value for each key of q alone, and Both for each shared key
+    abbrev pub JoinCountsLaw : Type 0
+    JoinCountsLaw = (p : List (K × A)) (q : List (K × B)) (zs : List (K × EitherOrBoth A B)) → Rising cmp p → Rising cmp q → IsJoin cmp p q zs
+        → (count_by (λ z. is_none (right_place z.1)) zs + shared_keys p q ≡ length p) × (count_by (λ z. is_none (left_place z.1)) zs + shared_keys p q ≡ length q)
+        × (count_by (λ z. is_some (option_zip (left_place z.1) (right_place z.1))) zs ≡ shared_keys p q)
 
     -- the join of the two lists in the other order has the same keys, and each value flipped
     abbrev pub JoinFlipLaw : Type 0

@@ -1,5 +1,5 @@
 //! What follows for every full outer join, as contracts of functions that do nothing.
-ghost use Rattle.either_or_both.specs.JoinLaws.{JoinBothLaw, JoinFlipLaw, JoinLengthLaw, JoinPlacesLaw, JoinSidesLaw, OneJoinLaw, RisingLaw, ShownJoinLaw, ShownRisesLaw, SortedRisesLaw};
+ghost use Rattle.either_or_both.specs.JoinLaws.{JoinBothLaw, JoinCountsLaw, JoinFlipLaw, JoinLengthLaw, JoinPlacesLaw, JoinSidesLaw, OneJoinLaw, RisingLaw, ShownJoinLaw, ShownRisesLaw, SortedRisesLaw};
 
 /// Two joins of the same lists have equal keys and the same values, place by place.
 pub fn law_one_join<K: Ord, A, B>()
@@ -19,6 +19,12 @@ pub fn law_join_sides<K: Ord, A, B>()
 /// A join is as long as both lists together, less the keys that they share.
 pub fn law_join_length<K: Ord, A, B>()
     ensures { JoinLengthLaw K.cmp A B }
+{}
+
+/// A join has a lone left value for each key of the left list alone, a lone right value for each of the right list alone, and Both
+/// for each key that they share.
+pub fn law_join_counts<K: Ord, A, B>()
+    ensures { JoinCountsLaw K.cmp A B }
 {}
 
 /// The join of the lists in the other order has the same keys, and each value flipped.
