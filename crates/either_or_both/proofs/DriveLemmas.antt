@@ -1,37 +1,14 @@
 -- One turn of a drive.
-use Rattle.std.proofs.Common.{◌≡◌, ℕ, zero, suc, ◌+◌, ◌-◌, ◌<◌, min, List, [], ◌∷◌, ◌++◌, map, length, drop, get_or, Option, Some, None, sym, ap, subst, ◌∙◌, append_assoc, arith}
+use Rattle.std.proofs.Common.{◌≡◌, ℕ, ◌+◌, ◌-◌, ◌<◌, min, List, [], ◌∷◌, ◌++◌, map, length, drop, get_or, Option, Some, None, sym, ap, ◌∙◌, append_assoc, arith}
 use Rattle.std.proofs.lemmas.List.{map-append, length-append, drop_more}
 use Rattle.std.specs.Option.{option_map}
-use Rattle.std.specs.Iterator.{Count, IsFinite}
-use Rattle.eob_both.specs.Ends.{Ends, FirstTaken, LastTaken, HasBound, IsExactly, HoldsFor, ToCome, CountedToCome, StillToCome}
+use Rattle.std.specs.Iterator.{Count}
+use Rattle.eob_both.specs.Ends.{Ends, ToCome}
 use Rattle.eob_both.proofs.EndsLemmas.{to_come_front, to_come_back}
 use Rattle.either_or_both.specs.declared.laws.drive.End.{End}
 use Rattle.either_or_both.specs.declared.laws.drive.End.TheVariants.{Front, Back}
 use Rattle.either_or_both.specs.Answers.{answers, MatchEnd}
 use Rattle.either_or_both.proofs.AnswersLemmas.{answers-front, answers-back, answers-none}
-
--- a list that is counted is bounded
-module _ {S A B : Type 0} (it : Ends S A) (view : A → B) where
-  first_bounded : (P Q : List B → S → Type 0) → ((ys : List B) (t : S) → P ys t → Q ys t) → (xs : List B) (r : Option A) (t : S) → FirstTaken view P xs r t → FirstTaken view Q xs r t
-  first_bounded P Q f xs None t k = (k.0, f [] t k.1)
-  first_bounded P Q f xs (Some x) t k = (k.0, k.1, f k.0 t k.2)
-
-  last_bounded : (P Q : List B → S → Type 0) → ((ys : List B) (t : S) → P ys t → Q ys t) → (xs : List B) (r : Option A) (t : S) → LastTaken view P xs r t → LastTaken view Q xs r t
-  last_bounded P Q f xs None t k = (k.0, f [] t k.1)
-  last_bounded P Q f xs (Some x) t k = (k.0, k.1, f k.0 t k.2)
-
-  holds_bounded : (n : ℕ) (xs : List B) (s : S) → HoldsFor IsExactly it view n xs s → HoldsFor HasBound it view n xs s
-  holds_bounded zero xs s h = tt
-  holds_bounded (suc n) xs s h = record {
-    callable = h.callable;
-    callable_back = h.callable_back;
-    counted = subst IsFinite (sym h.counted) tt;
-    front = λ r t e. first_bounded (HoldsFor IsExactly it view n) (HoldsFor HasBound it view n) (holds_bounded n) xs r t (h.front r t e);
-    back = λ r t e. last_bounded (HoldsFor IsExactly it view n) (HoldsFor HasBound it view n) (holds_bounded n) xs r t (h.back r t e);
-  }
-
-  pub bounded : (xs : List B) (s : S) → CountedToCome it view xs s → StillToCome it view xs s
-  bounded xs s h = record { after = λ n. holds_bounded n xs s (h.after n) }
 
 module _ {S A : Type 0} (C : Count → ℕ → Type 0) (it : Ends S A) (view : A → A) where
   -- a call of an end: the list that is left answers the other calls

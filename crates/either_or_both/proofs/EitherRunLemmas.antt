@@ -43,7 +43,7 @@ module _ {S T A B : Type 0} (firsts : S → Option A → S → Type 0) (seconds 
   abbrev Walk : Type 0
   Walk = SwapIterEither S T
 
-  left_move : (r : Option (Either A B)) (z j : Walk) (s : S) → swap_side z ≡ Left s → swap_steps firsts seconds z r j → (b : S) × (swap_side j ≡ Left b) × firsts s (item_left r) b × (item_right r ≡ None)
+  pub left_move : (r : Option (Either A B)) (z j : Walk) (s : S) → swap_side z ≡ Left s → swap_steps firsts seconds z r j → (b : S) × (swap_side j ≡ Left b) × firsts s (item_left r) b × (item_right r ≡ None)
   left_move r z j s e h = subst (λ o. MatchPlaces o (λ a. (b : S) × (swap_side j ≡ Left b) × firsts a (item_left r) b × (item_right r ≡ None)) (λ a. (b : T) × (swap_side j ≡ Right b) × seconds a (item_right r) b × (item_left r ≡ None))) e h
 
   left_step : (i : Either A B) (z j : Walk) (s : S) → swap_side z ≡ Left s → swap_steps firsts seconds z (Some i) j → (b : S) × (x : A) × (swap_side j ≡ Left b) × firsts s (Some x) b × (i ≡ Left x)
@@ -68,7 +68,7 @@ module _ {S T A B : Type 0} (firsts : S → Option A → S → Type 0) (seconds 
       let k = left_drains (p.whole ≡ true) p.items p.from s (ap swap_side from ∙ e) (took p) in
       (run firsts s k.0 p.whole k.1, refl, ((p.long ∙ ap length k.2 ∙ length-map k.0 (λ i. Left i), k.2, λ n. at-is p n ∙ ap (λ l. slice_get l n) k.2 ∙ slice_get-map (λ i. Left i) k.0 n), refl))
 
-  right_move : (r : Option (Either A B)) (z j : Walk) (s : T) → swap_side z ≡ Right s → swap_steps firsts seconds z r j → (b : T) × (swap_side j ≡ Right b) × seconds s (item_right r) b × (item_left r ≡ None)
+  pub right_move : (r : Option (Either A B)) (z j : Walk) (s : T) → swap_side z ≡ Right s → swap_steps firsts seconds z r j → (b : T) × (swap_side j ≡ Right b) × seconds s (item_right r) b × (item_left r ≡ None)
   right_move r z j s e h = subst (λ o. MatchPlaces o (λ a. (b : S) × (swap_side j ≡ Left b) × firsts a (item_left r) b × (item_right r ≡ None)) (λ a. (b : T) × (swap_side j ≡ Right b) × seconds a (item_right r) b × (item_left r ≡ None))) e h
 
   right_step : (i : Either A B) (z j : Walk) (s : T) → swap_side z ≡ Right s → swap_steps firsts seconds z (Some i) j → (b : T) × (x : B) × (swap_side j ≡ Right b) × seconds s (Some x) b × (i ≡ Right x)

@@ -10,7 +10,7 @@ use Rattle.std.specs.declared.cmp.Ordering.{Ordering}
 use Rattle.eob_both.specs.declared.either_or_both.EitherOrBoth.{EitherOrBoth}
 use Rattle.either_or_both.specs.Join.{Rising, IsJoin}
 use Rattle.either_or_both.specs.JoinLaws.{deref_joined}
-use Rattle.either_or_both.specs.OuterJoin.{IsJoinRun, IsShownJoinRun, JoinsShown}
+use Rattle.either_or_both.specs.OuterJoin.{IsJoinRun, IsShownJoinRun, ShowsJoin}
 use Rattle.either_or_both.proofs.RisingLemmas.{shown_rises, shown_join}
 
 module _ {S A X : Type 0} (view : A → X) (rest : S → List X) where
@@ -48,22 +48,20 @@ module _ {W S T K A B : Type 0} {joins : W → Option (Bor K × EitherOrBoth (Bo
       (a, h.1, (b, h.2.1, (is.0, is.1, is.2, is.3, λ up_x up_y. shown_join cmp A B a.items b.items p.items (is.4 (shown_rises cmp A a.items up_x) (shown_rises cmp B b.items up_y)))))
 
 module _ {W S T K A B : Type 0} {joins : W → Option (Bor K × EitherOrBoth (Bor A) (Bor B)) → W → Type 0} (cmp : K → K → Ordering) (lefts : S → List (K × A)) (rights : T → List (K × B)) where
-  pub shown_walk : (p : Run joins) (s : S) (t : T) (xs : List (K × A)) (ys : List (K × B)) → lefts s ≡ xs → rights t ≡ ys
-      → SomeRun (YieldsFirstBy deref_pair lefts) s (λ a. SomeRun (YieldsFirstBy deref_pair rights) t (λ b. IsShownJoinRun cmp p a b)) → JoinsShown cmp xs ys p
-  shown_walk p s t xs ys l r h =
+  pub shown_walk : (p : Run joins) (s : S) (t : T) (xs : List (K × A)) (ys : List (K × B)) → lefts s ≡ xs → rights t ≡ ys → Rising cmp xs → Rising cmp ys
+      → SomeRun (YieldsFirstBy deref_pair lefts) s (λ a. SomeRun (YieldsFirstBy deref_pair rights) t (λ b. IsShownJoinRun cmp p a b)) → ShowsJoin cmp xs ys p
+  shown_walk p s t xs ys l r up_x up_y h =
       let a = h.0 in
       let b = h.2.0 in
       let is = h.2.2 in
       let most_a = shown_most deref_pair lefts a s h.1 in
       let most_b = shown_most deref_pair rights b t h.2.1 in
       let long_a : length (lefts s) ≡ length xs = ap length l in
-      let long_b : length (rights t) ≡ length ys = ap length r in
-      let all_a : p.whole ≡ true → map deref_pair a.items ≡ xs = λ w. shown_all deref_pair lefts a s h.1 (is.3 w).0 ∙ l in
-      let all_b : p.whole ≡ true → map deref_pair b.items ≡ ys = λ w. shown_all deref_pair rights b t h.2.1 (is.3 w).1 ∙ r in (
+      let long_b : length (rights t) ≡ length ys = ap length r in (
         omega (arith, is.2, most_a, most_b, long_a, long_b),
-        (λ w. let e : length a.items ≡ length xs = sym (length-map a.items deref_pair) ∙ ap length (all_a w) in omega (arith, e, a.long, is.0)),
-        (λ w. let e : length b.items ≡ length ys = sym (length-map b.items deref_pair) ∙ ap length (all_b w) in omega (arith, e, b.long, is.1)),
-        λ w up_x up_y.
-            let joined = is.4 (subst (Rising cmp) (sym (all_a w)) up_x) (subst (Rising cmp) (sym (all_b w)) up_y) in
-            subst (λ k. IsJoin cmp xs k (map deref_joined p.items)) (all_b w) (subst (λ k. IsJoin cmp k (map deref_pair b.items) (map deref_joined p.items)) (all_a w) joined),
+        λ w.
+            let all_a : map deref_pair a.items ≡ xs = shown_all deref_pair lefts a s h.1 (is.3 w).0 ∙ l in
+            let all_b : map deref_pair b.items ≡ ys = shown_all deref_pair rights b t h.2.1 (is.3 w).1 ∙ r in
+            let joined = is.4 (subst (Rising cmp) (sym all_a) up_x) (subst (Rising cmp) (sym all_b) up_y) in
+            subst (λ k. IsJoin cmp xs k (map deref_joined p.items)) all_b (subst (λ k. IsJoin cmp k (map deref_pair b.items) (map deref_joined p.items)) all_a joined),
       )

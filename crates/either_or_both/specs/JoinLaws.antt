@@ -33,6 +33,11 @@ module _ {K : Type 0} (cmp : K → K → Ordering) where
   abbrev pub shared_keys : {A B : Type 0} → List (K × A) → List (K × B) → ℕ
   shared_keys p q = count_by (λ x. is_some (value_under cmp q x.0)) p
 
+  -- zs has a lone left value for each key of p alone, a lone right value for each key of q alone, and Both for each key of both
+  abbrev pub HasJoinCounts : {A B : Type 0} → List (K × A) → List (K × B) → List (K × EitherOrBoth A B) → Type 0
+  HasJoinCounts p q zs = (count_by (λ z. is_none (right_place z.1)) zs + shared_keys p q ≡ length p) × (count_by (λ z. is_none (left_place z.1)) zs + shared_keys p q ≡ length q)
+      × (count_by (λ z. is_some (option_zip (left_place z.1) (right_place z.1))) zs ≡ shared_keys p q)
+
   module _ (A B : Type 0) where
     -- two joins of the same lists have equal keys and the same values, place by place
     abbrev pub OneJoinLaw : Type 0
@@ -54,11 +59,9 @@ module _ {K : Type 0} (cmp : K → K → Ordering) where
     JoinLengthLaw = (p : List (K × A)) (q : List (K × B)) (zs : List (K × EitherOrBoth A B)) → Rising cmp p → Rising cmp q → IsJoin cmp p q zs
         → length zs + shared_keys p q ≡ length p + length q
 
-    -- a join has a lone left value for each key of p alone, a lone right value for each key of q alone, and Both for each shared key
+    -- every join has these counts
     abbrev pub JoinCountsLaw : Type 0
-    JoinCountsLaw = (p : List (K × A)) (q : List (K × B)) (zs : List (K × EitherOrBoth A B)) → Rising cmp p → Rising cmp q → IsJoin cmp p q zs
-        → (count_by (λ z. is_none (right_place z.1)) zs + shared_keys p q ≡ length p) × (count_by (λ z. is_none (left_place z.1)) zs + shared_keys p q ≡ length q)
-        × (count_by (λ z. is_some (option_zip (left_place z.1) (right_place z.1))) zs ≡ shared_keys p q)
+    JoinCountsLaw = (p : List (K × A)) (q : List (K × B)) (zs : List (K × EitherOrBoth A B)) → Rising cmp p → Rising cmp q → IsJoin cmp p q zs → HasJoinCounts p q zs
 
     -- the join of the two lists in the other order has the same keys, and each value flipped
     abbrev pub JoinFlipLaw : Type 0

@@ -93,7 +93,6 @@ IsBoundSum (Some m) (Some n) r = SomeIff r (m + n < 2 ^ 64) (m + n)
 abbrev pub pairs_left : {K V : Type 0} → PairRefs K V → List (K × V)
 pairs_left s = iter_rest s.rest
 
--- p gave no more items than both lists have, and where it ended at least as many as either; and it showed their join then, where the keys of both rise
-abbrev pub JoinsShown : {W K A B : Type 0} {steps : W → Option (Bor K × EitherOrBoth (Bor A) (Bor B)) → W → Type 0} → (K → K → Ordering) → List (K × A) → List (K × B) → Run steps → Type 0
-JoinsShown cmp xs ys p = (p.len ≤ length xs + length ys) × (p.whole ≡ true → length xs ≤ p.len) × (p.whole ≡ true → length ys ≤ p.len)
-    × (p.whole ≡ true → Rising cmp xs → Rising cmp ys → IsJoin cmp xs ys (map deref_joined p.items))
+-- p gave no more items than both lists have; and where it ended it had shown their join
+abbrev pub ShowsJoin : {W K A B : Type 0} {steps : W → Option (Bor K × EitherOrBoth (Bor A) (Bor B)) → W → Type 0} → (K → K → Ordering) → List (K × A) → List (K × B) → Run steps → Type 0
+ShowsJoin cmp xs ys p = (p.len ≤ length xs + length ys) × (p.whole ≡ true → IsJoin cmp xs ys (map deref_joined p.items))

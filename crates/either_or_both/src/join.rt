@@ -4,10 +4,12 @@
 //! every join stands in the functions `law_join_*`, which do nothing.
 ghost use Rattle.std.specs.Prelude.{IfOk, IsTrue, ◌↔◌};
 ghost use Rattle.either_or_both.specs.Join.{IsJoin, Rising, SameKeys};
-ghost use Rattle.either_or_both.specs.JoinLaws.{AllBoth};
+ghost use Rattle.either_or_both.specs.JoinLaws.{AllBoth, HasJoinCounts};
 
 mod laws;
 mod refs;
+#[cfg(test)]
+mod refused;
 mod walk;
 
 use crate::EitherOrBoth;
@@ -52,12 +54,13 @@ pub fn outer_join<K: Ord + Drop, A: Drop, B: Drop>(
     requires right { Rising K.cmp right.items }
     ensures join { IfOk result (λ joined. IsJoin K.cmp left.items right.items joined.items) }
     ensures both { SameKeys K.cmp left.items right.items → IfOk result (λ joined. AllBoth joined.items) }
+    ensures counts { IfOk result (λ joined. HasJoinCounts K.cmp left.items right.items joined.items) }
 {
-    join_lists(alloc, left, right)
+    outer_join_in(alloc, left, right)
 }
 
-// The join, with memory of any allocator. As queues the lists take no more memory, and give their first pairs one by one.
-fn join_lists<K: Ord + Drop, A: Drop, B: Drop, M: Allocator>(
+/// [`outer_join`] with memory of any allocator.
+pub fn outer_join_in<K: Ord + Drop, A: Drop, B: Drop, M: Allocator>(
     alloc: M,
     left: Vec<(K, A), M>,
     right: Vec<(K, B), M>,
@@ -67,6 +70,7 @@ fn join_lists<K: Ord + Drop, A: Drop, B: Drop, M: Allocator>(
     ensures { IfOk result (λ joined. IsJoin K.cmp left.items right.items joined.items) }
 {
     let mut joined = Vec::new(alloc);
+    // As queues the lists take no more memory, and give their first pairs one by one.
     let mut left = VecDeque::from_vec(left);
     let mut right = VecDeque::from_vec(right);
     'join: loop {

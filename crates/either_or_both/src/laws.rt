@@ -5,17 +5,26 @@
 mod drive;
 mod normal;
 mod recollect;
+#[cfg(test)]
+mod refused;
 mod results;
+mod walks;
 
-pub use drive::{Driven, End, drive_chain, drive_items, drive_swap, law_whole_walk};
+pub use drive::{Driven, End, drive_chain, drive_items, drive_swap, drive_swap_in, law_whole_walk};
 pub use eob_both::laws::{
     law_aligned_by_index, law_aligned_map, law_aligned_refs, law_chain_next, law_chain_next_back,
     law_chain_to_come, law_first_items, law_first_list, law_last_value, law_last_value_by_order,
     law_range, law_swap_next, law_swap_next_back, law_swap_to_come,
 };
-pub use normal::{is_normal, law_aligned, law_equal_pairs, law_twice, law_unchanged, regroup};
+pub use normal::{
+    is_normal, law_aligned, law_equal_pairs, law_twice, law_unchanged, regroup, regroup_in,
+};
 pub use recollect::{
     recollect_btree_map, recollect_btree_set, recollect_hash_map, recollect_hash_set,
     recollect_index_map, recollect_index_set, recollect_vec, recollect_vec_deque,
 };
 pub use results::law_results;
+pub use walks::{
+    law_held_swap_len, law_held_swap_next, law_held_swap_next_back, law_held_swap_to_come,
+    law_inner_len, law_inner_next, law_inner_next_back, law_inner_to_come,
+};

@@ -8,6 +8,7 @@ ghost use Rattle.std.specs.Prelude.{◌≡◌, fold};
 pub mod of_containers;
 pub mod of_either;
 pub mod of_either_or_both;
+pub mod of_ends;
 pub mod of_joins;
 pub mod of_programs;
 pub mod of_streams;

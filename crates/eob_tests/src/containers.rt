@@ -1,10 +1,12 @@
 //! Tests: pairs of containers of each shape, collected from values of either enum.
 //!
-//! Every source here has a hint that is true and tells next to nothing. A pair of hashed containers is printed in the order of its keys.
-ghost use Rattle.std.specs.Prelude.{List, []};
+//! Every source of values here has a hint that is true and tells next to nothing. A pair of hashed containers is printed in the order
+//! of its keys.
 ghost use Rattle.std.specs.Hash as fed;
 ghost use Rattle.std.specs.Cmp.Rules.{hashing};
 ghost use Rattle.std.proofs.Common.{rules};
+
+mod again;
 
 use crate::calls::{Calls, Row, check_rows};
 use crate::collecting::Vague;

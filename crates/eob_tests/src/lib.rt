@@ -17,6 +17,8 @@ mod conversions;
 #[cfg(test)]
 mod counted;
 #[cfg(test)]
+mod ends;
+#[cfg(test)]
 mod forms;
 #[cfg(test)]
 mod getters;
@@ -42,3 +44,4 @@ mod transpositions;
 mod unwraps;
 #[cfg(test)]
 mod values;
+mod walks;

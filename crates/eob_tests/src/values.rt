@@ -1,8 +1,9 @@
 //! Tests: the walks over the values of both enums, and what is held once their items were written through.
 
-use either_or_both::EitherOrBoth;
 use either_or_both::EitherOrBoth::{Both, Left, Right};
 use either_or_both::iter::{IntoIterEitherOrBoth, IterEitherOrBoth, IterMutEitherOrBoth};
+use either_or_both::iter_either::{IntoIterEither, IterEither, IterMutEither};
+use either_or_both::{Either, EitherOrBoth};
 use std::test::Fail;
 
 /// A call of `next_back`, or else of `next`, with its answer and the number of values that are to come after it.
@@ -149,4 +150,132 @@ fn values_of_either_or_both_are_written(rt: HostRuntime) {
         *last = 20;
     }
     assert_eq!(rt; pair, Both(1, 20));
+}
+
+/// The one value comes from the end that is asked first, and then nothing, whichever walk gives it.
+#[test]
+fn calls_of_both_ends_of_either(rt: HostRuntime) -> Result<(), Fail> {
+    for (value, back) in [
+        (Either::Left(1u8), FRONT),
+        (Either::Left(1), BACK),
+        (Either::Right(1), FRONT),
+        (Either::Right(1), BACK),
+    ] {
+        let mut held = value;
+        let mut owned = value.into_iter();
+        let mut lent = value.iter();
+        let mut written = held.iter_mut();
+        assert_eq!(rt; (owned.len(), lent.len(), written.len()), (1, 1, 1));
+        for answer in [Some(1), None, None] {
+            let mut clone = owned.clone()?;
+            let mut lent_clone = lent.clone()?;
+            if back {
+                assert_eq!(rt; owned.next_back(), answer);
+                assert_eq!(rt; clone.next_back(), answer);
+                assert_eq!(rt; lent.next_back().copied(), answer);
+                assert_eq!(rt; lent_clone.next_back().copied(), answer);
+                assert_eq!(rt; written.next_back().copied(), answer);
+            } else {
+                assert_eq!(rt; owned.next(), answer);
+                assert_eq!(rt; clone.next(), answer);
+                assert_eq!(rt; lent.next().copied(), answer);
+                assert_eq!(rt; lent_clone.next().copied(), answer);
+                assert_eq!(rt; written.next().copied(), answer);
+            }
+            assert_eq!(rt; (owned.len(), lent.len(), written.len()), (0, 0, 0));
+            assert_eq!(rt; owned.size_hint(), (0, Some(0)));
+            assert_eq!(rt; lent.size_hint(), (0, Some(0)));
+            assert_eq!(rt; written.size_hint(), (0, Some(0)));
+        }
+        assert_eq!(rt; owned.next_back(), None);
+        assert_eq!(rt; lent.next(), None);
+        assert_eq!(rt; written.next(), None);
+    }
+    Ok(())
+}
+
+/// A default walk over the value of an `Either` has nothing to give.
+#[test]
+fn default_walks_over_value_of_either(rt: HostRuntime) {
+    assert_eq!(rt; IntoIterEither::<u8>::default().len(), 0);
+    assert_eq!(rt; IntoIterEither::<u8>::default().next(), None);
+    assert_eq!(rt; IterEither::<u8>::default().len(), 0);
+    assert_eq!(rt; IterEither::<u8>::default().next_back(), None);
+    assert_eq!(rt; IterMutEither::<u8>::default().len(), 0);
+    assert_eq!(rt; IterMutEither::<u8>::default().next(), None);
+}
+
+/// The items of the held side come from both ends, alone or in the held variant, and the length is the number still to come. A clone
+/// of a walk that has begun goes on where it is.
+#[test]
+fn walks_of_held_side(rt: HostRuntime) -> Result<(), Fail> {
+    let right = Either::<Vec<u8>>::Right(vec![in rt.alloc(); 1, 2, 3]?);
+    let mut inner = right.iter_inner();
+    assert_eq!(rt; inner.len(), 3);
+    assert_eq!(rt; inner.next(), Some(&1));
+    let mut clone = inner.clone()?;
+    assert_eq!(rt; clone.next(), Some(&2));
+    assert_eq!(rt; clone.next(), Some(&3));
+    assert_eq!(rt; clone.next(), None);
+    assert_eq!(rt; inner.next_back(), Some(&3));
+    assert_eq!(rt; inner.size_hint(), (1, Some(1)));
+    assert_eq!(rt; inner.next_back(), Some(&2));
+    assert_eq!(rt; inner.next(), None);
+    assert_eq!(rt; inner.next_back(), None);
+    let mut swap = right.iter_swap();
+    assert_eq!(rt; swap.len(), 3);
+    assert_eq!(rt; swap.next(), Some(Either::Right(&1)));
+    let mut clone = swap.clone()?;
+    assert_eq!(rt; clone.next_back(), Some(Either::Right(&3)));
+    assert_eq!(rt; clone.next(), Some(Either::Right(&2)));
+    assert_eq!(rt; clone.next(), None);
+    assert_eq!(rt; swap.next_back(), Some(Either::Right(&3)));
+    assert_eq!(rt; swap.size_hint(), (1, Some(1)));
+    assert_eq!(rt; swap.next(), Some(Either::Right(&2)));
+    assert_eq!(rt; swap.next(), None);
+    assert_eq!(rt; swap.next_back(), None);
+    let mut owned = right.into_iter_swap();
+    assert_eq!(rt; owned.next(), Some(Either::Right(1)));
+    assert_eq!(rt; owned.next_back(), Some(Either::Right(3)));
+    let left = Either::<Vec<u8>>::Left(vec![in rt.alloc(); 4]?);
+    assert_eq!(rt; left.iter_swap().next(), Some(Either::Left(&4)));
+    let mut owned = left.into_iter_inner();
+    assert_eq!(rt; owned.len(), 1);
+    assert_eq!(rt; owned.next(), Some(4));
+    assert_eq!(rt; owned.next(), None);
+    assert_eq!(rt; owned.next_back(), None);
+    Ok(())
+}
+
+/// What is written through the items of a walk over an `Either` is what it holds afterwards.
+#[test]
+fn items_of_either_are_written(rt: HostRuntime) -> Result<(), Fail> {
+    for (value, want) in [
+        (Either::Left(1u8), Either::Left(11u8)),
+        (Either::Right(2), Either::Right(12)),
+    ] {
+        let mut value = value;
+        for item in value.iter_mut() {
+            *item = item.saturating_add(10);
+        }
+        assert_eq!(rt; value, want);
+        for item in &mut value {
+            *item = 5;
+        }
+        assert_eq!(rt; value.reduce(), 5);
+    }
+    let mut right = Either::<Vec<u8>>::Right(vec![in rt.alloc(); 1, 2]?);
+    for item in right.iter_inner_mut() {
+        *item = item.saturating_add(10);
+    }
+    assert_eq!(rt; right, Either::Right(vec![in rt.alloc(); 11, 12]?));
+    let mut left = Either::<Vec<u8>, Vec<char>>::Left(vec![in rt.alloc(); 1, 2]?);
+    for item in left.iter_swap_mut() {
+        match item {
+            Either::Left(number) => *number = number.saturating_add(20),
+            Either::Right(letter) => *letter = 'z',
+        }
+    }
+    assert_eq!(rt; left, Either::Left(vec![in rt.alloc(); 21, 22]?));
+    Ok(())
 }

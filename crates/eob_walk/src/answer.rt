@@ -1,19 +1,23 @@
 //! From a command, or from the number of a bad line, to its answer.
 ghost use Rattle.eob_walk.specs.Growth.{Extends};
 
+mod items;
+
 use crate::line::{Command, Sides};
 use either_or_both::EitherOrBoth;
+use items::{append_answers, append_items};
 use std::alloc::{AllocError, Allocator};
 
 /// Appends the answer to a command.
 #[tactic(auto, using(crate::proofs::GrowthLemmas::extends_trans))]
-pub fn append_answer<A: Allocator>(
+pub fn append_answer<A: Allocator + Clone>(
+    alloc: A,
     output: &mut Vec<u8, A>,
     command: &Command<A>,
 ) -> Result<(), AllocError>
     ensures { Extends output.old.items output.new.items }
 {
-    append_text(output, command)?;
+    append_text(alloc, output, command)?;
     output.push(b'\n')?;
     Ok(())
 }
@@ -31,7 +35,8 @@ pub fn append_bad_line<A: Allocator + Clone>(
 }
 
 // Appends the answer to a command, without the byte that ends it.
-fn append_text<A: Allocator>(
+fn append_text<A: Allocator + Clone>(
+    alloc: A,
     output: &mut Vec<u8, A>,
     command: &Command<A>,
 ) -> Result<(), AllocError>
@@ -39,6 +44,10 @@ fn append_text<A: Allocator>(
 {
     match command {
         Command::Collect(sides) => append_sides(output, sides),
+        Command::Walk(items) => append_items(output, items),
+        Command::Normal(true) => output.extend_from_slice(b"yes"),
+        Command::Normal(false) => output.extend_from_slice(b"no"),
+        Command::Ends(answers, rest) => append_answers(alloc, output, answers, *rest),
     }
 }
 

@@ -132,7 +132,7 @@ impl<A: Allocator + Copy> Answers<A> {
         ensures { Extends self.old.unwritten.items self.new.unwritten.items }
     {
         match parse_line(self.alloc, line)? {
-            Some(command) => append_answer(&mut self.unwritten, &command),
+            Some(command) => append_answer(self.alloc, &mut self.unwritten, &command),
             None => {
                 self.any_bad = true;
                 append_bad_line(self.alloc, &mut self.unwritten, self.lines)

@@ -4,7 +4,7 @@ ghost use Rattle.std.specs.Iterator.{IsFinite, YieldsFirstBy, item_count};
 ghost use Rattle.std.specs.Iterator.Runs.{EachRunFrom};
 ghost use Rattle.std.specs.Map.Iter.{TakesFirst, deref_pair};
 ghost use Rattle.either_or_both.specs.Join.{Rising};
-ghost use Rattle.either_or_both.specs.OuterJoin.{JoinsShownRuns, JoinsShown, join_can, join_remaining, join_steps, pairs_left};
+ghost use Rattle.either_or_both.specs.OuterJoin.{JoinsShownRuns, ShowsJoin, join_can, join_remaining, join_steps, pairs_left};
 
 use super::{JoinedPairs, OuterJoin, law_sorted_rises, outer_join_lazily};
 use std::collections::{BTreeMap, btree_map};
@@ -61,7 +61,8 @@ where
     outer_join_lazily(left, right)
 }
 
-/// The full outer join of two slices of pairs whose keys rise, as a walk over references to their keys and values.
+/// The full outer join of two slices of pairs whose keys rise, as a walk over references to their keys and values. That the keys rise
+/// is asked and not tested, as [`outer_join`](super::outer_join) does.
 ///
 /// ```
 /// let left = [(1, 'a'), (3, 'b')];
@@ -75,9 +76,11 @@ pub fn outer_join_slices<'a, K: Ord, A, B>(
     left: &'a [(K, A)],
     right: &'a [(K, B)],
 ) -> OuterJoin<PairRefs<'a, K, A>, PairRefs<'a, K, B>>
+    requires left { Rising K.cmp left.now }
+    requires right { Rising K.cmp right.now }
     ensures can { join_can (λ _. ⊤) (λ _. ⊤) result }
     ensures finite { IsFinite (join_remaining (item_count pairs_left) (item_count pairs_left) result) }
-    ensures runs { EachRunFrom (join_steps (λ j k. K.cmp j.now k.now) (YieldsFirstBy deref_pair pairs_left) (YieldsFirstBy deref_pair pairs_left)) result (λ p. JoinsShown K.cmp left.now right.now p) }
+    ensures runs { EachRunFrom (join_steps (λ j k. K.cmp j.now k.now) (YieldsFirstBy deref_pair pairs_left) (YieldsFirstBy deref_pair pairs_left)) result (λ p. ShowsJoin K.cmp left.now right.now p) }
 {
     outer_join_refs(PairRefs::new(left), PairRefs::new(right))
 }
@@ -90,9 +93,7 @@ pub fn outer_join_maps<'a, K: Ord, A, B>(
 ) -> OuterJoin<btree_map::Iter<'a, K, A>, btree_map::Iter<'a, K, B>>
     ensures can { join_can (λ _. ⊤) (λ _. ⊤) result }
     ensures finite { IsFinite (join_remaining (item_count (λ xs. xs)) (item_count (λ ys. ys)) result) }
-    ensures left_rises { Rising K.cmp left.now.entries }
-    ensures right_rises { Rising K.cmp right.now.entries }
-    ensures runs { EachRunFrom (join_steps (λ j k. K.cmp j.now k.now) (TakesFirst deref_pair) (TakesFirst deref_pair)) result (λ p. JoinsShown K.cmp left.now.entries right.now.entries p) }
+    ensures runs { EachRunFrom (join_steps (λ j k. K.cmp j.now k.now) (TakesFirst deref_pair) (TakesFirst deref_pair)) result (λ p. ShowsJoin K.cmp left.now.entries right.now.entries p) }
 {
     law_sorted_rises::<K, A>();
     law_sorted_rises::<K, B>();

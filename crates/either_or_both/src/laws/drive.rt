@@ -113,8 +113,33 @@ where
         → PlaceToCome R.into_iter_gives IsExactly R.IntoIter.DoubleEndedIterator b.view b.items (right_place pair)
         → IfOk result (λ d. d.rest ≡ left_over (aligned a.items b.items) ends.now) }
 {
-    let (answers, rest) = drive(alloc, pair.into_iter_swap(), ends)?;
+    let (answers, rest) = drive_swap_in(alloc, pair, ends)?;
     Ok(Driven { answers, rest })
+}
+
+/// The same, with memory of any allocator: the answers, and how many items are left.
+pub fn drive_swap_in<L, R, A: Allocator>(
+    alloc: A,
+    pair: EitherOrBoth<L, R>,
+    ends: &[End],
+) -> Result<(Vec<Option<EitherOrBoth<L::Item, R::Item>>, A>, usize), AllocError>
+where
+    L: IntoIterator,
+    R: IntoIterator,
+    L::IntoIter: DoubleEndedIterator + ExactSizeIterator,
+    R::IntoIter: DoubleEndedIterator + ExactSizeIterator,
+    L::Item: Drop,
+    R::Item: Drop,
+    requires { (a : Listed L.Item) × (b : Listed R.Item) × PlaceToCome L.into_iter_gives IsExactly L.IntoIter.DoubleEndedIterator a.view a.items (left_place pair)
+        × PlaceToCome R.into_iter_gives IsExactly R.IntoIter.DoubleEndedIterator b.view b.items (right_place pair) }
+    ensures answers { (a : Listed L.Item) (b : Listed R.Item) → PlaceToCome L.into_iter_gives IsExactly L.IntoIter.DoubleEndedIterator a.view a.items (left_place pair)
+        → PlaceToCome R.into_iter_gives IsExactly R.IntoIter.DoubleEndedIterator b.view b.items (right_place pair)
+        → IfOk result (λ d. map (option_map (map_places a.view b.view)) d.0.items ≡ answers (aligned a.items b.items) ends.now) }
+    ensures rest { (a : Listed L.Item) (b : Listed R.Item) → PlaceToCome L.into_iter_gives IsExactly L.IntoIter.DoubleEndedIterator a.view a.items (left_place pair)
+        → PlaceToCome R.into_iter_gives IsExactly R.IntoIter.DoubleEndedIterator b.view b.items (right_place pair)
+        → IfOk result (λ d. d.1 ≡ left_over (aligned a.items b.items) ends.now) }
+{
+    drive(alloc, pair.into_iter_swap(), ends)
 }
 
 /// Calls the ends of the chain over a pair in turn. Where the sides have lists still to come, the answers are those of calls of the

@@ -28,8 +28,8 @@ pub fn regroup<L: Drop, R: Drop>(
     regroup_in(alloc, list)
 }
 
-// The same, with memory of any allocator.
-fn regroup_in<L: Drop, R: Drop, A: Allocator + Copy>(
+/// The same, with memory of any allocator.
+pub fn regroup_in<L: Drop, R: Drop, A: Allocator + Copy>(
     alloc: A,
     list: Vec<EitherOrBoth<L, R>, A>,
 ) -> Result<Vec<EitherOrBoth<L, R>, A>, AllocError>

@@ -17,7 +17,7 @@ use std::collections::{BTreeMap, BTreeSet, HashMap, HashSet, VecDeque};
 use std::hash::{BuildHasher, Hash};
 
 // A container whose walk gives what it holds.
-trait Walked: IntoIterator {
+pub(super) trait Walked: IntoIterator {
     // The contents of a container, as a list.
     ghost contents: { Self → List Self.Item };
 
@@ -147,14 +147,16 @@ impl<K: Ord + Drop, A: Allocator> Walked for BTreeSet<K, A> {
 }
 
 // Walks the pair and collects what comes.
-fn recollect<C: Walked, D: Walked, P: FromIterator<EitherOrBoth<C::Item, D::Item>>>(
-    alloc: P::Alloc,
+pub(super) fn recollect<C: Walked, D: Walked, A: Allocator>(
+    alloc: A,
     pair: EitherOrBoth<C, D>,
-) -> Result<P, AllocError>
-    requires any { (xs : List (EitherOrBoth C.Item D.Item)) → P.can_from_iter xs }
-    requires whole { (v : P) → P.is_complete v }
+) -> Result<EitherOrBoth<C, D>, AllocError>
+where
+    EitherOrBoth<C, D>: FromIterator<EitherOrBoth<C::Item, D::Item>, Alloc = A>,
+    requires any { (xs : List (EitherOrBoth C.Item D.Item)) → ⟦<EitherOrBoth<C, D> as FromIterator<EitherOrBoth<C::Item, D::Item>>>⟧.can_from_iter xs }
+    requires whole { (v : EitherOrBoth C D) → ⟦<EitherOrBoth<C, D> as FromIterator<EitherOrBoth<C::Item, D::Item>>>⟧.is_complete v }
     ensures { IfOk result (λ v. (xs : List (EitherOrBoth C.Item D.Item)) × (lefts xs ≡ contents_at C.contents (left_place pair)) × (rights xs ≡ contents_at D.contents (right_place pair))
-        × C.is_held (contents_at C.contents (left_place pair)) × D.is_held (contents_at D.contents (right_place pair)) × P.from_iter_gives xs v) }
+        × C.is_held (contents_at C.contents (left_place pair)) × D.is_held (contents_at D.contents (right_place pair)) × ⟦<EitherOrBoth<C, D> as FromIterator<EitherOrBoth<C::Item, D::Item>>>⟧.from_iter_gives xs v) }
 {
     pair.into_iter_swap().collect(alloc)
 }

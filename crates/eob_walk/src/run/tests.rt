@@ -1,10 +1,12 @@
 //! What the program writes for its input, and how a run ends over streams that give little, take little or fail.
 
-use super::{Outcome, run};
+use super::{Outcome, run, run_in};
+use refusing::Refusing;
 use std::alloc::{AllocError, Global};
 use std::cell::Cell;
 use std::io;
 use std::io::{ErrorKind, Read, Write};
+use std::process::Abort;
 use std::test::Fail;
 
 // A reader of bytes in memory, at most `step` of them at a time. It can fail once where they end, and ends after that.
@@ -311,6 +313,72 @@ fn answers_line_longer_than_buffer(rt: HostRuntime) -> Result<(), Fail> {
             writer.taken.as_slice() == output.as_slice(),
             "length {length}"
         );
+    }
+    Ok(())
+}
+
+// Runs over the input with each request for memory refused in turn. A refused run asks for no more memory, ends with want of it and
+// has written whole answers alone, from the first on. The run that meets no refusal has written them all.
+fn refuse_each(
+    rt: &impl Abort,
+    alloc: Global,
+    input: &[u8],
+    output: &str,
+    status: u8,
+    step: usize,
+) -> Result<(), Fail> {
+    let memory = Refusing::new(alloc);
+    for number in 1..999 {
+        let mut reader = Source {
+            rest: input,
+            step,
+            failure: None,
+        };
+        let mut writer = Sink::new(alloc, step);
+        memory.refuse(number);
+        let outcome = run_in(&memory, &mut reader, &mut writer);
+        let written = writer.taken.as_slice();
+        if !memory.has_refused() {
+            assert_eq!(rt; outcome.status(), status, "{output}");
+            assert_eq!(rt; written, output.as_bytes());
+            assert!(rt; 1 < number, "{output}");
+            return Ok(());
+        }
+        assert_eq!(rt;
+            outcome.status(),
+            3,
+            "{output} with request {number} refused"
+        );
+        assert_eq!(rt; memory.asked(), number, "{output}");
+        assert!(rt;
+            output.as_bytes().starts_with(written),
+            "{output} with request {number} refused"
+        );
+        assert!(rt;
+            written.is_empty() || written.ends_with(b"\n"),
+            "{output} with request {number} refused"
+        );
+        assert_eq!(rt; writer.flushes, 0, "{output} with request {number} refused");
+    }
+    Err("each run was refused")?;
+    Ok(())
+}
+
+#[test]
+fn stops_where_memory_is_refused(rt: HostRuntime) -> Result<(), Fail> {
+    let rows: [(&[u8], &str, u8); 3] = [
+        (b"collect l:1\ncollect r:2\n", "Left [1]\nRight [2]\n", 0),
+        (
+            b"collect b:1:a l:2 r:b\n\ncollect\nx",
+            "Both [1 2] [a b]\nline 2: bad\nBoth [] []\nline 4: bad\n",
+            2,
+        ),
+        (b"", "", 0),
+    ];
+    for (input, output, status) in rows {
+        for step in [1, 5, usize::MAX] {
+            refuse_each(&rt, rt.alloc(), input, output, status, step)?;
+        }
     }
     Ok(())
 }

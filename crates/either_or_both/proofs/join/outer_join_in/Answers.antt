@@ -2,7 +2,7 @@ use Rattle.std.proofs.Common.{◌≡◌, [], append-nil, arith, sym, subst}
 use Rattle.std.proofs.lemmas.Grind.{common_steps}
 use Rattle.either_or_both.specs.Join.{IsJoin}
 use Rattle.either_or_both.proofs.MergeLemmas.{IsJoin-merge}
-use Rattle.either_or_both.proofs.join.join_lists.Goals as goal
+use Rattle.either_or_both.proofs.join.outer_join_in.Goals as goal
 
 pub returns-in-None-pop_front-6 : goal.returns-in-None-pop_front-6
 returns-in-None-pop_front-6 g c =

@@ -1,6 +1,6 @@
 use Rattle.std.proofs.Common.{◌≡◌, ◌+◌, ◌++◌, length}
 use Rattle.either_or_both.proofs.MergeLemmas.{merge}
-use Rattle.either_or_both.proofs.join.join_lists.Given as goal
+use Rattle.either_or_both.proofs.join.outer_join_in.Given as goal
 
 abbrev pub invariant-join : goal.invariant-join
 invariant-join g l = l.joined.items ++ merge g.K.Ord.cmp l.left.items l.right.items ≡ merge g.K.Ord.cmp l.fn.left.items l.fn.right.items

@@ -1,0 +1,33 @@
+//! Tests: the join with each request for memory refused in turn. They stand here since the join asks the system for its memory:
+//! what is tested is the private function that does its work, with memory of the tests' own.
+
+use super::{is_rising, join_lists};
+use refusing::{RUNS, Refusing, Runs, Tokens};
+use std::test::Fail;
+
+/// Both lists are dropped where memory is refused.
+#[test]
+fn joining(rt: HostRuntime) -> Result<(), Fail> {
+    let memory = Refusing::new(rt.alloc());
+    let tokens = Tokens::new(rt.alloc())?;
+    let runs = Runs::new(rt.alloc(), &memory, &tokens);
+    let want = "[(1, Left(1)), (2, Right(2)), (3, Both(3, 1)), (4, Right(3)), (5, Right(1))]";
+    for number in 1..RUNS {
+        memory.refuse(0);
+        let mut left = Vec::new(&memory);
+        left.push((1, tokens.one()?))?;
+        left.push((3, tokens.three()?))?;
+        let mut right = Vec::new(&memory);
+        right.push((2, tokens.two()?))?;
+        right.push((3, tokens.one()?))?;
+        right.push((4, tokens.three()?))?;
+        right.push((5, tokens.one()?))?;
+        assert!(rt; is_rising(&left) && is_rising(&right));
+        memory.refuse(number);
+        if runs.is_whole(join_lists(&memory, left, right), want)? {
+            return Ok(());
+        }
+    }
+    Err("each run was refused")?;
+    Ok(())
+}

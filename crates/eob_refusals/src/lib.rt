@@ -1,0 +1,13 @@
+//! Tests of refused memory: for each call that takes memory, and whose memory a caller may choose, the first request is refused,
+//! then the second, and so on, until a run meets no refusal.
+//!
+//! Each run gives want of memory or the whole answer, what was taken is dropped, and what was borrowed is as it was. The calls that
+//! ask for the memory of the system are tested in their own crate, through the private functions that do their work.
+#![tactic(auto)]
+
+#[cfg(test)]
+mod clones;
+#[cfg(test)]
+mod collecting;
+#[cfg(test)]
+mod extending;

@@ -1,0 +1,366 @@
+//! Tests: the paired walk and the chain of `EitherOrBoth`, from both ends, what they ask of their sides, and their hints.
+
+pub mod sides;
+
+use either_or_both::EitherOrBoth;
+use either_or_both::EitherOrBoth::{Both, Left, Right};
+use either_or_both::iter::ChainedIterEitherOrBoth;
+use sides::{Asked, Counting, Hinted};
+use std::alloc::AllocError;
+use std::iter::FusedIterator;
+
+type Hint = (usize, Option<usize>);
+
+/// Two lists, and what they give side by side.
+static SIDE_BY_SIDE: [(EitherOrBoth<&[u8], &[char]>, &[EitherOrBoth<u8, char>]); 11] = [
+    (Both(&[1, 2, 3], &['a']), &[Both(1, 'a'), Left(2), Left(3)]),
+    (Both(&[1], &['c', 'm']), &[Both(1, 'c'), Right('m')]),
+    (
+        Both(&[1, 2], &['a', 'b', 'c', 'd']),
+        &[Both(1, 'a'), Both(2, 'b'), Right('c'), Right('d')],
+    ),
+    (Both(&[1, 2], &['c', 'm']), &[Both(1, 'c'), Both(2, 'm')]),
+    (Both(&[], &['c']), &[Right('c')]),
+    (Both(&[1, 2], &[]), &[Left(1), Left(2)]),
+    (Both(&[], &[]), &[]),
+    (Left(&[1, 2]), &[Left(1), Left(2)]),
+    (Left(&[]), &[]),
+    (Right(&['c', 'm']), &[Right('c'), Right('m')]),
+    (Right(&[]), &[]),
+];
+
+/// Two lists, and what they give in turn.
+static IN_TURN: [(EitherOrBoth<&[u8], &[u8]>, &[u8]); 8] = [
+    (Both(&[1, 2], &[3]), &[1, 2, 3]),
+    (Both(&[1], &[2, 3]), &[1, 2, 3]),
+    (Both(&[], &[3]), &[3]),
+    (Both(&[1], &[]), &[1]),
+    (Both(&[], &[]), &[]),
+    (Left(&[1, 2]), &[1, 2]),
+    (Right(&[3]), &[3]),
+    (Right(&[]), &[]),
+];
+
+/// The sides of a pair of lists, each of which counts in a number of its own how often it is asked.
+fn counting<'a, T: Copy, U: Copy>(
+    pair: EitherOrBoth<&'a [T], &'a [U]>,
+    left: &'a Asked,
+    right: &'a Asked,
+) -> EitherOrBoth<Counting<'a, T>, Counting<'a, U>> {
+    match pair {
+        Left(l) => Left(Counting::new(l, left)),
+        Both(l, r) => Both(Counting::new(l, left), Counting::new(r, right)),
+        Right(r) => Right(Counting::new(r, right)),
+    }
+}
+
+/// How often a side with these items is asked on the way past its end: once for each item, and once more.
+fn to_the_end<T>(items: Option<&[T]>) -> usize {
+    match items {
+        Some(items) => items.len().saturating_add(1),
+        None => 0,
+    }
+}
+
+/// Takes a walk that is marked as one that stays ended, as walks over such sides are.
+fn stays_ended<I: FusedIterator>(_walk: &I) {}
+
+/// From the front the aligned list comes, its length and its hint are known at each step, and a side that has ended is asked no
+/// more.
+#[test]
+fn paired_forward(rt: HostRuntime) {
+    for (pair, want) in SIDE_BY_SIDE.iter().copied() {
+        let (left, right) = (Asked::new(), Asked::new());
+        let mut walk = counting(pair, &left, &right).into_iter_swap();
+        stays_ended(&walk);
+        for (taken, item) in want.iter().copied().enumerate() {
+            let more = want.len().saturating_sub(taken);
+            assert_eq!(rt; walk.len(), more, "{pair:?}");
+            assert_eq!(rt; walk.size_hint(), (more, Some(more)), "{pair:?}");
+            assert_eq!(rt; walk.next(), Some(item), "{pair:?}");
+        }
+        for _ in 0..3 {
+            assert_eq!(rt; walk.len(), 0, "{pair:?}");
+            assert_eq!(rt; walk.size_hint(), (0, Some(0)), "{pair:?}");
+            assert_eq!(rt; walk.next(), None, "{pair:?}");
+            assert_eq!(rt; walk.next_back(), None, "{pair:?}");
+        }
+        assert_eq!(rt; left.calls(), (to_the_end(pair.left()), 0), "{pair:?}");
+        assert_eq!(rt; right.calls(), (to_the_end(pair.right()), 0), "{pair:?}");
+    }
+}
+
+/// From the back the same list comes, last first: the longer side is asked alone until the two have equally many items left.
+#[test]
+fn paired_backward(rt: HostRuntime) {
+    for (pair, want) in SIDE_BY_SIDE.iter().copied() {
+        let (left, right) = (Asked::new(), Asked::new());
+        let mut walk = counting(pair, &left, &right).into_iter_swap();
+        for item in want.iter().copied().rev() {
+            assert_eq!(rt; walk.next_back(), Some(item), "{pair:?}");
+        }
+        for _ in 0..3 {
+            assert_eq!(rt; walk.next_back(), None, "{pair:?}");
+            assert_eq!(rt; walk.next(), None, "{pair:?}");
+            assert_eq!(rt; walk.size_hint(), (0, Some(0)), "{pair:?}");
+        }
+        assert_eq!(rt; left.calls(), (0, to_the_end(pair.left())), "{pair:?}");
+        assert_eq!(rt; right.calls(), (0, to_the_end(pair.right())), "{pair:?}");
+    }
+}
+
+/// One call of the back asks the side that gives the item, and the shorter one nothing.
+#[test]
+fn paired_back_once(rt: HostRuntime) {
+    let (left, right) = (Asked::new(), Asked::new());
+    let mut walk = counting(Both(&[1, 2, 3], &['a']), &left, &right).into_iter_swap();
+    assert_eq!(rt; walk.next_back(), Some(Left(3)));
+    assert_eq!(rt; left.calls(), (0, 1));
+    assert_eq!(rt; right.calls(), (0, 0));
+}
+
+/// The chain gives the left list and then the right one, and asks a side that has ended no more.
+#[test]
+fn chain_forward(rt: HostRuntime) {
+    for (pair, want) in IN_TURN.iter().copied() {
+        let (left, right) = (Asked::new(), Asked::new());
+        let mut walk = counting(pair, &left, &right).into_iter_chain();
+        stays_ended(&walk);
+        for (taken, item) in want.iter().copied().enumerate() {
+            let more = want.len().saturating_sub(taken);
+            assert_eq!(rt; walk.size_hint(), (more, Some(more)), "{pair:?}");
+            assert_eq!(rt; walk.next(), Some(item), "{pair:?}");
+        }
+        for _ in 0..3 {
+            assert_eq!(rt; walk.size_hint(), (0, Some(0)), "{pair:?}");
+            assert_eq!(rt; walk.next(), None, "{pair:?}");
+            assert_eq!(rt; walk.next_back(), None, "{pair:?}");
+        }
+        assert_eq!(rt; left.calls(), (to_the_end(pair.left()), 0), "{pair:?}");
+        assert_eq!(rt; right.calls(), (to_the_end(pair.right()), 0), "{pair:?}");
+    }
+}
+
+/// From the back the right list comes first, and then the left one.
+#[test]
+fn chain_backward(rt: HostRuntime) {
+    for (pair, want) in IN_TURN.iter().copied() {
+        let (left, right) = (Asked::new(), Asked::new());
+        let mut walk = counting(pair, &left, &right).into_iter_chain();
+        for item in want.iter().copied().rev() {
+            assert_eq!(rt; walk.next_back(), Some(item), "{pair:?}");
+        }
+        for _ in 0..3 {
+            assert_eq!(rt; walk.next_back(), None, "{pair:?}");
+            assert_eq!(rt; walk.next(), None, "{pair:?}");
+            assert_eq!(rt; walk.size_hint(), (0, Some(0)), "{pair:?}");
+        }
+        assert_eq!(rt; left.calls(), (0, to_the_end(pair.left())), "{pair:?}");
+        assert_eq!(rt; right.calls(), (0, to_the_end(pair.right())), "{pair:?}");
+    }
+}
+
+/// One call of the chain's back asks the right side alone.
+#[test]
+fn chain_back_once(rt: HostRuntime) {
+    let (left, right) = (Asked::new(), Asked::new());
+    let mut walk = counting(Both(&[1], &[2, 3]), &left, &right).into_iter_chain();
+    assert_eq!(rt; walk.next_back(), Some(3));
+    assert_eq!(rt; left.calls(), (0, 0));
+    assert_eq!(rt; right.calls(), (0, 1));
+}
+
+/// Sides, how many items are taken at most, and the hints of the paired walk and of the chain over them then. A call takes an item of both
+/// sides of the paired walk, and of the first side of the chain that has one.
+fn hints() -> [(EitherOrBoth<Hinted>, usize, Hint, Hint); 17] {
+    [
+        (
+            Both(sides::ENDLESS, Hinted::exact(1)),
+            0,
+            (usize::MAX, None),
+            (usize::MAX, None),
+        ),
+        (
+            Both(Hinted::exact(1), sides::ENDLESS),
+            0,
+            (usize::MAX, None),
+            (usize::MAX, None),
+        ),
+        (
+            Both(Hinted::vague(usize::MAX), Hinted::vague(1)),
+            0,
+            (0, Some(usize::MAX)),
+            (0, None),
+        ),
+        (
+            Both(Hinted::vague(usize::MAX), Hinted::vague(0)),
+            0,
+            (0, Some(usize::MAX)),
+            (0, Some(usize::MAX)),
+        ),
+        (
+            Both(Hinted::exact(usize::MAX), Hinted::exact(1)),
+            0,
+            (usize::MAX, Some(usize::MAX)),
+            (usize::MAX, None),
+        ),
+        (
+            Both(Hinted::exact(2), Hinted::exact(1)),
+            0,
+            (2, Some(2)),
+            (3, Some(3)),
+        ),
+        (
+            Both(Hinted::exact(1), Hinted::vague(3)),
+            0,
+            (1, Some(3)),
+            (1, Some(4)),
+        ),
+        (Left(Hinted::vague(3)), 0, (0, Some(3)), (0, Some(3))),
+        (
+            Left(sides::ENDLESS),
+            0,
+            (usize::MAX, None),
+            (usize::MAX, None),
+        ),
+        (Right(Hinted::exact(3)), 0, (3, Some(3)), (3, Some(3))),
+        (
+            Both(Hinted::exact(2), Hinted::exact(1)),
+            1,
+            (1, Some(1)),
+            (2, Some(2)),
+        ),
+        (
+            Both(sides::ENDLESS, Hinted::exact(1)),
+            1,
+            (usize::MAX, None),
+            (usize::MAX, None),
+        ),
+        (
+            Both(Hinted::exact(1), Hinted::vague(3)),
+            1,
+            (0, Some(2)),
+            (0, Some(3)),
+        ),
+        (Right(Hinted::exact(3)), 2, (1, Some(1)), (1, Some(1))),
+        (
+            Both(Hinted::exact(2), Hinted::exact(1)),
+            4,
+            (0, Some(0)),
+            (0, Some(0)),
+        ),
+        (
+            Both(Hinted::vague(1), Hinted::vague(1)),
+            4,
+            (0, Some(0)),
+            (0, Some(0)),
+        ),
+        (Left(Hinted::vague(1)), 4, (0, Some(0)), (0, Some(0))),
+    ]
+}
+
+/// A walk over both sides takes the greater bounds or the sums, one over a lone side takes that side's, and an ended one has none
+/// left.
+#[test]
+fn hints_of_walks(rt: HostRuntime) {
+    for (sides, taken, paired_want, chain_want) in hints() {
+        let mut paired = sides.into_iter_swap();
+        let mut chain = sides.into_iter_chain();
+        for _ in paired.by_ref().take(taken) {}
+        for _ in chain.by_ref().take(taken) {}
+        assert_eq!(rt;
+            paired.size_hint(),
+            paired_want,
+            "paired, {taken} taken of {sides:?}"
+        );
+        assert_eq!(rt;
+            chain.size_hint(),
+            chain_want,
+            "chain, {taken} taken of {sides:?}"
+        );
+    }
+}
+
+/// What both begun walks still give is what the clone gives, and taking from the clone leaves the walk as it was.
+#[test]
+fn clones_of_begun_walks(rt: HostRuntime) -> Result<(), AllocError> {
+    let pair: EitherOrBoth<[u8; 2], [char; 3]> = Both([1, 2], ['c', 'm', 'x']);
+    let mut walk = pair.iter_swap();
+    assert_eq!(rt; walk.next(), Some(Both(&1, &'c')));
+    let mut copy = walk.clone()?;
+    assert_eq!(rt; copy.next(), Some(Both(&2, &'m')));
+    assert_eq!(rt; copy.next(), Some(Right(&'x')));
+    assert_eq!(rt; copy.next(), None);
+    assert_eq!(rt; walk.next(), Some(Both(&2, &'m')));
+    assert_eq!(rt; walk.next(), Some(Right(&'x')));
+    assert_eq!(rt; walk.next(), None);
+    let pair: EitherOrBoth<[u8; 2], [u8; 2]> = Both([1, 2], [3, 4]);
+    let mut walk = pair.iter_chain();
+    assert_eq!(rt; walk.next(), Some(&1));
+    let mut copy = walk.clone()?;
+    assert_eq!(rt; copy.next(), Some(&2));
+    assert_eq!(rt; copy.next(), Some(&3));
+    assert_eq!(rt; copy.next(), Some(&4));
+    assert_eq!(rt; copy.next(), None);
+    assert_eq!(rt; walk.next_back(), Some(&4));
+    assert_eq!(rt; walk.next(), Some(&2));
+    assert_eq!(rt; walk.next(), Some(&3));
+    assert_eq!(rt; walk.next(), None);
+    Ok(())
+}
+
+/// A default chain is the walk over a lone left side, the default of the inner iterator.
+#[test]
+fn default_chain(rt: HostRuntime) {
+    let mut empty = ChainedIterEitherOrBoth::<std::iter::Empty<u8>>::default();
+    assert_eq!(rt; empty.next(), None);
+    assert_eq!(rt; empty.next_back(), None);
+    let mut two = ChainedIterEitherOrBoth::<Hinted>::default();
+    assert_eq!(rt; two.size_hint(), (2, Some(2)));
+    assert_eq!(rt; two.next(), Some(0));
+    assert_eq!(rt; two.next(), Some(0));
+    assert_eq!(rt; two.next(), None);
+}
+
+/// What is written through the items of the paired walk is what the value holds afterwards.
+#[test]
+fn writing_side_by_side(rt: HostRuntime) {
+    let rows: [(
+        EitherOrBoth<[u8; 3], [u16; 2]>,
+        EitherOrBoth<[u8; 3], [u16; 2]>,
+    ); 3] = [
+        (Both([1, 2, 3], [4, 5]), Both([11, 12, 13], [104, 105])),
+        (Left([1, 2, 3]), Left([11, 12, 13])),
+        (Right([4, 5]), Right([104, 105])),
+    ];
+    for (value, want) in rows {
+        let mut pair = value;
+        for item in pair.iter_swap_mut() {
+            let (left, right) = item.unzip();
+            if let Some(l) = left {
+                *l = l.saturating_add(10);
+            }
+            if let Some(r) = right {
+                *r = r.saturating_add(100);
+            }
+        }
+        assert_eq!(rt; pair, want, "{value:?}");
+    }
+}
+
+/// What is written through the items of the chain is what the value holds afterwards.
+#[test]
+fn writing_in_turn(rt: HostRuntime) {
+    let rows: [(EitherOrBoth<[u8; 2]>, EitherOrBoth<[u8; 2]>); 3] = [
+        (Both([1, 2], [3, 4]), Both([11, 12], [13, 14])),
+        (Left([1, 2]), Left([11, 12])),
+        (Right([3, 4]), Right([13, 14])),
+    ];
+    for (value, want) in rows {
+        let mut pair = value;
+        for item in pair.iter_chain_mut() {
+            *item = item.saturating_add(10);
+        }
+        assert_eq!(rt; pair, want, "{value:?}");
+    }
+}
