@@ -4,6 +4,7 @@ ghost use Rattle.either_or_both.specs.Aligned.{aligned};
 ghost use Rattle.either_or_both.specs.Places.{left_place, right_place};
 
 use either_or_both::EitherOrBoth;
+use eob_listing::listed::law_rev;
 use std::alloc::{AllocError, Global};
 
 /// The first item beside the first, the second beside the second, and so on.
@@ -19,6 +20,20 @@ pub fn lined_up(
         .into_iter_swap()
         .map(|item| item.or(filler, filler))
         .collect(alloc)
+}
+
+/// The same rows, the last one first.
+pub fn lined_up_reversed(
+    alloc: Global,
+    left: Vec<char>,
+    right: Vec<char>,
+    filler: char,
+) -> Result<Vec<(char, char)>, AllocError>
+    ensures { IfOk result (λ v. v.items ≡ map (λ x. (unwrap_or (left_place x) filler, unwrap_or (right_place x) filler)) (reverse (aligned left.items right.items))) }
+{
+    let walk = EitherOrBoth::Both(left, right).into_iter_swap().rev();
+    law_rev(&walk);
+    walk.map(|item| item.or(filler, filler)).collect(alloc)
 }
 
 /// The last item beside the last, the one before it beside the one before it, and so on, from the last on.

@@ -18,7 +18,7 @@ pub fn parse_table(alloc: Global, text: &str) -> Result<BTreeMap<&str, &str>, Al
 }
 
 // What is said of a row.
-fn mark(cells: &EitherOrBoth<&str, &str>) -> &'static str {
+fn mark<'a>(cells: &EitherOrBoth<&'a str, &'a str>) -> &'static str {
     match cells {
         EitherOrBoth::Left(_) => "removed",
         EitherOrBoth::Both(..) if is_changed(cells) => "changed",
@@ -28,9 +28,9 @@ fn mark(cells: &EitherOrBoth<&str, &str>) -> &'static str {
 }
 
 /// The report as text: a row for each key, lined up in columns, and a line with the counts.
-pub fn render(
+pub fn render<'a>(
     alloc: Global,
-    rows: &[(&str, EitherOrBoth<&str, &str>)],
+    rows: &[(&'a str, EitherOrBoth<&'a str, &'a str>)],
 ) -> Result<String, AllocError> {
     let key = rows
         .iter()

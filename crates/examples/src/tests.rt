@@ -4,7 +4,7 @@ use crate::changes::{Counts, compare, count_changes};
 use crate::closures::{feed_both, map_left_by};
 use crate::json::{Row, from_json, to_json};
 use crate::keys::{number_of, put_number, sort};
-use crate::lined_up::{lined_up, lined_up_at_ends};
+use crate::lined_up::{lined_up, lined_up_at_ends, lined_up_reversed};
 use crate::readers::{next_line, opened};
 use crate::readme::{joined, port, side_by_side, split};
 use crate::report::{parse_table, render};
@@ -139,6 +139,9 @@ fn of_lined_up(rt: HostRuntime) -> Result<(), Fail> {
     let alloc = rt.alloc();
     let rows = lined_up(alloc, &['a', 'b', 'c'], &['x'], '.')?;
     assert_eq!(rt; rows, vec![in alloc; ('a', 'x'), ('b', '.'), ('c', '.')]?);
+    let (left, right) = (vec![in alloc; 'a', 'b', 'c']?, vec![in alloc; 'x']?);
+    let rows = lined_up_reversed(alloc, left, right, '.')?;
+    assert_eq!(rt; rows, vec![in alloc; ('c', '.'), ('b', '.'), ('a', 'x')]?);
     let rows = lined_up_at_ends(alloc, &['a', 'b', 'c'], &['x'], '.')?;
     assert_eq!(rt; rows, vec![in alloc; ('c', 'x'), ('b', '.'), ('a', '.')]?);
     Ok(())
