@@ -1,7 +1,7 @@
 //! Tests: the join with each request for memory refused in turn. They stand here since the join asks the system for its memory:
 //! what is tested is the private function that does its work, with memory of the tests' own.
 
-use super::{is_rising, join_lists};
+use super::{is_rising, outer_join_in};
 use refusing::{RUNS, Refusing, Runs, Tokens};
 use std::test::Fail;
 
@@ -24,7 +24,7 @@ fn joining(rt: HostRuntime) -> Result<(), Fail> {
         right.push((5, tokens.one()?))?;
         assert!(rt; is_rising(&left) && is_rising(&right));
         memory.refuse(number);
-        if runs.is_whole(join_lists(&memory, left, right), want)? {
+        if runs.is_whole(outer_join_in(&memory, left, right), want)? {
             return Ok(());
         }
     }

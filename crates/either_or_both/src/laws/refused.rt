@@ -122,18 +122,6 @@ fn collecting_entries_again(rt: HostRuntime) -> Result<(), Fail> {
         &[(t.three()?, t.three()?)][..],
     );
     check::<HashedMap<_>>(alloc, m, t, single, "Both({2: 1}, {3: 3})")?;
-    check::<IndexedMap<_>>(
-        alloc,
-        m,
-        t,
-        sides,
-        "Both({2: 1, 1: 2}, {3: 3})",
-    )?;
-    check::<OrderedMap<_>>(
-        alloc,
-        m,
-        t,
-        sides,
-        "Both({1: 2, 2: 1}, {3: 3})",
-    )
+    check::<IndexedMap<_>>(alloc, m, t, sides, "Both({2: 1, 1: 2}, {3: 3})")?;
+    check::<OrderedMap<_>>(alloc, m, t, sides, "Both({1: 2, 2: 1}, {3: 3})")
 }
