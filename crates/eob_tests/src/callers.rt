@@ -1,8 +1,7 @@
 //! Small callers that are proved from the contracts of `either_or_both` alone, with no proof of their own: laws that join several
-//! calls, and uses as a program makes them. A module for each enum, one for collected containers, one for uses inside other types,
-//! one for streams, and one for the README's example.
-//! calls, and uses as a program makes them. A module for each enum, one for uses inside other types, one for the walks, and one for
-//! the README's example.
+//! calls, and uses as a program makes them. A module for each enum, one for collected containers, one for joins, one for uses inside
+//! other types, one for streams, and three for walks: over values, over two sides, and from both ends. Recipes for a user stand in
+//! the crate `examples`, not here.
 ghost use Rattle.std.specs.Prelude.{◌≡◌, fold};
 
 pub mod of_containers;
@@ -14,7 +13,6 @@ pub mod of_programs;
 pub mod of_streams;
 pub mod of_values;
 pub mod of_walks;
-pub mod readme;
 
 use std::hash::{Hash, Hasher};
 

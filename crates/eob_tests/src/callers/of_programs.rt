@@ -1,19 +1,10 @@
 //! Uses of both enums as programs make them: inside other types, as keys, behind references, and with closures that are handed on.
-ghost use Rattle.std.specs.Prelude.{◌≡◌, ◌↔◌, Some, None, Ok, Err, IsSome, IsNone, IsOk, IsErr, IsTrue, IfOk, IfErr, IfSome, OnOk, is_some, option_map, unwrap_or, ◌+◌, ◌*◌, ◌^◌, ◌<◌, ◌≤◌, length, string_bytes, count_by};
-ghost use Rattle.std.specs.Option.{ForSome};
-ghost use Rattle.std.specs.Ordering.{nat_cmp};
-ghost use Rattle.std.specs.BTreeMap.{get};
-ghost use Rattle.std.specs.List.{filter_map};
-ghost use Rattle.std.specs.List.Sorted.{IsSorted};
-ghost use Rattle.std.specs.Result.{result_ok, result_err};
-ghost use Rattle.either_or_both.specs.Places.{left_place, right_place, map_places, MapsPlace, MatchPlaces};
-ghost use Rattle.either_or_both.specs.Order.{places_cmp};
-ghost use Rattle.either_or_both.specs.Sides.{lefts, rights, pair_of};
+ghost use Rattle.std.specs.Prelude.{◌≡◌, ◌↔◌, Some, Ok, Err, IsSome, IsNone, IsOk, IsErr, IsTrue, IfOk, is_some, option_map, unwrap_or, ◌+◌, ◌<◌, length, string_bytes, count_by};
+ghost use Rattle.either_or_both.specs.Places.{left_place, right_place, MapsPlace};
+ghost use Rattle.either_or_both.specs.Sides.{lefts, rights};
 
-use either_or_both::laws::law_results;
-use either_or_both::{Either, EitherOrBoth, TryFromOptionsError};
+use either_or_both::{EitherOrBoth, TryFromOptionsError};
 use std::alloc::{AllocError, AllocFailed, Global};
-use std::collections::BTreeMap;
 
 /// A row of a report on two versions of a table.
 #[derive(Debug, Clone, PartialEq, Eq, PartialOrd, Ord, Hash, Drop)]
@@ -59,32 +50,6 @@ pub fn is_empty_text(v: &EitherOrBoth<String, char>) -> bool
     ensures { IsTrue result → IsSome (left_place v.now) }
 {
     v.as_ref().has_left_and(|l| l.is_empty())
-}
-
-/// A value that is a key of a map.
-pub fn number_of(names: &BTreeMap<EitherOrBoth<u8, u8>, u32>, key: EitherOrBoth<u8, u8>) -> u32
-    ensures { result ≡ unwrap_or (get (places_cmp nat_cmp nat_cmp) names.now key) 0 }
-{
-    names.get(&key).copied().unwrap_or(0)
-}
-
-/// A value put under a key of a map is found there.
-pub fn put_number(
-    names: &mut BTreeMap<EitherOrBoth<u8, u8>, u32>,
-    key: EitherOrBoth<u8, u8>,
-    n: u32,
-) -> Result<(), AllocError>
-    ensures { OnOk result (get (places_cmp nat_cmp nat_cmp) names.new key ≡ Some n) }
-{
-    names.insert(key, n)?;
-    Ok(())
-}
-
-/// A list of values, sorted.
-pub fn sorted(values: &mut Vec<EitherOrBoth<u8, u8>>) -> Result<(), AllocError>
-    ensures { OnOk result (IsSorted (places_cmp nat_cmp nat_cmp) values.new.items) }
-{
-    values.sort()
 }
 
 /// The errors of a program that meets the refusal.
@@ -134,14 +99,6 @@ pub fn feed_each<T, F: FnMut(T) + Drop>(v: EitherOrBoth<T, T>, f: F)
     v.apply(f);
 }
 
-/// The same with a closure that is lent.
-pub fn feed_both<T, F: FnMut(T) + Drop>(v: EitherOrBoth<T, T>, w: EitherOrBoth<T, T>, mut f: F)
-    requires { (state : F) (x : _) → F.pre state x }
-{
-    v.apply(&mut f);
-    w.apply(&mut f);
-}
-
 /// How many of a list have a left value.
 pub fn count_lefts(list: &[EitherOrBoth<u8, char>]) -> usize
     ensures { result ≡ count_by (λ v. is_some (left_place v)) list.now }
@@ -156,17 +113,6 @@ pub fn sum_lefts(list: &[EitherOrBoth<u8, char>]) -> u32 {
         sum = sum.saturating_add(v.map_left_or(0, |l| l as u32));
     }
     sum
-}
-
-/// Results parted: on the left exactly the errors, on the right exactly the successes, each in order.
-pub fn part<T: Drop, E: Drop>(
-    alloc: Global,
-    results: Vec<Result<T, E>>,
-) -> Result<EitherOrBoth<Vec<E>, Vec<T>>, AllocError>
-    ensures { IfOk result (λ v. map_places (λ l. l.items) (λ r. r.items) v ≡ pair_of (filter_map result_err results.items) (filter_map result_ok results.items)) }
-{
-    law_results(&results);
-    results.into_iter().map(Either::from).collect(alloc)
 }
 
 /// The values of a list on their two sides, and how many there are.

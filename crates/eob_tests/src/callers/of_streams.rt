@@ -1,10 +1,9 @@
 //! Callers of `Either` as a reader, a writer, a pointer and a container: each is generic in the trait, or holds one of two that were
 //! chosen at run time, and knows as much through an `Either` as it would of the side alone.
-ghost use Rattle.std.specs.Prelude.{◌≡◌, Some, IfOk, IfSome, OnOk, drop, take, option_map, ◌++◌, string_bytes, is_some, MatchResult, IsSomeAnd, List, ℕ, unwrap_or};
+ghost use Rattle.std.specs.Prelude.{◌≡◌, Some, IfOk, IfSome, OnOk, drop, take, option_map, ◌++◌, string_bytes, is_some, MatchResult, IsSomeAnd, List, ℕ};
 ghost use Rattle.std.specs.Iterator.{Drains, Yields, IsFinite};
 ghost use Rattle.std.specs.Io.Cursor.{cursor_inner, cursor_position, cursor_remaining};
 ghost use Rattle.std.specs.Io.KnownBytes.{Appends, Consumes, IsAtEnd};
-ghost use Rattle.std.specs.Io.BufRead.{take_through};
 ghost use Rattle.either_or_both.specs.Places.{MapsPlace};
 ghost use Rattle.either_or_both.specs.Either.{left_place, right_place};
 ghost use Rattle.either_or_both.specs.EitherStreams.{of_held};
@@ -14,17 +13,6 @@ use std::alloc::AllocError;
 use std::io;
 use std::io::{BufRead, Cursor, Read, Seek, SeekFrom, Write};
 use std::ops::{Deref, DerefMut};
-
-/// One of two readers, chosen at run time: what is stored where there is some, else what is given. No box is made.
-pub fn opened(stored: Option<Vec<u8>>, given: &[u8]) -> Either<&[u8], Cursor<Vec<u8>>>
-    ensures { of_held (λ l. l.now) (λ r. drop (cursor_position r) (cursor_inner r).items) result
-        ≡ unwrap_or (option_map (λ v. v.items) stored) given.now }
-{
-    match stored {
-        Some(bytes) => Either::Right(Cursor::new(bytes)),
-        None => Either::Left(given),
-    }
-}
 
 /// Fills the buffer from any reader, and knows what it has left.
 pub fn fill<R: Read>(reader: &mut R, buf: &mut [u8]) -> io::Result<()>
@@ -86,18 +74,6 @@ pub fn rest_of_either(
         (λ r. buf.new.items ≡ buf.old.items ++ drop (cursor_position r) (cursor_inner r).items)) }
 {
     read_rest(reader, buf)
-}
-
-/// The next line of one of two readers, up to and with its end.
-pub fn line_of_either(
-    reader: &mut Either<&[u8], Cursor<Vec<u8>>>,
-    line: &mut Vec<u8>,
-) -> io::Result<usize>
-    ensures left { OnOk result (IfSome (left_place reader.old) (λ l. line.new.items ≡ line.old.items ++ take_through 10 l.now)) }
-    ensures right { OnOk result (IfSome (right_place reader.old)
-        (λ r. line.new.items ≡ line.old.items ++ take_through 10 (drop (cursor_position r) (cursor_inner r).items))) }
-{
-    reader.read_until(10, line)
 }
 
 /// Writes two texts to any writer.

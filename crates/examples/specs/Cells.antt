@@ -1,0 +1,17 @@
+-- A key's value before and after.
+use Rattle.std.specs.Prelude.{Bool, true, false, not}
+use Rattle.either_or_both.specs.declared.EitherOrBoth.{EitherOrBoth}
+use Rattle.either_or_both.specs.declared.EitherOrBoth.TheVariants.{Left, Both, Right}
+
+module _ {V : Type 0} (eq : V → V → Bool) where
+  -- the key is there before and after, with equal values
+  abbrev pub stays : EitherOrBoth V V → Bool
+  stays (Left old) = false
+  stays (Both old new) = eq old new
+  stays (Right new) = false
+
+  -- the key is there before and after, with unequal values
+  abbrev pub changes : EitherOrBoth V V → Bool
+  changes (Left old) = false
+  changes (Both old new) = not (eq old new)
+  changes (Right new) = false

@@ -1,0 +1,2 @@
+-- The words of the recipes' contracts.
+pub mod Cells
