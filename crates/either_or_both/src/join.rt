@@ -42,8 +42,8 @@ pub fn is_rising<K: Ord, V>(list: &[(K, V)]) -> bool
 /// ```
 /// let left = vec![in alloc; (1, 'a'), (3, 'b')]?;
 /// let right = vec![in alloc; (2, 'x'), (3, 'y')]?;
-/// let joined = outer_join(alloc, left, right)?;
-/// assert_eq!(rt; joined, [(1, Left('a')), (2, Right('x')), (3, Both('b', 'y'))]);
+/// let joined = vec![in alloc; (1, Left('a')), (2, Right('x')), (3, Both('b', 'y'))]?;
+/// assert_eq!(rt; outer_join(alloc, left, right)?, joined);
 /// ```
 pub fn outer_join<K: Ord + Drop, A: Drop, B: Drop>(
     alloc: Global,

@@ -38,6 +38,14 @@ impl<L, R> EitherOrBoth<L, R> {
     }
 
     /// The same walk over references to both sides.
+    ///
+    /// ```
+    /// let lists = EitherOrBoth::Both([1, 2], ['a']);
+    /// let mut walk = lists.iter_swap();
+    /// assert_eq!(rt; walk.next(), Some(EitherOrBoth::Both(&1, &'a')));
+    /// assert_eq!(rt; walk.next(), Some(EitherOrBoth::Left(&2)));
+    /// assert_eq!(rt; walk.next(), None);
+    /// ```
     pub fn iter_swap<'a>(
         &'a self,
     ) -> SwapIterEitherOrBoth<<&'a L as IntoIterator>::IntoIter, <&'a R as IntoIterator>::IntoIter>
@@ -94,6 +102,13 @@ impl<T> EitherOrBoth<T, T> {
     }
 
     /// The same walk over references to both sides.
+    ///
+    /// ```
+    /// let lists = EitherOrBoth::Both([1, 2], [3, 4]);
+    /// let mut walk = lists.iter_chain();
+    /// assert_eq!(rt; walk.next(), Some(&1));
+    /// assert_eq!(rt; walk.next_back(), Some(&4));
+    /// ```
     pub fn iter_chain<'a>(&'a self) -> ChainedIterEitherOrBoth<<&'a T as IntoIterator>::IntoIter>
     where
         &'a T: IntoIterator,

@@ -37,6 +37,13 @@ impl<L, R> Either<L, R> {
     }
 
     /// The same walk over a reference to the held side.
+    ///
+    /// ```
+    /// let list: Either<[u8; 2], [char; 1]> = Either::Left([1, 2]);
+    /// let mut walk = list.iter_swap();
+    /// assert_eq!(rt; walk.next(), Some(Either::Left(&1)));
+    /// assert_eq!(rt; walk.next_back(), Some(Either::Left(&2)));
+    /// ```
     pub fn iter_swap<'a>(
         &'a self,
     ) -> SwapIterEither<<&'a L as IntoIterator>::IntoIter, <&'a R as IntoIterator>::IntoIter>
@@ -91,6 +98,12 @@ impl<T> Either<T, T> {
     }
 
     /// The same walk over a reference to the held side.
+    ///
+    /// ```
+    /// let list: Either<[u8; 2], [u8; 2]> = Either::Right([1, 2]);
+    /// let mut walk = list.iter_inner();
+    /// assert_eq!(rt; walk.next_back(), Some(&2));
+    /// ```
     pub fn iter_inner<'a>(&'a self) -> InnerIterEither<<&'a T as IntoIterator>::IntoIter>
     where
         &'a T: IntoIterator,

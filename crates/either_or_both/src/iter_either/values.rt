@@ -260,6 +260,13 @@ impl<'a, T> IntoIterator for &'a mut Either<T, T> {
 
 impl<T> Either<T, T> {
     /// The walk over a reference to the one value.
+    ///
+    /// ```
+    /// let value = Either::Right(1);
+    /// let mut walk = value.iter();
+    /// assert_eq!(rt; walk.next(), Some(&1));
+    /// assert_eq!(rt; walk.next(), None);
+    /// ```
     pub fn iter(&self) -> IterEither<'_, T>
         ensures { ref_left result ≡ held self.now ∷ [] }
     {

@@ -87,6 +87,14 @@ pub fn outer_join_slices<'a, K: Ord, A, B>(
 
 /// The full outer join of two ordered maps that stay as they are, as a walk over references to their keys and values. The keys of
 /// an ordered map rise, so nothing is asked of them.
+///
+/// ```
+/// let mut left = BTreeMap::new(alloc);
+/// left.insert(1, 'a')?;
+/// let right = BTreeMap::<i32, char>::new(alloc);
+/// let mut walk = outer_join_maps(&left, &right);
+/// assert_eq!(rt; walk.next(), Some((&1, Left(&'a'))));
+/// ```
 pub fn outer_join_maps<'a, K: Ord, A, B>(
     left: &'a BTreeMap<K, A>,
     right: &'a BTreeMap<K, B>,

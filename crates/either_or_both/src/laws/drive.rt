@@ -89,7 +89,8 @@ where
 /// ```
 /// let pair = EitherOrBoth::Both([1, 2, 3], ['a']);
 /// let driven = drive_swap(alloc, pair, &[End::Back, End::Front])?;
-/// assert_eq!(rt; driven.answers, [Some(EitherOrBoth::Left(3)), Some(EitherOrBoth::Both(1, 'a'))]);
+/// let answers = vec![in alloc; Some(EitherOrBoth::Left(3)), Some(EitherOrBoth::Both(1, 'a'))]?;
+/// assert_eq!(rt; driven.answers, answers);
 /// assert_eq!(rt; driven.rest, 1);
 /// ```
 pub fn drive_swap<L, R>(
@@ -144,6 +145,11 @@ where
 
 /// Calls the ends of the chain over a pair in turn. Where the sides have lists still to come, the answers are those of calls of the
 /// left list followed by the right one. `AllocError` where a request for memory was refused: then the pair is dropped.
+///
+/// ```
+/// let answers = drive_chain(alloc, EitherOrBoth::Both([1, 2], [3, 4]), &[End::Back, End::Front])?;
+/// assert_eq!(rt; answers, vec![in alloc; Some(4), Some(1)]?);
+/// ```
 pub fn drive_chain<T>(
     alloc: Global,
     pair: EitherOrBoth<T, T>,
@@ -167,6 +173,12 @@ where
 
 /// Calls the ends of the walk over the one or two values of a value in turn. The answers are those of calls of the values, left
 /// first, and the rest is what is left of them. `AllocError` where a request for memory was refused: then the value is dropped.
+///
+/// ```
+/// let driven = drive_items(alloc, EitherOrBoth::Both(1, 2), &[End::Back])?;
+/// assert_eq!(rt; driven.answers, vec![in alloc; Some(2)]?);
+/// assert_eq!(rt; driven.rest, 1);
+/// ```
 pub fn drive_items<T: Drop>(
     alloc: Global,
     value: EitherOrBoth<T, T>,

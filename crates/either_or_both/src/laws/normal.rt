@@ -16,8 +16,8 @@ use std::alloc::{AllocError, Allocator, Global};
 ///
 /// ```
 /// let list = vec![in alloc; EitherOrBoth::Left(1), EitherOrBoth::Right('a'), EitherOrBoth::Left(2)]?;
-/// let regrouped = regroup(alloc, list)?;
-/// assert_eq!(rt; regrouped, [EitherOrBoth::Both(1, 'a'), EitherOrBoth::Left(2)]);
+/// let lined_up = vec![in alloc; EitherOrBoth::Both(1, 'a'), EitherOrBoth::Left(2)]?;
+/// assert_eq!(rt; regroup(alloc, list)?, lined_up);
 /// ```
 pub fn regroup<L: Drop, R: Drop>(
     alloc: Global,

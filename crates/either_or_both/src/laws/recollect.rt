@@ -178,6 +178,14 @@ pub fn recollect_vec<L: Drop, R: Drop>(
 }
 
 /// The same of a pair of hashed maps, in whatever order they are walked: each key of a side keeps its value.
+///
+/// ```
+/// let mut map = HashMap::new(alloc);
+/// map.insert(1, 'a')?;
+/// let none = HashMap::<u8, bool>::new(alloc);
+/// let pair = recollect_hash_map(alloc, EitherOrBoth::Both(map, none))?;
+/// assert!(rt; pair.is_left());
+/// ```
 pub fn recollect_hash_map<
     K1: Hash + Eq + Drop,
     V1: Drop,
@@ -196,6 +204,14 @@ pub fn recollect_hash_map<
 }
 
 /// The same of a pair of hashed sets, in whatever order they are walked.
+///
+/// ```
+/// let mut set = HashSet::new(alloc);
+/// set.insert(1)?;
+/// let none = HashSet::<u8>::new(alloc);
+/// let pair = recollect_hash_set(alloc, EitherOrBoth::Both(none, set))?;
+/// assert!(rt; pair.is_right());
+/// ```
 pub fn recollect_hash_set<
     K1: Hash + Eq + Drop,
     S1: BuildHasher + Default + Drop,
@@ -212,6 +228,14 @@ pub fn recollect_hash_set<
 }
 
 /// The same of a pair of maps in the order of insertion, which is kept.
+///
+/// ```
+/// let mut map = IndexMap::new(alloc);
+/// map.insert(1, 'a')?;
+/// let none = IndexMap::<u8, bool>::new(alloc);
+/// let pair = recollect_index_map(alloc, EitherOrBoth::Both(map, none))?;
+/// assert!(rt; pair.is_left());
+/// ```
 pub fn recollect_index_map<
     K1: Hash + Eq + Drop,
     V1: Drop,
@@ -229,6 +253,14 @@ pub fn recollect_index_map<
 }
 
 /// The same of a pair of sets in the order of insertion, which is kept.
+///
+/// ```
+/// let mut set = IndexSet::new(alloc);
+/// set.insert(1)?;
+/// let none = IndexSet::<u8>::new(alloc);
+/// let pair = recollect_index_set(alloc, EitherOrBoth::Both(none, set))?;
+/// assert!(rt; pair.is_right());
+/// ```
 pub fn recollect_index_set<
     K1: Hash + Eq + Drop,
     S1: BuildHasher + Default + Drop,
@@ -244,6 +276,13 @@ pub fn recollect_index_set<
 }
 
 /// The same of a pair of queues.
+///
+/// ```
+/// let list = VecDeque::from_vec(vec![in alloc; 1, 2]?);
+/// let none = VecDeque::<u8>::new(alloc);
+/// let pair = recollect_vec_deque(alloc, EitherOrBoth::Both(list, none))?;
+/// assert!(rt; pair.is_left());
+/// ```
 pub fn recollect_vec_deque<L: Drop, R: Drop>(
     alloc: Global,
     pair: EitherOrBoth<VecDeque<L>, VecDeque<R>>,
@@ -254,6 +293,14 @@ pub fn recollect_vec_deque<L: Drop, R: Drop>(
 }
 
 /// The same of a pair of maps in the order of their keys: each key of a side keeps its value.
+///
+/// ```
+/// let mut map = BTreeMap::new(alloc);
+/// map.insert(1, 'a')?;
+/// let none = BTreeMap::<u8, bool>::new(alloc);
+/// let pair = recollect_btree_map(alloc, EitherOrBoth::Both(map, none))?;
+/// assert!(rt; pair.is_left());
+/// ```
 pub fn recollect_btree_map<K1: Ord + Drop, V1: Drop, K2: Ord + Drop, V2: Drop>(
     alloc: Global,
     pair: EitherOrBoth<BTreeMap<K1, V1>, BTreeMap<K2, V2>>,
@@ -265,6 +312,14 @@ pub fn recollect_btree_map<K1: Ord + Drop, V1: Drop, K2: Ord + Drop, V2: Drop>(
 }
 
 /// The same of a pair of sets in the order of their values.
+///
+/// ```
+/// let mut set = BTreeSet::new(alloc);
+/// set.insert(1)?;
+/// let none = BTreeSet::<u8>::new(alloc);
+/// let pair = recollect_btree_set(alloc, EitherOrBoth::Both(none, set))?;
+/// assert!(rt; pair.is_right());
+/// ```
 pub fn recollect_btree_set<K1: Ord + Drop, K2: Ord + Drop>(
     alloc: Global,
     pair: EitherOrBoth<BTreeSet<K1>, BTreeSet<K2>>,

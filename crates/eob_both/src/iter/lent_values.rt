@@ -161,6 +161,13 @@ impl<'a, T> IntoIterator for &'a mut EitherOrBoth<T, T> {
 
 impl<T> EitherOrBoth<T, T> {
     /// The walk over references to the one or two values, left first.
+    ///
+    /// ```
+    /// let value = EitherOrBoth::Both(1, 2);
+    /// let mut walk = value.iter();
+    /// assert_eq!(rt; walk.next_back(), Some(&2));
+    /// assert_eq!(rt; walk.next_back(), Some(&1));
+    /// ```
     pub fn iter(&self) -> IterEitherOrBoth<'_, T>
         ensures { refs_left result ≡ values_of self.now }
     {
