@@ -1,4 +1,4 @@
-// Collects pairs of std's containers by matching and inserting, as a Rust programmer would, and prints the lines that collect.rt prints.
+// Collects pairs of std's containers by matching and inserting, as a Rust programmer would, and prints the lines that collect.rattle prints.
 // Hashed containers are timed with std's default hasher and with SipHash without a random seed.
 
 use std::collections::hash_map::DefaultHasher;

@@ -1,4 +1,4 @@
-//! The works of walks.rt in Rust: by hand loops over two iterators and a match, by std's chain, and by the crate `itertools` where
+//! The works of walks.rattle in Rust: by hand loops over two iterators and a match, by std's chain, and by the crate `itertools` where
 //! `bench/walks` found it.
 //!
 //! Called with a number of rounds and the names of works, it writes a line for each: the name, the least nanoseconds of all rounds, and
