@@ -6,12 +6,12 @@
 
 mod changes;
 mod closures;
-mod json;
 mod keys;
 mod lined_up;
 mod readers;
 mod readme;
 mod report;
+mod serialized;
 mod settings;
 #[cfg(test)]
 mod tests;

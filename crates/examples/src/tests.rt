@@ -2,12 +2,12 @@
 
 use crate::changes::{Counts, compare, count_changes};
 use crate::closures::{feed_both, map_left_by};
-use crate::json::{Row, from_json, to_json};
 use crate::keys::{number_of, put_number, sort};
 use crate::lined_up::{lined_up, lined_up_at_ends, lined_up_reversed};
 use crate::readers::{next_line, opened};
 use crate::readme::{joined, port, side_by_side, split};
 use crate::report::{parse_table, render};
+use crate::serialized::{Row, from_json, to_json};
 use crate::settings::{Layer, Settings, resolve};
 use crate::upsert::set_right;
 use crate::writing::{count_right, raise_left};
