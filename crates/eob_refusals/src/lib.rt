@@ -10,4 +10,6 @@ mod clones;
 #[cfg(test)]
 mod collecting;
 #[cfg(test)]
+mod drops;
+#[cfg(test)]
 mod extending;
