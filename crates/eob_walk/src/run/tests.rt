@@ -40,7 +40,7 @@ const LINES: &[u8] =
 const ANSWERS: &str =
     "Left [1]\nb:1:a\nline 3: bad\nyes\nl:1 l:2 left 0\na=l:1 b=r:2\nBoth [a] [b]\n";
 
-// What a writer does with bytes that it has no room for.
+// What a writer does with bytes that it has no room for. One that is interrupted would take them if it were asked again.
 #[derive(Clone, Copy)]
 enum Full {
     Fails,
@@ -78,7 +78,10 @@ impl Write for Sink {
         let count = self.step.min(buf.len()).min(room);
         match self.full {
             Full::Fails if count == 0 => Err(io::Error::from(ErrorKind::StorageFull)),
-            Full::IsInterrupted if count == 0 => Err(io::Error::from(ErrorKind::Interrupted)),
+            Full::IsInterrupted if count == 0 => {
+                self.room = usize::MAX;
+                Err(io::Error::from(ErrorKind::Interrupted))
+            }
             _ => {
                 self.taken.extend_from_slice(&buf[..count])?;
                 Ok(count)
