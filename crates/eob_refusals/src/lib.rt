@@ -10,6 +10,8 @@ mod clones;
 #[cfg(test)]
 mod collecting;
 #[cfg(test)]
+mod driving;
+#[cfg(test)]
 mod drops;
 #[cfg(test)]
 mod extending;
