@@ -29,6 +29,8 @@ mod inspection;
 #[cfg(test)]
 mod joins;
 #[cfg(test)]
+mod normal;
+#[cfg(test)]
 mod order;
 #[cfg(test)]
 mod queries;
