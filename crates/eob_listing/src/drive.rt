@@ -1,5 +1,5 @@
 //! Walks over such values, driven from both ends, with no premise.
-ghost use Rattle.std.specs.Prelude.{◌≡◌, ◌++◌, List, map, reverse, IfOk};
+ghost use Rattle.std.specs.Prelude.{◌≡◌, ◌++◌, map, reverse, IfOk};
 ghost use Rattle.std.specs.Option.{option_map};
 ghost use Rattle.eob_both.specs.Aligned.{aligned};
 ghost use Rattle.eob_both.specs.Places.{left_place, right_place, map_places};

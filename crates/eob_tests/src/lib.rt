@@ -1,11 +1,9 @@
-//! The tests of the public calls of `either_or_both`, and small callers that are proved from its contracts alone.
+//! The tests of the public calls of `either_or_both`.
 //!
 //! A module of tests goes with a family of calls, and covers both enums: its tables give, for each call and each variant, the answer
-//! and the calls of the closures, as the equations of the calls or the original crate have them, and [`calls`] goes over them. The
-//! callers in [`callers`] show that the contracts say what a caller needs: none of them has a proof of its own.
+//! and the calls of the closures, as the equations of the calls or the original crate have them, and [`calls`] goes over them.
 #![tactic(auto)]
 
-pub mod callers;
 #[cfg(test)]
 mod calls;
 #[cfg(test)]
@@ -48,4 +46,5 @@ mod transpositions;
 mod unwraps;
 #[cfg(test)]
 mod values;
+#[cfg(test)]
 mod walks;

@@ -1,5 +1,5 @@
 //! A table whose rows have two sides, each of which may be absent: one side of a row set behind its key.
-ghost use Rattle.std.specs.Prelude.{◌≡◌, Some, IfSome, OnOk, option_map};
+ghost use Rattle.std.specs.Prelude.{◌≡◌, Some, OnOk};
 ghost use Rattle.std.specs.BTreeMap.{get};
 ghost use Rattle.std.specs.Option.{option_and_then};
 ghost use Rattle.std.specs.Ordering.{nat_cmp};

@@ -1,5 +1,5 @@
-//! Tests: the join with each request for memory refused in turn. They stand here since the join asks the system for its memory:
-//! what is tested is the private function that does its work, with memory of the tests' own.
+//! Tests: the join with each request for memory refused in turn. The join asks the system for its memory, so what is
+//! tested is the function that does its work, with memory of the tests' own.
 
 use super::{is_rising, outer_join_in};
 use refusing::{RUNS, Refusing, Runs, Tokens};

@@ -1,7 +1,7 @@
 //! Tests: regrouping and collecting again, with each request for memory refused in turn.
 //!
-//! They stand here since the calls ask the system for their memory: what is tested are the private functions that do their work,
-//! with memory of the tests' own. The first run of each is refused, so that none hands its values on unwalked.
+//! The calls ask the system for their memory, so what is tested are the functions that do their work, with memory of the tests' own.
+//! They stand here since one of these is private. The first run of each is refused, so that none hands its values on unwalked.
 ghost use Rattle.std.specs.Prelude.{List};
 ghost use Rattle.eob_both.specs.declared.either_or_both.EitherOrBoth as enum;
 

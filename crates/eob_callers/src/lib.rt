@@ -2,6 +2,8 @@
 //! calls, and uses as a program makes them. A module for each enum, one for collected containers, one for joins, one for uses inside
 //! other types, one for streams, and three for walks: over values, over two sides, and from both ends. Recipes for a user stand in
 //! the crate `examples`, not here.
+#![tactic(auto)]
+
 ghost use Rattle.std.specs.Prelude.{◌≡◌, fold};
 
 pub mod of_containers;

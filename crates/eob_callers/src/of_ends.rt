@@ -1,6 +1,6 @@
 //! Callers of walks that are taken from both ends, each proved with no proof file: what each call answers, over vectors, slices,
 //! queues, ranges and walks, and what a walk that is reversed or taken apart gives.
-ghost use Rattle.std.specs.Prelude.{◌≡◌, ◌++◌, true, map, reverse, IfOk};
+ghost use Rattle.std.specs.Prelude.{◌≡◌, ◌++◌, map, reverse, IfOk};
 ghost use Rattle.std.specs.List.{range_with_len};
 ghost use Rattle.std.specs.Option.{option_map};
 ghost use Rattle.either_or_both.specs.Aligned.{aligned};
