@@ -7,6 +7,7 @@ ghost use Rattle.std.specs.Cmp.Rules.{hashing};
 ghost use Rattle.std.proofs.Common.{rules};
 
 mod again;
+mod orders;
 
 use crate::calls::{Calls, Row, check_rows};
 use crate::collecting::Vague;
