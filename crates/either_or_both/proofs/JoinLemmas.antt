@@ -1,6 +1,6 @@
 -- The laws of the full outer join.
 use Rattle.std.proofs.Common.{◌≡◌, ◌∙◌, ◌⊎◌, ℕ, ◌+◌, suc, Bool, true, false, cond, List, [], ◌∷◌, length, map, All, Contains, is_some, option_map, Option, Some, None, arith, inl, inr, refl, sym, ap, true≢false}
-use Rattle.std.specs.Option.{option_zip}
+use Rattle.std.specs.Option.{option_or, option_zip}
 use Rattle.std.specs.Prelude.{count_by, is_none, ⊤, IsSome, ◌↔◌}
 use Rattle.std.proofs.lemmas.List.{length-map}
 use Rattle.std.proofs.lemmas.List.Sums.{sum_by-cons}
@@ -17,7 +17,7 @@ use Rattle.eob_both.specs.declared.either_or_both.EitherOrBoth.TheVariants.{Left
 use Rattle.eob_both.specs.Places.{from_places, left_place, right_place}
 use Rattle.eob_both.specs.Sides.{lefts, rights}
 use Rattle.either_or_both.specs.Join.{Rising, IsJoin, value_under}
-use Rattle.either_or_both.specs.JoinLaws.{flipped, shared_keys, OneJoinLaw, JoinPlacesLaw, JoinSidesLaw, JoinLengthLaw, JoinFlipLaw, JoinBothLaw, JoinCountsLaw}
+use Rattle.either_or_both.specs.JoinLaws.{flipped, overlaid, shared_keys, OneJoinLaw, JoinPlacesLaw, JoinSidesLaw, JoinLengthLaw, JoinFlipLaw, JoinBothLaw, JoinCountsLaw}
 use Rattle.either_or_both.proofs.MergeLemmas.{Up, absent, absent_alike, alike_on, by_order, flipped_order, merge, place, rising, up, up_weaker, IsJoin-merge}
 
 -- the places of a value are those that it was made from
@@ -32,6 +32,12 @@ places_flipped (Some a) None = refl
 places_flipped (Some a) (Some b) = refl
 places_flipped None (Some b) = refl
 places_flipped None None = refl
+
+places_overlaid : {V : Type 0} (m n : Option V) → option_map overlaid (from_places m n) ≡ option_or n m
+places_overlaid (Some a) None = refl
+places_overlaid (Some a) (Some b) = refl
+places_overlaid None (Some b) = refl
+places_overlaid None None = refl
 
 -- where each of two places is present if the other is, a value with these places has both
 both_present : {A B : Type 0} (m : Option A) (n : Option B) (v : EitherOrBoth A B) → IsSome m ↔ IsSome n → left_place v ≡ m → right_place v ≡ n → IsSome (left_place v) × IsSome (right_place v)
@@ -74,6 +80,10 @@ module _ {K : Type 0} (cmp : K → K → Ordering) where
   value_map : {V W : Type 0} (f : V → W) (k : K) (xs : List (K × V)) → value_under cmp (map (λ x. (x.0, f x.1)) xs) k ≡ option_map f (value_under cmp xs k)
   value_map f k [] = refl
   value_map f k (x ∷ xs) = if_map f (is_eq (cmp k x.0)) x.1 (value_under cmp xs k) _ (value_map f k xs)
+
+  pub join_overlaid : {V : Type 0} (p : List (K × V)) (q : List (K × V)) (zs : List (K × EitherOrBoth V V)) → IsJoin cmp p q zs
+      → (k : K) → value_under cmp (map (λ z. (z.0, overlaid z.1)) zs) k ≡ option_or (value_under cmp q k) (value_under cmp p k)
+  join_overlaid p q zs h k = value_map overlaid k zs ∙ ap (option_map overlaid) (h.values k) ∙ places_overlaid (value_under cmp p k) (value_under cmp q k)
 
   module _ (o : IsTotalOrder cmp) where
     greater : (x y : K) → cmp x y ≡ Less → cmp y x ≡ Greater

@@ -24,6 +24,12 @@ flipped (Right r) = Left r
 abbrev pub deref_joined : {K A B : Type 0} → Bor K × EitherOrBoth (Bor A) (Bor B) → K × EitherOrBoth A B
 deref_joined z = (z.0.now, map_places (λ a. a.now) (λ b. b.now) z.1)
 
+-- the right value where there is one, and else the left one
+abbrev pub overlaid : {V : Type 0} → EitherOrBoth V V → V
+overlaid (Left l) = l
+overlaid (Both l r) = r
+overlaid (Right r) = r
+
 -- both places of each value are present
 abbrev pub AllBoth : {K A B : Type 0} → List (K × EitherOrBoth A B) → Type 0
 AllBoth zs = All (λ z. IsSome (left_place z.1) × IsSome (right_place z.1)) zs

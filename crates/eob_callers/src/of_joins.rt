@@ -1,12 +1,14 @@
 //! Uses of the full outer join: reports on two versions of a table, layered settings, and joins of many kinds of source.
 ghost use Rattle.std.specs.Prelude.{◌≡◌, ◌-◌, IfOk, count_by, false, is_none, is_some, map, option_map, unwrap_or};
-ghost use Rattle.std.specs.Option.{option_zip};
-ghost use Rattle.either_or_both.specs.Places.{MatchPlaces, left_place, right_place};
-ghost use Rattle.either_or_both.specs.Join.{IsJoin, Rising};
-ghost use Rattle.either_or_both.specs.JoinLaws.{deref_joined};
+ghost use Rattle.std.specs.Option.{option_or, option_zip};
+ghost use Rattle.either_or_both.specs.Places.{left_place, right_place};
+ghost use Rattle.either_or_both.specs.Join.{IsJoin, Rising, value_under};
+ghost use Rattle.either_or_both.specs.JoinLaws.{deref_joined, overlaid};
 
 use either_or_both::EitherOrBoth;
-use either_or_both::join::{law_sorted_rises, outer_join_lazily, outer_join_slices};
+use either_or_both::join::{
+    law_join_overlaid, law_sorted_rises, outer_join, outer_join_lazily, outer_join_slices,
+};
 use std::alloc::{AllocError, Global};
 use std::collections::BTreeMap;
 
@@ -108,14 +110,25 @@ pub fn tally<K, V: Eq>(joined: &[(K, EitherOrBoth<V, V>)]) -> ChangeCounts
     }
 }
 
-/// The setting that holds: the user's if he has made one, and else the site's.
-pub fn setting<V: Drop>(layers: EitherOrBoth<V, V>) -> V
-    ensures { MatchPlaces layers (λ _ user. result ≡ user) (λ site. result ≡ site) (λ user. result ≡ user) }
+// A setting by its key: the user's if he has made one, and else the site's.
+fn setting<K, V: Drop>(layers: (K, EitherOrBoth<V, V>)) -> (K, V)
+    ensures { result ≡ (layers.0, overlaid layers.1) }
 {
-    layers.reduce_right(|site| site)
+    let (key, layers) = layers;
+    (key, layers.reduce_right(|site| site))
 }
 
-/// Settings by key, those of the user over those of the site.
+/// The settings that hold, of those of the site joined with those of the user.
+pub fn topmost<K: Drop, V: Drop>(
+    alloc: Global,
+    joined: Vec<(K, EitherOrBoth<V, V>)>,
+) -> Result<Vec<(K, V)>, AllocError>
+    ensures { IfOk result (λ all. all.items ≡ map (λ z. (z.0, overlaid z.1)) joined.items) }
+{
+    joined.into_iter().map(setting).collect(alloc)
+}
+
+/// Settings by key: under each key what the user has set, and else what the site has.
 pub fn settings<K: Ord + Drop, V: Drop>(
     alloc: Global,
     site: Vec<(K, V)>,
@@ -123,8 +136,10 @@ pub fn settings<K: Ord + Drop, V: Drop>(
 ) -> Result<Vec<(K, V)>, AllocError>
     requires site { Rising K.cmp site.items }
     requires user { Rising K.cmp user.items }
+    ensures { IfOk result (λ all. (k : _) → value_under K.cmp all.items k ≡ option_or (value_under K.cmp user.items k) (value_under K.cmp site.items k)) }
 {
-    outer_join_lazily(site, user)
-        .map(|(key, layers)| (key, setting(layers)))
-        .collect(alloc)
+    let joined = outer_join(alloc, site, user)?;
+    law_join_overlaid(&joined);
+    let all = topmost(alloc, joined)?;
+    Ok(all)
 }

@@ -1,5 +1,10 @@
 //! What follows for every full outer join, as contracts of functions that do nothing.
-ghost use Rattle.either_or_both.specs.JoinLaws.{JoinBothLaw, JoinCountsLaw, JoinFlipLaw, JoinLengthLaw, JoinPlacesLaw, JoinSidesLaw, OneJoinLaw, RisingLaw, ShownJoinLaw, ShownRisesLaw, SortedRisesLaw};
+ghost use Rattle.std.specs.Prelude.{◌≡◌, map};
+ghost use Rattle.std.specs.Option.{option_or};
+ghost use Rattle.either_or_both.specs.Join.{IsJoin, value_under};
+ghost use Rattle.either_or_both.specs.JoinLaws.{JoinBothLaw, JoinCountsLaw, JoinFlipLaw, JoinLengthLaw, JoinPlacesLaw, JoinSidesLaw, OneJoinLaw, RisingLaw, ShownJoinLaw, ShownRisesLaw, SortedRisesLaw, overlaid};
+
+use crate::EitherOrBoth;
 
 /// Two joins of the same lists have equal keys and the same values, place by place.
 pub fn law_one_join<K: Ord, A, B>()
@@ -35,6 +40,12 @@ pub fn law_join_flip<K: Ord, A, B>()
 /// Where the two lists have the same keys, each value of a join is Both.
 pub fn law_join_both<K: Ord, A, B>()
     ensures { JoinBothLaw K.cmp A B }
+{}
+
+/// A join of two lists whose values are of one type, with each right value over the left one, has under each key what the right list
+/// has there, and else what the left list has.
+pub fn law_join_overlaid<K: Ord, V>(joined: &[(K, EitherOrBoth<V, V>)])
+    ensures { (p : _) (q : _) → IsJoin K.cmp p q joined.now → (k : _) → value_under K.cmp (map (λ z. (z.0, overlaid z.1)) joined.now) k ≡ option_or (value_under K.cmp q k) (value_under K.cmp p k) }
 {}
 
 /// A list rises exactly where each key is less than the next.
