@@ -1,9 +1,10 @@
 //! The values of the places as options, and a choice between a value and another one by what is there.
 
-use crate::calls::{Calls, Row, check_rows};
 use either_or_both::EitherOrBoth::{Both, Left, Right};
 use either_or_both::{Either, EitherOrBoth};
+use eob_tables::{Calls, Row, check_rows};
 use std::alloc::AllocError;
+use std::test::Fail;
 
 static OPTIONS: [Row<EitherOrBoth<u8, char>>; 18] = [
     ("both", Left(1), "None", ""),
@@ -44,8 +45,8 @@ fn ask_options(
 
 /// The places as options.
 #[test]
-fn options(rt: HostRuntime) -> Result<(), AllocError> {
-    check_rows(&rt, rt.alloc(), &OPTIONS, ask_options)
+fn options(rt: HostRuntime) -> Result<(), Fail> {
+    check_rows(rt.alloc(), &OPTIONS, ask_options)
 }
 
 // Beside the value stands the other one, which is the argument or what the closure answers.
@@ -203,8 +204,8 @@ fn ask_choices(
 
 /// Another value, or what a closure answers, where a place is present, and else the value as it is.
 #[test]
-fn choices(rt: HostRuntime) -> Result<(), AllocError> {
-    check_rows(&rt, rt.alloc(), &CHOICES, ask_choices)
+fn choices(rt: HostRuntime) -> Result<(), Fail> {
+    check_rows(rt.alloc(), &CHOICES, ask_choices)
 }
 
 static ON_VALUES: [Row<EitherOrBoth<u8, char>>; 8] = [
@@ -239,8 +240,8 @@ fn ask_on_values(
 
 /// Choices that use the value.
 #[test]
-fn on_values(rt: HostRuntime) -> Result<(), AllocError> {
-    check_rows(&rt, rt.alloc(), &ON_VALUES, ask_on_values)
+fn on_values(rt: HostRuntime) -> Result<(), Fail> {
+    check_rows(rt.alloc(), &ON_VALUES, ask_on_values)
 }
 
 // Beside the value stands the other one, where the call takes one.
@@ -376,6 +377,6 @@ fn ask_either(
 
 /// The getters of `Either`.
 #[test]
-fn of_either(rt: HostRuntime) -> Result<(), AllocError> {
-    check_rows(&rt, rt.alloc(), &OF_EITHER, ask_either)
+fn of_either(rt: HostRuntime) -> Result<(), Fail> {
+    check_rows(rt.alloc(), &OF_EITHER, ask_either)
 }

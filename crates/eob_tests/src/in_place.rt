@@ -1,9 +1,9 @@
 //! Tests: a value put beside the one that is there, and values replaced.
 
-use crate::calls::Calls;
 use crate::counted::{Counted, Tally};
 use either_or_both::EitherOrBoth::{Both, Left, Right};
 use either_or_both::{Either, EitherOrBoth};
+use eob_tables::Calls;
 use std::test::Fail;
 
 /// A value, what the reference that a call gives points to, what is held then, what is held once 8 or 'd' is written through it,

@@ -1,33 +1,17 @@
-//! The tests of the public calls of `either_or_both`.
+//! The tests of the public calls of `either_or_both` on values of both enums.
 //!
 //! A module of tests goes with a family of calls, and covers both enums: its tables give, for each call and each variant, the answer
-//! and the calls of the closures, as the equations of the calls or the original crate have them, and [`calls`] goes over them.
+//! and the calls of the closures, as the equations of the calls or the original crate have them, and `eob_tables` goes over them.
 #![tactic(auto)]
 
-#[cfg(test)]
-mod calls;
-#[cfg(test)]
-mod collecting;
-#[cfg(test)]
-mod containers;
 #[cfg(test)]
 mod conversions;
 #[cfg(test)]
 mod counted;
 #[cfg(test)]
-mod ends;
-#[cfg(test)]
-mod forms;
-#[cfg(test)]
 mod getters;
 #[cfg(test)]
 mod in_place;
-#[cfg(test)]
-mod inspection;
-#[cfg(test)]
-mod joins;
-#[cfg(test)]
-mod normal;
 #[cfg(test)]
 mod order;
 #[cfg(test)]
@@ -46,5 +30,3 @@ mod transpositions;
 mod unwraps;
 #[cfg(test)]
 mod values;
-#[cfg(test)]
-mod walks;

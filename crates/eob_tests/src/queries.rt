@@ -1,9 +1,10 @@
 //! Tests: which places are present, and whether what they hold passes a test of the caller's.
 
-use crate::calls::{Calls, Row, check_rows};
 use either_or_both::EitherOrBoth::{Both, Left, Right};
 use either_or_both::{Either, EitherOrBoth};
+use eob_tables::{Calls, Row, check_rows};
 use std::alloc::AllocError;
+use std::test::Fail;
 
 static PLACES: [Row<EitherOrBoth<u8, char>>; 15] = [
     ("has_left", Left(1), "true", ""),
@@ -40,8 +41,8 @@ fn ask_places(
 
 /// A test without a closure tells which places are present.
 #[test]
-fn places(rt: HostRuntime) -> Result<(), AllocError> {
-    check_rows(&rt, rt.alloc(), &PLACES, ask_places)
+fn places(rt: HostRuntime) -> Result<(), Fail> {
+    check_rows(rt.alloc(), &PLACES, ask_places)
 }
 
 // Beside the value stands what the closure answers.
@@ -124,8 +125,8 @@ fn ask_one_test(
 
 /// A test with a closure calls it where the answer is still open, and nowhere else, and then answers as it does.
 #[test]
-fn one_test(rt: HostRuntime) -> Result<(), AllocError> {
-    check_rows(&rt, rt.alloc(), &ONE_TEST, ask_one_test)
+fn one_test(rt: HostRuntime) -> Result<(), Fail> {
+    check_rows(rt.alloc(), &ONE_TEST, ask_one_test)
 }
 
 // Beside the value stand what the first closure answers and what the second one does.
@@ -202,8 +203,8 @@ fn ask_two_tests(
 
 /// A test of both values together, and of the one that is alone.
 #[test]
-fn two_tests(rt: HostRuntime) -> Result<(), AllocError> {
-    check_rows(&rt, rt.alloc(), &TWO_TESTS, ask_two_tests)
+fn two_tests(rt: HostRuntime) -> Result<(), Fail> {
+    check_rows(rt.alloc(), &TWO_TESTS, ask_two_tests)
 }
 
 static ON_NUMBERS: [Row<EitherOrBoth<u8>>; 5] = [
@@ -232,8 +233,8 @@ fn ask_on_numbers(
 
 /// Tests that compare the value that they are given.
 #[test]
-fn on_numbers(rt: HostRuntime) -> Result<(), AllocError> {
-    check_rows(&rt, rt.alloc(), &ON_NUMBERS, ask_on_numbers)
+fn on_numbers(rt: HostRuntime) -> Result<(), Fail> {
+    check_rows(rt.alloc(), &ON_NUMBERS, ask_on_numbers)
 }
 
 // Beside the value stands what the closure answers, where the call takes one.
@@ -295,6 +296,6 @@ fn ask_either(
 
 /// The tests of `Either`.
 #[test]
-fn of_either(rt: HostRuntime) -> Result<(), AllocError> {
-    check_rows(&rt, rt.alloc(), &OF_EITHER, ask_either)
+fn of_either(rt: HostRuntime) -> Result<(), Fail> {
+    check_rows(rt.alloc(), &OF_EITHER, ask_either)
 }

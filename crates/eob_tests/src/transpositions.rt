@@ -1,8 +1,8 @@
 //! Tests: transpositions of tuples, options and results that the places of a value hold.
 
-use crate::calls::Calls;
 use either_or_both::EitherOrBoth::{Both, Left, Right};
 use either_or_both::{Either, EitherOrBoth};
+use eob_tables::Calls;
 
 // The sum of two numbers, after a note of the call.
 fn sum(calls: &Calls, left: u8, right: u8) -> u8 {

@@ -1,9 +1,10 @@
 //! The values of the places where the caller knows that they are there, on each variant that a call allows.
 
-use crate::calls::{Calls, Row, check_rows};
 use either_or_both::EitherOrBoth::{Both, Left, Right};
 use either_or_both::{Either, EitherOrBoth};
+use eob_tables::{Calls, Row, check_rows};
 use std::alloc::AllocError;
+use std::test::Fail;
 
 static BOTH_AND_LEFT: [Row<EitherOrBoth<u8, char>>; 12] = [
     ("expect_both", Both(1, 'c'), "(1, 'c')", ""),
@@ -43,8 +44,8 @@ fn ask_both_and_left(
 
 /// Both values, or the left one.
 #[test]
-fn both_and_left(rt: HostRuntime) -> Result<(), AllocError> {
-    check_rows(&rt, rt.alloc(), &BOTH_AND_LEFT, ask_both_and_left)
+fn both_and_left(rt: HostRuntime) -> Result<(), Fail> {
+    check_rows(rt.alloc(), &BOTH_AND_LEFT, ask_both_and_left)
 }
 
 static RIGHT: [Row<EitherOrBoth<u8, char>>; 9] = [
@@ -79,8 +80,8 @@ fn ask_right(
 
 /// The right value.
 #[test]
-fn right(rt: HostRuntime) -> Result<(), AllocError> {
-    check_rows(&rt, rt.alloc(), &RIGHT, ask_right)
+fn right(rt: HostRuntime) -> Result<(), Fail> {
+    check_rows(rt.alloc(), &RIGHT, ask_right)
 }
 
 static OF_EITHER: [Row<Either<u8, char>>; 6] = [
@@ -106,6 +107,6 @@ fn ask_either(call: &str, value: Either<u8, char>, calls: &Calls) -> Result<Stri
 
 /// The unwraps of `Either`.
 #[test]
-fn of_either(rt: HostRuntime) -> Result<(), AllocError> {
-    check_rows(&rt, rt.alloc(), &OF_EITHER, ask_either)
+fn of_either(rt: HostRuntime) -> Result<(), Fail> {
+    check_rows(rt.alloc(), &OF_EITHER, ask_either)
 }

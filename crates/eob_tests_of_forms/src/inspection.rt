@@ -1,10 +1,11 @@
 //! Inspection, which looks at the values and gives the value back, and application, which hands the values to a closure. The
 //! records show that the left value comes first.
 
-use crate::calls::{Calls, Row, check_rows};
 use either_or_both::EitherOrBoth::{Both, Left, Right};
 use either_or_both::{Either, EitherOrBoth};
+use eob_tables::{Calls, Row, check_rows};
 use std::alloc::AllocError;
+use std::test::Fail;
 
 static SIDES: [Row<EitherOrBoth<u8, char>>; 18] = [
     ("biinspect", Left(1), "Left(1)", "f(1)"),
@@ -14,8 +15,8 @@ static SIDES: [Row<EitherOrBoth<u8, char>>; 18] = [
     ("inspect_left", Both(1, 'c'), "Both(1, 'c')", "f(1)"),
     ("inspect_left", Right('c'), "Right('c')", ""),
     ("inspect_right", Left(1), "Left(1)", ""),
-    ("inspect_right", Both(1, 'c'), "Both(1, 'c')", "f('c')"),
-    ("inspect_right", Right('c'), "Right('c')", "f('c')"),
+    ("inspect_right", Both(1, 'c'), "Both(1, 'c')", "g('c')"),
+    ("inspect_right", Right('c'), "Right('c')", "g('c')"),
     ("biapply", Left(1), "()", "f(1)"),
     ("biapply", Both(1, 'c'), "()", "f(1) g('c')"),
     ("biapply", Right('c'), "()", "g('c')"),
@@ -23,8 +24,8 @@ static SIDES: [Row<EitherOrBoth<u8, char>>; 18] = [
     ("apply_left", Both(1, 'c'), "()", "f(1)"),
     ("apply_left", Right('c'), "()", ""),
     ("apply_right", Left(1), "()", ""),
-    ("apply_right", Both(1, 'c'), "()", "f('c')"),
-    ("apply_right", Right('c'), "()", "f('c')"),
+    ("apply_right", Both(1, 'c'), "()", "g('c')"),
+    ("apply_right", Right('c'), "()", "g('c')"),
 ];
 
 fn ask_sides(
@@ -32,24 +33,25 @@ fn ask_sides(
     value: EitherOrBoth<u8, char>,
     calls: &Calls,
 ) -> Result<String, AllocError> {
+    let see_left = |l: &u8| calls.note("f", l);
+    let see_right = |r: &char| calls.note("g", r);
+    let take_left = |l: u8| calls.note("f", &l);
+    let take_right = |r: char| calls.note("g", &r);
     match call {
-        "biinspect" => calls.show(value.biinspect(
-            |l: &u8| calls.note("f", l),
-            |r: &char| calls.note("g", r),
-        )),
-        "inspect_left" => calls.show(value.inspect_left(|l: &u8| calls.note("f", l))),
-        "inspect_right" => calls.show(value.inspect_right(|r: &char| calls.note("f", r))),
-        "biapply" => calls.show(value.biapply(|l| calls.note("f", &l), |r| calls.note("g", &r))),
-        "apply_left" => calls.show(value.apply_left(|l| calls.note("f", &l))),
-        "apply_right" => calls.show(value.apply_right(|r| calls.note("f", &r))),
+        "biinspect" => calls.show(value.biinspect(see_left, see_right)),
+        "inspect_left" => calls.show(value.inspect_left(see_left)),
+        "inspect_right" => calls.show(value.inspect_right(see_right)),
+        "biapply" => calls.show(value.biapply(take_left, take_right)),
+        "apply_left" => calls.show(value.apply_left(take_left)),
+        "apply_right" => calls.show(value.apply_right(take_right)),
         _ => calls.show("no such call"),
     }
 }
 
 /// A closure for each side is called where its value is there, the left one first.
 #[test]
-fn sides(rt: HostRuntime) -> Result<(), AllocError> {
-    check_rows(&rt, rt.alloc(), &SIDES, ask_sides)
+fn sides(rt: HostRuntime) -> Result<(), Fail> {
+    check_rows(rt.alloc(), &SIDES, ask_sides)
 }
 
 static ONE_TYPE: [Row<EitherOrBoth<u8>>; 6] = [
@@ -71,8 +73,8 @@ fn ask_one_type(call: &str, value: EitherOrBoth<u8>, calls: &Calls) -> Result<St
 
 /// One closure for both sides is called with each value that is there, the left one first.
 #[test]
-fn one_type(rt: HostRuntime) -> Result<(), AllocError> {
-    check_rows(&rt, rt.alloc(), &ONE_TYPE, ask_one_type)
+fn one_type(rt: HostRuntime) -> Result<(), Fail> {
+    check_rows(rt.alloc(), &ONE_TYPE, ask_one_type)
 }
 
 static OF_EITHER: [Row<Either<u8, char>>; 12] = [
@@ -81,34 +83,35 @@ static OF_EITHER: [Row<Either<u8, char>>; 12] = [
     ("inspect_left", Either::Left(1), "Left(1)", "f(1)"),
     ("inspect_left", Either::Right('c'), "Right('c')", ""),
     ("inspect_right", Either::Left(1), "Left(1)", ""),
-    ("inspect_right", Either::Right('c'), "Right('c')", "f('c')"),
+    ("inspect_right", Either::Right('c'), "Right('c')", "g('c')"),
     ("biapply", Either::Left(1), "()", "f(1)"),
     ("biapply", Either::Right('c'), "()", "g('c')"),
     ("apply_left", Either::Left(1), "()", "f(1)"),
     ("apply_left", Either::Right('c'), "()", ""),
     ("apply_right", Either::Left(1), "()", ""),
-    ("apply_right", Either::Right('c'), "()", "f('c')"),
+    ("apply_right", Either::Right('c'), "()", "g('c')"),
 ];
 
 fn ask_either(call: &str, value: Either<u8, char>, calls: &Calls) -> Result<String, AllocError> {
+    let see_left = |l: &u8| calls.note("f", l);
+    let see_right = |r: &char| calls.note("g", r);
+    let take_left = |l: u8| calls.note("f", &l);
+    let take_right = |r: char| calls.note("g", &r);
     match call {
-        "biinspect" => calls.show(value.biinspect(
-            |l: &u8| calls.note("f", l),
-            |r: &char| calls.note("g", r),
-        )),
-        "inspect_left" => calls.show(value.inspect_left(|l: &u8| calls.note("f", l))),
-        "inspect_right" => calls.show(value.inspect_right(|r: &char| calls.note("f", r))),
-        "biapply" => calls.show(value.biapply(|l| calls.note("f", &l), |r| calls.note("g", &r))),
-        "apply_left" => calls.show(value.apply_left(|l| calls.note("f", &l))),
-        "apply_right" => calls.show(value.apply_right(|r| calls.note("f", &r))),
+        "biinspect" => calls.show(value.biinspect(see_left, see_right)),
+        "inspect_left" => calls.show(value.inspect_left(see_left)),
+        "inspect_right" => calls.show(value.inspect_right(see_right)),
+        "biapply" => calls.show(value.biapply(take_left, take_right)),
+        "apply_left" => calls.show(value.apply_left(take_left)),
+        "apply_right" => calls.show(value.apply_right(take_right)),
         _ => calls.show("no such call"),
     }
 }
 
 /// The same calls of `Either`.
 #[test]
-fn of_either(rt: HostRuntime) -> Result<(), AllocError> {
-    check_rows(&rt, rt.alloc(), &OF_EITHER, ask_either)
+fn of_either(rt: HostRuntime) -> Result<(), Fail> {
+    check_rows(rt.alloc(), &OF_EITHER, ask_either)
 }
 
 static ONE_TYPE_OF_EITHER: [Row<Either<u8>>; 4] = [
@@ -132,8 +135,8 @@ fn ask_one_type_of_either(
 
 /// The same calls of `Either` over one type.
 #[test]
-fn one_type_of_either(rt: HostRuntime) -> Result<(), AllocError> {
-    check_rows(&rt, rt.alloc(), &ONE_TYPE_OF_EITHER, ask_one_type_of_either)
+fn one_type_of_either(rt: HostRuntime) -> Result<(), Fail> {
+    check_rows(rt.alloc(), &ONE_TYPE_OF_EITHER, ask_one_type_of_either)
 }
 
 static ACCUMULATED: [Row<EitherOrBoth<u8>>; 4] = [
@@ -180,8 +183,8 @@ fn ask_accumulated(
 
 /// An accumulator is changed by the left value, and then, as that left it, by the right one.
 #[test]
-fn accumulated(rt: HostRuntime) -> Result<(), AllocError> {
-    check_rows(&rt, rt.alloc(), &ACCUMULATED, ask_accumulated)
+fn accumulated(rt: HostRuntime) -> Result<(), Fail> {
+    check_rows(rt.alloc(), &ACCUMULATED, ask_accumulated)
 }
 
 /// An accumulator that owns memory is a list to which each value is pushed.
@@ -206,19 +209,16 @@ fn pushed(rt: HostRuntime) -> Result<(), AllocError> {
 #[test]
 fn handed_on(rt: HostRuntime) -> Result<(), AllocError> {
     let calls = Calls::new(rt.alloc());
-    let left: Either<u8, char> = Either::Left(1);
-    left.biapply_with(
-        'k',
-        |acc, l| calls.note_two("f", &acc, &l),
-        |acc, r| calls.note_two("g", &acc, &r),
-    );
-    assert_eq!(rt; calls.take().as_str(), "f('k', 1)");
-    let right: Either<u8, char> = Either::Right('c');
-    right.biapply_with(
-        'k',
-        |acc, l| calls.note_two("f", &acc, &l),
-        |acc, r| calls.note_two("g", &acc, &r),
-    );
-    assert_eq!(rt; calls.take().as_str(), "g('k', 'c')");
+    for (value, want) in [
+        (Either::Left(1), "f('k', 1)"),
+        (Either::Right('c'), "g('k', 'c')"),
+    ] {
+        value.biapply_with(
+            'k',
+            |acc, l: u8| calls.note_two("f", &acc, &l),
+            |acc, r: char| calls.note_two("g", &acc, &r),
+        );
+        assert_eq!(rt; calls.take().as_str(), want);
+    }
     Ok(())
 }

@@ -2,10 +2,11 @@
 
 mod of_either;
 
-use crate::calls::{Calls, Row, check_rows};
 use either_or_both::EitherOrBoth::{Both, Left, Right};
 use either_or_both::{Either, EitherOrBoth};
+use eob_tables::{Calls, Row, check_rows};
 use std::alloc::AllocError;
+use std::test::Fail;
 
 // The code of a character, of which the tests use small ones.
 fn code_of(r: char) -> u8 {
@@ -28,26 +29,26 @@ static MAPS: [Row<EitherOrBoth<u8, char>>; 30] = [
     ("map_left", Both(1, 'c'), "Both(11, 'c')", "f(1)"),
     ("map_left", Right('c'), "Right('c')", ""),
     ("map_right", Left(1), "Left(1)", ""),
-    ("map_right", Both(1, 'c'), "Both(1, 'C')", "f('c')"),
-    ("map_right", Right('c'), "Right('C')", "f('c')"),
+    ("map_right", Both(1, 'c'), "Both(1, 'C')", "g('c')"),
+    ("map_right", Right('c'), "Right('C')", "g('c')"),
     ("map_left_or", Left(1), "11", "f(1)"),
     ("map_left_or", Both(1, 'c'), "11", "f(1)"),
     ("map_left_or", Right('c'), "30", ""),
     ("map_right_or", Left(1), "'z'", ""),
-    ("map_right_or", Both(1, 'c'), "'C'", "f('c')"),
-    ("map_right_or", Right('c'), "'C'", "f('c')"),
+    ("map_right_or", Both(1, 'c'), "'C'", "g('c')"),
+    ("map_right_or", Right('c'), "'C'", "g('c')"),
     ("map_left_or_default", Left(1), "11", "f(1)"),
     ("map_left_or_default", Both(1, 'c'), "11", "f(1)"),
     ("map_left_or_default", Right('c'), "0", ""),
     ("map_right_or_default", Left(1), "'\\0'", ""),
-    ("map_right_or_default", Both(1, 'c'), "'C'", "f('c')"),
-    ("map_right_or_default", Right('c'), "'C'", "f('c')"),
+    ("map_right_or_default", Both(1, 'c'), "'C'", "g('c')"),
+    ("map_right_or_default", Right('c'), "'C'", "g('c')"),
     ("map_left_or_else", Left(1), "11", "f(1)"),
     ("map_left_or_else", Both(1, 'c'), "11", "f(1)"),
     ("map_left_or_else", Right('c'), "30", "d()"),
     ("map_right_or_else", Left(1), "'z'", "d()"),
-    ("map_right_or_else", Both(1, 'c'), "'C'", "f('c')"),
-    ("map_right_or_else", Right('c'), "'C'", "f('c')"),
+    ("map_right_or_else", Both(1, 'c'), "'C'", "g('c')"),
+    ("map_right_or_else", Right('c'), "'C'", "g('c')"),
 ];
 
 fn ask_maps(
@@ -55,61 +56,36 @@ fn ask_maps(
     value: EitherOrBoth<u8, char>,
     calls: &Calls,
 ) -> Result<String, AllocError> {
+    let add = |l: u8| {
+        calls.note("f", &l);
+        l.wrapping_add(10)
+    };
+    let upper = |r: char| {
+        calls.note("g", &r);
+        r.to_ascii_uppercase()
+    };
     match call {
         "flip" => calls.show(value.flip()),
-        "bimap" => calls.show(value.bimap(
-            |l| {
-                calls.note("f", &l);
-                l.wrapping_add(10)
-            },
-            |r| {
-                calls.note("g", &r);
-                r.to_ascii_uppercase()
-            },
-        )),
-        "map_left" => calls.show(value.map_left(|l| {
-            calls.note("f", &l);
-            l.wrapping_add(10)
-        })),
-        "map_right" => calls.show(value.map_right(|r| {
-            calls.note("f", &r);
-            r.to_ascii_uppercase()
-        })),
-        "map_left_or" => calls.show(value.map_left_or(30, |l| {
-            calls.note("f", &l);
-            l.wrapping_add(10)
-        })),
-        "map_right_or" => calls.show(value.map_right_or('z', |r| {
-            calls.note("f", &r);
-            r.to_ascii_uppercase()
-        })),
-        "map_left_or_default" => calls.show(value.map_left_or_default(|l| {
-            calls.note("f", &l);
-            l.wrapping_add(10)
-        })),
-        "map_right_or_default" => calls.show(value.map_right_or_default(|r| {
-            calls.note("f", &r);
-            r.to_ascii_uppercase()
-        })),
+        "bimap" => calls.show(value.bimap(add, upper)),
+        "map_left" => calls.show(value.map_left(add)),
+        "map_right" => calls.show(value.map_right(upper)),
+        "map_left_or" => calls.show(value.map_left_or(30, add)),
+        "map_right_or" => calls.show(value.map_right_or('z', upper)),
+        "map_left_or_default" => calls.show(value.map_left_or_default(add)),
+        "map_right_or_default" => calls.show(value.map_right_or_default(upper)),
         "map_left_or_else" => calls.show(value.map_left_or_else(
             || {
                 calls.note_empty("d");
                 30
             },
-            |l| {
-                calls.note("f", &l);
-                l.wrapping_add(10)
-            },
+            add,
         )),
         "map_right_or_else" => calls.show(value.map_right_or_else(
             || {
                 calls.note_empty("d");
                 'z'
             },
-            |r| {
-                calls.note("f", &r);
-                r.to_ascii_uppercase()
-            },
+            upper,
         )),
         _ => calls.show("no such call"),
     }
@@ -117,14 +93,14 @@ fn ask_maps(
 
 /// The sides exchanged, and values mapped, each by its own closure.
 #[test]
-fn maps(rt: HostRuntime) -> Result<(), AllocError> {
-    check_rows(&rt, rt.alloc(), &MAPS, ask_maps)
+fn maps(rt: HostRuntime) -> Result<(), Fail> {
+    check_rows(rt.alloc(), &MAPS, ask_maps)
 }
 
 static REDUCTIONS: [Row<EitherOrBoth<u8, char>>; 36] = [
     ("reduce_left", Left(1), "1", ""),
     ("reduce_left", Both(1, 'c'), "1", ""),
-    ("reduce_left", Right('c'), "99", "f('c')"),
+    ("reduce_left", Right('c'), "99", "g('c')"),
     ("reduce_right", Left(1), "'b'", "f(1)"),
     ("reduce_right", Both(1, 'c'), "'c'", ""),
     ("reduce_right", Right('c'), "'c'", ""),
@@ -154,7 +130,7 @@ static REDUCTIONS: [Row<EitherOrBoth<u8, char>>; 36] = [
     ("or_else", Right('c'), "(200, 'c')", "f()"),
     ("into_left", Left(1), "Left(1)", ""),
     ("into_left", Both(1, 'c'), "Left(1)", ""),
-    ("into_left", Right('c'), "Left(99)", "f('c')"),
+    ("into_left", Right('c'), "Left(99)", "g('c')"),
     ("into_right", Left(1), "Right('b')", "f(1)"),
     ("into_right", Both(1, 'c'), "Right('c')", ""),
     ("into_right", Right('c'), "Right('c')", ""),
@@ -165,35 +141,27 @@ fn ask_reductions(
     value: EitherOrBoth<u8, char>,
     calls: &Calls,
 ) -> Result<String, AllocError> {
+    let add = |l: u8| {
+        calls.note("f", &l);
+        l.wrapping_add(10)
+    };
+    let upper = |r: char| {
+        calls.note("g", &r);
+        r.to_ascii_uppercase()
+    };
+    let letter = |l: u8| {
+        calls.note("f", &l);
+        letter_of(l)
+    };
+    let code = |r: char| {
+        calls.note("g", &r);
+        code_of(r)
+    };
     match call {
-        "reduce_left" => calls.show(value.reduce_left(|r| {
-            calls.note("f", &r);
-            code_of(r)
-        })),
-        "reduce_right" => calls.show(value.reduce_right(|l| {
-            calls.note("f", &l);
-            letter_of(l)
-        })),
-        "reduce_map_left" => calls.show(value.reduce_map_left(
-            |l| {
-                calls.note("f", &l);
-                l.wrapping_add(10)
-            },
-            |r| {
-                calls.note("g", &r);
-                code_of(r)
-            },
-        )),
-        "reduce_map_right" => calls.show(value.reduce_map_right(
-            |l| {
-                calls.note("f", &l);
-                letter_of(l)
-            },
-            |r| {
-                calls.note("g", &r);
-                r.to_ascii_uppercase()
-            },
-        )),
+        "reduce_left" => calls.show(value.reduce_left(code)),
+        "reduce_right" => calls.show(value.reduce_right(letter)),
+        "reduce_map_left" => calls.show(value.reduce_map_left(add, code)),
+        "reduce_map_right" => calls.show(value.reduce_map_right(letter, upper)),
         "ok" => calls.show(value.ok()),
         "ok_or" => calls.show(value.ok_or('x')),
         "ok_or_else" => calls.show(value.ok_or_else(|| {
@@ -212,22 +180,16 @@ fn ask_reductions(
                 'm'
             },
         )),
-        "into_left" => calls.show(value.into_left(|r| {
-            calls.note("f", &r);
-            code_of(r)
-        })),
-        "into_right" => calls.show(value.into_right(|l| {
-            calls.note("f", &l);
-            letter_of(l)
-        })),
+        "into_left" => calls.show(value.into_left(code)),
+        "into_right" => calls.show(value.into_right(letter)),
         _ => calls.show("no such call"),
     }
 }
 
 /// Values reduced to one side, to a result, or filled up to both.
 #[test]
-fn reductions(rt: HostRuntime) -> Result<(), AllocError> {
-    check_rows(&rt, rt.alloc(), &REDUCTIONS, ask_reductions)
+fn reductions(rt: HostRuntime) -> Result<(), Fail> {
+    check_rows(rt.alloc(), &REDUCTIONS, ask_reductions)
 }
 
 static ONE_TYPE: [Row<EitherOrBoth<u8>>; 9] = [
@@ -243,6 +205,7 @@ static ONE_TYPE: [Row<EitherOrBoth<u8>>; 9] = [
 ];
 
 fn ask_one_type(call: &str, value: EitherOrBoth<u8>, calls: &Calls) -> Result<String, AllocError> {
+    let same = |x: u8| x;
     match call {
         "map" => calls.show(value.map(|x| {
             calls.note("f", &x);
@@ -253,16 +216,16 @@ fn ask_one_type(call: &str, value: EitherOrBoth<u8>, calls: &Calls) -> Result<St
             l.wrapping_add(r)
         })),
         "ok" => calls.show(value.ok()),
-        "into_right" => calls.show(value.into_right(|l| l)),
-        "reduce_left" => calls.show(value.reduce_left(|r| r)),
+        "into_right" => calls.show(value.into_right(same)),
+        "reduce_left" => calls.show(value.reduce_left(same)),
         _ => calls.show("no such call"),
     }
 }
 
 /// Both sides of one type.
 #[test]
-fn one_type(rt: HostRuntime) -> Result<(), AllocError> {
-    check_rows(&rt, rt.alloc(), &ONE_TYPE, ask_one_type)
+fn one_type(rt: HostRuntime) -> Result<(), Fail> {
+    check_rows(rt.alloc(), &ONE_TYPE, ask_one_type)
 }
 
 static ON_LETTERS: [Row<EitherOrBoth<u8, char>>; 3] = [
@@ -285,6 +248,6 @@ fn ask_on_letters(
 
 /// Other numbers than those of the tables.
 #[test]
-fn on_letters(rt: HostRuntime) -> Result<(), AllocError> {
-    check_rows(&rt, rt.alloc(), &ON_LETTERS, ask_on_letters)
+fn on_letters(rt: HostRuntime) -> Result<(), Fail> {
+    check_rows(rt.alloc(), &ON_LETTERS, ask_on_letters)
 }

@@ -1,15 +1,16 @@
 //! Tests: pairs of ordered containers whose keys have an order of their own: reversed, or by a part of the key alone.
 
 use super::key_of;
-use crate::calls::{Calls, Row, check_rows};
 use crate::collecting::Vague;
 use either_or_both::EitherOrBoth;
 use either_or_both::EitherOrBoth::{Both, Left, Right};
 use either_or_both::laws::recollect_btree_map;
+use eob_tables::{Calls, Row, check_rows};
 use std::alloc::AllocError;
 use std::cmp::Reverse;
 use std::collections::{BTreeMap, BTreeSet};
 use std::fmt::{self, Debug, Formatter, Write};
+use std::test::Fail;
 
 /// A key that is compared and shown by its number alone, so that no row tells which of two equal keys is kept.
 #[derive(Clone, Copy, Drop)]
@@ -144,7 +145,7 @@ fn ask<K: Ord + Debug + Copy + Drop>(
 
 /// One key a number or a reversed number, in that order, with the value of its last place.
 #[test]
-fn by_orders_of_their_own(rt: HostRuntime) -> Result<(), AllocError> {
-    check_rows(&rt, rt.alloc(), &REVERSED, ask)?;
-    check_rows(&rt, rt.alloc(), &BY_PART, ask)
+fn by_orders_of_their_own(rt: HostRuntime) -> Result<(), Fail> {
+    check_rows(rt.alloc(), &REVERSED, ask)?;
+    check_rows(rt.alloc(), &BY_PART, ask)
 }

@@ -1,9 +1,10 @@
-//! Tables of calls, with what each answers and which closures it calls, and the loop that goes over one.
+//! For tests alone: tables of calls, with what each answers and which closures it calls, and the loop that goes over one.
+#![tactic(auto)]
 
 use std::alloc::{AllocError, Global};
 use std::cell::RefCell;
 use std::fmt::Debug;
-use std::process::Abort;
+use std::test::Fail;
 
 /// A row of a table: a call, the value that it is made on, its answer as text, and the calls that its closures get.
 pub type Row<V> = (&'static str, V, &'static str, &'static str);
@@ -78,13 +79,13 @@ impl Calls {
     }
 }
 
-/// Makes the call of each row by `ask`, and compares its answer and the calls of its closures with the row's.
+/// Makes the call of each row by `ask`, and compares its answer and the calls of its closures with the row's. Fails at the first row
+/// that differs, and where memory is refused.
 pub fn check_rows<V: Debug + Copy, F: Fn(&str, V, &Calls) -> Result<String, AllocError> + Drop>(
-    rt: &impl Abort,
     alloc: Global,
     rows: &[Row<V>],
     ask: F,
-) -> Result<(), AllocError>
+) -> Result<(), Fail>
     requires { F.IsAlwaysCallable ask }
 {
     let calls = Calls::new(alloc);
@@ -92,12 +93,11 @@ pub fn check_rows<V: Debug + Copy, F: Fn(&str, V, &Calls) -> Result<String, Allo
         let (call, value, want, want_calls) = *row;
         let answer = ask(call, value, &calls)?;
         let made = calls.take();
-        assert_eq!(rt; answer.as_str(), want, "{call} of {value:?}");
-        assert_eq!(rt;
-            made.as_str(),
-            want_calls,
-            "closures of {call} of {value:?}"
-        );
+        if answer.as_str() != want || made.as_str() != want_calls {
+            return Err(Fail::new(format_args!(
+                "{call} of {value:?} answers {answer} and calls [{made}], not {want} and [{want_calls}]"
+            )));
+        }
     }
     Ok(())
 }

@@ -9,15 +9,16 @@ ghost use Rattle.std.proofs.Common.{rules};
 mod again;
 mod orders;
 
-use crate::calls::{Calls, Row, check_rows};
 use crate::collecting::Vague;
 use either_or_both::EitherOrBoth::{Both, Left, Right};
 use either_or_both::{Either, EitherOrBoth};
+use eob_tables::{Calls, Row, check_rows};
 use indexmap::{IndexMap, IndexSet};
 use std::alloc::{AllocError, Global};
 use std::collections::{BTreeMap, BTreeSet, HashMap, HashSet, VecDeque};
 use std::fmt::Debug;
 use std::hash::{BuildHasher, BuildHasherDefault, Hash, Hasher};
+use std::test::Fail;
 
 /// A hasher of the tests' own: how many writes it got.
 #[derive(Default, Clone, Copy, Drop)]
@@ -206,8 +207,8 @@ fn ask_values(
 
 /// Vectors and queues hold what came in order, and sets hold it once, in the order of first places or in that of the values.
 #[test]
-fn of_values(rt: HostRuntime) -> Result<(), AllocError> {
-    check_rows(&rt, rt.alloc(), &VALUES, ask_values)
+fn of_values(rt: HostRuntime) -> Result<(), Fail> {
+    check_rows(rt.alloc(), &VALUES, ask_values)
 }
 
 static VALUES_OF_EITHER: [Row<&'static [Either<u8, char>]>; 13] = [
@@ -315,8 +316,8 @@ fn ask_values_of_either(
 
 /// The same of values of `Either`.
 #[test]
-fn of_values_of_either(rt: HostRuntime) -> Result<(), AllocError> {
-    check_rows(&rt, rt.alloc(), &VALUES_OF_EITHER, ask_values_of_either)
+fn of_values_of_either(rt: HostRuntime) -> Result<(), Fail> {
+    check_rows(rt.alloc(), &VALUES_OF_EITHER, ask_values_of_either)
 }
 
 type Entries<K> = &'static [EitherOrBoth<(K, u8), (K, char)>];
@@ -518,9 +519,9 @@ fn ask_entries<K: Hash + Ord + Debug + Copy + Drop>(
 
 /// A key has the value of its last place, in the order of first places or in that of the keys.
 #[test]
-fn of_entries(rt: HostRuntime) -> Result<(), AllocError> {
-    check_rows(&rt, rt.alloc(), &ENTRIES, ask_entries)?;
-    check_rows(&rt, rt.alloc(), &ENTRIES_ALIKE, ask_entries)
+fn of_entries(rt: HostRuntime) -> Result<(), Fail> {
+    check_rows(rt.alloc(), &ENTRIES, ask_entries)?;
+    check_rows(rt.alloc(), &ENTRIES_ALIKE, ask_entries)
 }
 
 type EntriesOfEither = &'static [Either<(&'static str, u8), (&'static str, char)>];
@@ -609,8 +610,8 @@ fn ask_entries_of_either(
 
 /// The same of entries of `Either`.
 #[test]
-fn of_entries_of_either(rt: HostRuntime) -> Result<(), AllocError> {
-    check_rows(&rt, rt.alloc(), &ENTRIES_OF_EITHER, ask_entries_of_either)
+fn of_entries_of_either(rt: HostRuntime) -> Result<(), Fail> {
+    check_rows(rt.alloc(), &ENTRIES_OF_EITHER, ask_entries_of_either)
 }
 
 static PAIRS: [(&[EitherOrBoth<(u8, char)>], &str); 2] = [

@@ -2,16 +2,17 @@
 ghost use Rattle.std.specs.Prelude.{List};
 
 use super::{rising_maps, rising_sets};
-use crate::calls::{Calls, Row, check_rows};
 use either_or_both::EitherOrBoth;
 use either_or_both::EitherOrBoth::{Both, Left, Right};
 use either_or_both::laws::{
     recollect_btree_map, recollect_btree_set, recollect_hash_map, recollect_hash_set,
     recollect_index_map, recollect_index_set, recollect_vec, recollect_vec_deque,
 };
+use eob_tables::{Calls, Row, check_rows};
 use indexmap::{IndexMap, IndexSet};
 use std::alloc::{AllocError, Global};
 use std::collections::{HashMap, HashSet};
+use std::test::Fail;
 
 /// A pair of containers with these sides.
 fn build<
@@ -156,7 +157,7 @@ fn ask_entries_again(
 
 /// Collected again, the contents stay, and a side that is empty is given up where the other one is not.
 #[test]
-fn again(rt: HostRuntime) -> Result<(), AllocError> {
-    check_rows(&rt, rt.alloc(), &VALUES_AGAIN, ask_values_again)?;
-    check_rows(&rt, rt.alloc(), &ENTRIES_AGAIN, ask_entries_again)
+fn again(rt: HostRuntime) -> Result<(), Fail> {
+    check_rows(rt.alloc(), &VALUES_AGAIN, ask_values_again)?;
+    check_rows(rt.alloc(), &ENTRIES_AGAIN, ask_entries_again)
 }

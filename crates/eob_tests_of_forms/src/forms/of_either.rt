@@ -1,9 +1,10 @@
 //! Changes of form of `Either`.
 
 use super::{code_of, letter_of};
-use crate::calls::{Calls, Row, check_rows};
 use either_or_both::Either;
+use eob_tables::{Calls, Row, check_rows};
 use std::alloc::AllocError;
+use std::test::Fail;
 
 static MAPS: [Row<Either<u8, char>>; 20] = [
     ("flip", Either::Left(1), "Right(1)", ""),
@@ -13,77 +14,52 @@ static MAPS: [Row<Either<u8, char>>; 20] = [
     ("map_left", Either::Left(1), "Left(11)", "f(1)"),
     ("map_left", Either::Right('c'), "Right('c')", ""),
     ("map_right", Either::Left(1), "Left(1)", ""),
-    ("map_right", Either::Right('c'), "Right('C')", "f('c')"),
+    ("map_right", Either::Right('c'), "Right('C')", "g('c')"),
     ("map_left_or", Either::Left(1), "11", "f(1)"),
     ("map_left_or", Either::Right('c'), "30", ""),
     ("map_right_or", Either::Left(1), "'z'", ""),
-    ("map_right_or", Either::Right('c'), "'C'", "f('c')"),
+    ("map_right_or", Either::Right('c'), "'C'", "g('c')"),
     ("map_left_or_default", Either::Left(1), "11", "f(1)"),
     ("map_left_or_default", Either::Right('c'), "0", ""),
     ("map_right_or_default", Either::Left(1), "'\\0'", ""),
-    ("map_right_or_default", Either::Right('c'), "'C'", "f('c')"),
+    ("map_right_or_default", Either::Right('c'), "'C'", "g('c')"),
     ("map_left_or_else", Either::Left(1), "11", "f(1)"),
     ("map_left_or_else", Either::Right('c'), "30", "d()"),
     ("map_right_or_else", Either::Left(1), "'z'", "d()"),
-    ("map_right_or_else", Either::Right('c'), "'C'", "f('c')"),
+    ("map_right_or_else", Either::Right('c'), "'C'", "g('c')"),
 ];
 
 fn ask_maps(call: &str, value: Either<u8, char>, calls: &Calls) -> Result<String, AllocError> {
+    let add = |l: u8| {
+        calls.note("f", &l);
+        l.wrapping_add(10)
+    };
+    let upper = |r: char| {
+        calls.note("g", &r);
+        r.to_ascii_uppercase()
+    };
     match call {
         "flip" => calls.show(value.flip()),
-        "bimap" => calls.show(value.bimap(
-            |l| {
-                calls.note("f", &l);
-                l.wrapping_add(10)
-            },
-            |r| {
-                calls.note("g", &r);
-                r.to_ascii_uppercase()
-            },
-        )),
-        "map_left" => calls.show(value.map_left(|l| {
-            calls.note("f", &l);
-            l.wrapping_add(10)
-        })),
-        "map_right" => calls.show(value.map_right(|r| {
-            calls.note("f", &r);
-            r.to_ascii_uppercase()
-        })),
-        "map_left_or" => calls.show(value.map_left_or(30, |l| {
-            calls.note("f", &l);
-            l.wrapping_add(10)
-        })),
-        "map_right_or" => calls.show(value.map_right_or('z', |r| {
-            calls.note("f", &r);
-            r.to_ascii_uppercase()
-        })),
-        "map_left_or_default" => calls.show(value.map_left_or_default(|l| {
-            calls.note("f", &l);
-            l.wrapping_add(10)
-        })),
-        "map_right_or_default" => calls.show(value.map_right_or_default(|r| {
-            calls.note("f", &r);
-            r.to_ascii_uppercase()
-        })),
+        "bimap" => calls.show(value.bimap(add, upper)),
+        "map_left" => calls.show(value.map_left(add)),
+        "map_right" => calls.show(value.map_right(upper)),
+        "map_left_or" => calls.show(value.map_left_or(30, add)),
+        "map_right_or" => calls.show(value.map_right_or('z', upper)),
+        "map_left_or_default" => calls.show(value.map_left_or_default(add)),
+        "map_right_or_default" => calls.show(value.map_right_or_default(upper)),
         "map_left_or_else" => calls.show(value.map_left_or_else(
             || {
                 calls.note_empty("d");
                 30
             },
-            |l| {
-                calls.note("f", &l);
-                l.wrapping_add(10)
-            },
+            add,
         )),
         "map_right_or_else" => calls.show(value.map_right_or_else(
             || {
                 calls.note_empty("d");
                 'z'
             },
-            |r| {
-                calls.note("f", &r);
-                r.to_ascii_uppercase()
-            },
+            upper,
         )),
         _ => calls.show("no such call"),
     }
@@ -91,15 +67,15 @@ fn ask_maps(call: &str, value: Either<u8, char>, calls: &Calls) -> Result<String
 
 /// The sides exchanged, and the value mapped.
 #[test]
-fn maps(rt: HostRuntime) -> Result<(), AllocError> {
-    check_rows(&rt, rt.alloc(), &MAPS, ask_maps)
+fn maps(rt: HostRuntime) -> Result<(), Fail> {
+    check_rows(rt.alloc(), &MAPS, ask_maps)
 }
 
 static REDUCTIONS: [Row<Either<u8, char>>; 27] = [
     ("bireduce", Either::Left(1), "11", "f(1)"),
     ("bireduce", Either::Right('c'), "99", "g('c')"),
     ("reduce_left", Either::Left(1), "1", ""),
-    ("reduce_left", Either::Right('c'), "99", "f('c')"),
+    ("reduce_left", Either::Right('c'), "99", "g('c')"),
     ("reduce_right", Either::Left(1), "'b'", "f(1)"),
     ("reduce_right", Either::Right('c'), "'c'", ""),
     ("ok", Either::Left(1), "Err(1)", ""),
@@ -115,7 +91,7 @@ static REDUCTIONS: [Row<Either<u8, char>>; 27] = [
     ("or_else", Either::Left(1), "(1, 'm')", "g()"),
     ("or_else", Either::Right('c'), "(200, 'c')", "f()"),
     ("into_left", Either::Left(1), "Left(1)", ""),
-    ("into_left", Either::Right('c'), "Left(99)", "f('c')"),
+    ("into_left", Either::Right('c'), "Left(99)", "g('c')"),
     ("into_right", Either::Left(1), "Right('b')", "f(1)"),
     ("into_right", Either::Right('c'), "Right('c')", ""),
     ("inject_left", Either::Left(1), "Left(200)", ""),
@@ -130,25 +106,22 @@ fn ask_reductions(
     value: Either<u8, char>,
     calls: &Calls,
 ) -> Result<String, AllocError> {
+    let add = |l: u8| {
+        calls.note("f", &l);
+        l.wrapping_add(10)
+    };
+    let letter = |l: u8| {
+        calls.note("f", &l);
+        letter_of(l)
+    };
+    let code = |r: char| {
+        calls.note("g", &r);
+        code_of(r)
+    };
     match call {
-        "bireduce" => calls.show(value.bireduce(
-            |l| {
-                calls.note("f", &l);
-                l.wrapping_add(10)
-            },
-            |r| {
-                calls.note("g", &r);
-                code_of(r)
-            },
-        )),
-        "reduce_left" => calls.show(value.reduce_left(|r| {
-            calls.note("f", &r);
-            code_of(r)
-        })),
-        "reduce_right" => calls.show(value.reduce_right(|l| {
-            calls.note("f", &l);
-            letter_of(l)
-        })),
+        "bireduce" => calls.show(value.bireduce(add, code)),
+        "reduce_left" => calls.show(value.reduce_left(code)),
+        "reduce_right" => calls.show(value.reduce_right(letter)),
         "ok" => calls.show(value.ok()),
         "ok_or" => calls.show(value.ok_or('x')),
         "ok_or_else" => calls.show(value.ok_or_else(|| {
@@ -167,14 +140,8 @@ fn ask_reductions(
                 'm'
             },
         )),
-        "into_left" => calls.show(value.into_left(|r| {
-            calls.note("f", &r);
-            code_of(r)
-        })),
-        "into_right" => calls.show(value.into_right(|l| {
-            calls.note("f", &l);
-            letter_of(l)
-        })),
+        "into_left" => calls.show(value.into_left(code)),
+        "into_right" => calls.show(value.into_right(letter)),
         "inject_left" => calls.show(value.inject_left(200)),
         "inject_right" => calls.show(value.inject_right('m')),
         _ => calls.show("no such call"),
@@ -183,8 +150,8 @@ fn ask_reductions(
 
 /// The value reduced to one side, to a result, filled up to both, or with another one put beside it.
 #[test]
-fn reductions(rt: HostRuntime) -> Result<(), AllocError> {
-    check_rows(&rt, rt.alloc(), &REDUCTIONS, ask_reductions)
+fn reductions(rt: HostRuntime) -> Result<(), Fail> {
+    check_rows(rt.alloc(), &REDUCTIONS, ask_reductions)
 }
 
 static ONE_TYPE: [Row<Either<u8>>; 6] = [
@@ -197,22 +164,20 @@ static ONE_TYPE: [Row<Either<u8>>; 6] = [
 ];
 
 fn ask_one_type(call: &str, value: Either<u8>, calls: &Calls) -> Result<String, AllocError> {
+    let add = |x: u8| {
+        calls.note("f", &x);
+        x.wrapping_add(10)
+    };
     match call {
-        "map" => calls.show(value.map(|x| {
-            calls.note("f", &x);
-            x.wrapping_add(10)
-        })),
+        "map" => calls.show(value.map(add)),
         "reduce" => calls.show(value.reduce()),
-        "reduce_map" => calls.show(value.reduce_map(|x| {
-            calls.note("f", &x);
-            x.wrapping_add(10)
-        })),
+        "reduce_map" => calls.show(value.reduce_map(add)),
         _ => calls.show("no such call"),
     }
 }
 
 /// Both sides of one type.
 #[test]
-fn one_type(rt: HostRuntime) -> Result<(), AllocError> {
-    check_rows(&rt, rt.alloc(), &ONE_TYPE, ask_one_type)
+fn one_type(rt: HostRuntime) -> Result<(), Fail> {
+    check_rows(rt.alloc(), &ONE_TYPE, ask_one_type)
 }

@@ -1,0 +1,7 @@
+//! The tests of what is walked: the paired walk and the chain, and walks whose ends are called in turn.
+#![tactic(auto)]
+
+#[cfg(test)]
+mod ends;
+#[cfg(test)]
+mod walks;
