@@ -17,6 +17,7 @@ pub struct Calls {
 }
 
 impl Calls {
+    /// No call, and where the texts take their memory.
     pub fn new(alloc: Global) -> Calls {
         Calls {
             alloc,
@@ -24,6 +25,7 @@ impl Calls {
         }
     }
 
+    /// Where the texts take their memory.
     pub fn alloc(&self) -> Global {
         self.alloc
     }
@@ -59,15 +61,6 @@ impl Calls {
     /// An answer as text.
     pub fn show<D: Debug + Drop>(&self, answer: D) -> Result<String, AllocError> {
         format!(in self.alloc; "{answer:?}")
-    }
-
-    /// An answer as text, and the value that the call leaves.
-    pub fn show_left<V: Debug + Drop>(
-        &self,
-        answer: String,
-        value: V,
-    ) -> Result<String, AllocError> {
-        format!(in self.alloc; "{answer}, leaves {value:?}")
     }
 
     /// The calls so far, which are forgotten.
