@@ -120,30 +120,22 @@ fn inserted_right<'a>(
     }
 }
 
-/// An insertion answers a reference to its place. The other place stays, and a closure is called only where the place is absent.
+/// An insertion answers a reference to its place, and what is written through it is held. The other place stays, and a closure
+/// is called only where the place is absent.
 #[test]
 fn insertions_at_the_left(rt: HostRuntime) {
     let calls = Calls::new(rt.alloc());
     for (call, rows) in INSERTED_LEFT.iter().copied() {
-        for (value, want, after, _, want_calls) in rows.iter().copied() {
+        for (value, want, after, written, want_calls) in rows.iter().copied() {
             let mut changed = value;
             let place = inserted_left(call, &mut changed, &calls);
             assert_eq!(rt; *place, want, "{call} of {value:?}");
             assert_eq!(rt; changed, after, "{call} of {value:?}");
             assert_eq!(rt; calls.take().as_str(), want_calls, "{call} of {value:?}");
-        }
-    }
-}
-
-/// What is written through the reference that an insertion answers is what is held.
-#[test]
-fn writes_at_the_left(rt: HostRuntime) {
-    let calls = Calls::new(rt.alloc());
-    for (call, rows) in INSERTED_LEFT.iter().copied() {
-        for (value, _, _, written, _) in rows.iter().copied() {
             let mut changed = value;
             *inserted_left(call, &mut changed, &calls) = 8;
             assert_eq!(rt; changed, written, "{call} of {value:?}");
+            assert_eq!(rt; calls.take().as_str(), want_calls, "{call} of {value:?}");
         }
     }
 }
@@ -153,25 +145,16 @@ fn writes_at_the_left(rt: HostRuntime) {
 fn insertions_at_the_right(rt: HostRuntime) {
     let calls = Calls::new(rt.alloc());
     for (call, rows) in INSERTED_RIGHT.iter().copied() {
-        for (value, want, after, _, want_calls) in rows.iter().copied() {
+        for (value, want, after, written, want_calls) in rows.iter().copied() {
             let mut changed = value;
             let place = inserted_right(call, &mut changed, &calls);
             assert_eq!(rt; *place, want, "{call} of {value:?}");
             assert_eq!(rt; changed, after, "{call} of {value:?}");
             assert_eq!(rt; calls.take().as_str(), want_calls, "{call} of {value:?}");
-        }
-    }
-}
-
-/// The same of the right place.
-#[test]
-fn writes_at_the_right(rt: HostRuntime) {
-    let calls = Calls::new(rt.alloc());
-    for (call, rows) in INSERTED_RIGHT.iter().copied() {
-        for (value, _, _, written, _) in rows.iter().copied() {
             let mut changed = value;
             *inserted_right(call, &mut changed, &calls) = 'd';
             assert_eq!(rt; changed, written, "{call} of {value:?}");
+            assert_eq!(rt; calls.take().as_str(), want_calls, "{call} of {value:?}");
         }
     }
 }
@@ -231,11 +214,6 @@ fn replacements(rt: HostRuntime) {
         assert_eq!(rt; changed.replace_any(5, 6), want, "{value:?}");
         assert_eq!(rt; changed, after, "{value:?}");
     }
-}
-
-/// The same of one place.
-#[test]
-fn replacements_on_one_side(rt: HostRuntime) {
     for (value, want, after) in REPLACED_LEFT.iter().copied() {
         let mut changed = value;
         assert_eq!(rt; changed.replace_left(5), want, "{value:?}");
@@ -246,11 +224,6 @@ fn replacements_on_one_side(rt: HostRuntime) {
         assert_eq!(rt; changed.replace_right('m'), want, "{value:?}");
         assert_eq!(rt; changed, after, "{value:?}");
     }
-}
-
-/// The same of `Either`.
-#[test]
-fn replacements_of_either(rt: HostRuntime) {
     for (value, want, after) in EITHER_REPLACED_LEFT.iter().copied() {
         let mut changed = value;
         assert_eq!(rt; changed.replace_left(5), want, "{value:?}");

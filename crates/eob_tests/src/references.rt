@@ -45,29 +45,22 @@ fn boxed(
     })
 }
 
-/// References point to the held values, and what is written through them is what is held afterwards.
+/// References point to the held values or to their targets, and what is written through them is what is held afterwards.
 #[test]
-fn references_of_either_or_both(rt: HostRuntime) {
+fn references_of_either_or_both(rt: HostRuntime) -> Result<(), Fail> {
     for (value, references, written) in OF_EITHER_OR_BOTH.iter().copied() {
         assert_eq!(rt; value.as_ref(), references);
         let mut changed = value;
         assert_eq!(rt; write(changed.as_mut(), 10, 'm'), value);
         assert_eq!(rt; changed, written);
-    }
-    let mut numbers = Both(1, 2);
-    assert_eq!(rt; write(numbers.as_mut(), 10, 20), Both(1, 2));
-    assert_eq!(rt; numbers, Both(10, 20));
-}
-
-/// The same of the targets of what is held.
-#[test]
-fn references_to_targets_of_either_or_both(rt: HostRuntime) -> Result<(), Fail> {
-    for (value, references, written) in OF_EITHER_OR_BOTH.iter().copied() {
         let mut boxes = boxed(rt.alloc(), value)?;
         assert_eq!(rt; boxes.as_deref(), references);
         assert_eq!(rt; write(boxes.as_deref_mut(), 10, 'm'), value);
         assert_eq!(rt; boxes, boxed(rt.alloc(), written)?);
     }
+    let mut numbers = Both(1, 2);
+    assert_eq!(rt; write(numbers.as_mut(), 10, 20), Both(1, 2));
+    assert_eq!(rt; numbers, Both(10, 20));
     let mut number = boxed(rt.alloc(), Left(3))?;
     assert_eq!(rt; number.as_deref(), Left(&3));
     assert_eq!(rt; write(number.as_deref_mut(), 4, 'm'), Left(3));
@@ -108,13 +101,6 @@ fn clones_of_owned_memory(rt: HostRuntime) -> Result<(), Fail> {
         value,
         Both(String::from_str(alloc, "a")?, vec![in alloc; 1u8]?)
     );
-    Ok(())
-}
-
-/// The same of `Either`.
-#[test]
-fn clones_of_owned_memory_in_either(rt: HostRuntime) -> Result<(), Fail> {
-    let alloc = rt.alloc();
     let value: Either<String, Vec<u8>> = Either::Right(vec![in alloc; 1]?);
     let mut copy = value.clone()?;
     if let Either::Right(r) = copy.as_mut() {
@@ -209,9 +195,9 @@ fn boxed_either(
     })
 }
 
-/// A reference points to the held value, and what is written through it is what is held afterwards.
+/// A reference points to the held value or to its target, and what is written through it is what is held afterwards.
 #[test]
-fn references_of_either(rt: HostRuntime) {
+fn references_of_either(rt: HostRuntime) -> Result<(), Fail> {
     for (value, reference, written) in OF_EITHER.iter().copied() {
         assert_eq!(rt; value.as_ref(), reference);
         assert_eq!(rt; Either::from(&value), reference);
@@ -221,13 +207,6 @@ fn references_of_either(rt: HostRuntime) {
         let mut converted = value;
         assert_eq!(rt; write_either(Either::from(&mut converted), 10, 'm'), value);
         assert_eq!(rt; converted, written);
-    }
-}
-
-/// The same of the target of what is held.
-#[test]
-fn references_to_target_of_either(rt: HostRuntime) -> Result<(), Fail> {
-    for (value, reference, written) in OF_EITHER.iter().copied() {
         let mut boxes = boxed_either(rt.alloc(), value)?;
         assert_eq!(rt; boxes.as_deref(), reference);
         assert_eq!(rt; write_either(boxes.as_deref_mut(), 10, 'm'), value);

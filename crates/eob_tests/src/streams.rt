@@ -211,9 +211,9 @@ fn read_by<R: Read>(alloc: Global, reader: &mut R, size: usize) -> io::Result<Ve
     Ok(all)
 }
 
-/// Bytes pass unchanged in pieces of each size, read here and through what `std` provides.
+/// Bytes pass unchanged in pieces of each size, through what is written here and through what `std` provides.
 #[test]
-fn read_in_pieces(rt: HostRuntime) -> Result<(), Fail> {
+fn pieces(rt: HostRuntime) -> Result<(), Fail> {
     let alloc = rt.alloc();
     for is_left in SIDES {
         for size in 1..=9 {
@@ -226,17 +226,7 @@ fn read_in_pieces(rt: HostRuntime) -> Result<(), Fail> {
             assert_eq!(rt; short.read_until(10, &mut line)?, 9);
             assert_eq!(rt; short.read_to_end(&mut line)?, 29);
             assert_eq!(rt; line.as_slice(), BYTES, "shown by {size}");
-        }
-    }
-    Ok(())
-}
 
-/// The same of bytes that are written.
-#[test]
-fn written_in_pieces(rt: HostRuntime) -> Result<(), Fail> {
-    let alloc = rt.alloc();
-    for is_left in SIDES {
-        for size in 1..=9 {
             let mut writer = held(is_left, Stream::new(alloc, &[], NEVER, NEVER)?);
             for piece in BYTES.chunks(size) {
                 assert_eq!(rt; writer.write(piece)?, piece.len());
@@ -247,17 +237,7 @@ fn written_in_pieces(rt: HostRuntime) -> Result<(), Fail> {
                 BYTES,
                 "written by {size}"
             );
-        }
-    }
-    Ok(())
-}
 
-/// The same of bytes that `std` copies from one to another.
-#[test]
-fn copied_in_pieces(rt: HostRuntime) -> Result<(), Fail> {
-    let alloc = rt.alloc();
-    for is_left in SIDES {
-        for size in 1..=9 {
             let mut from = held(is_left, Stream::new(alloc, BYTES, size, NEVER)?);
             let mut to = held(!is_left, Stream::new(alloc, &[], size, NEVER)?);
             assert_eq!(rt; io::copy(&mut from, &mut to)?, 38);

@@ -43,21 +43,17 @@ static SECONDS: [(NumbersSecond, EitherOrBoth<char>, u8, &str); 3] = [
     (Right(('b', 2)), Right('b'), 2, ""),
 ];
 
-/// Of tuples, the first parts and the second parts keep the places of their tuples.
+/// Of tuples, the first parts and the second parts keep the places of their tuples. The form for one side makes one value of
+/// the parts of that side, by its closure where there are two.
 #[test]
 fn tuples_of_either_or_both(rt: HostRuntime) {
+    let calls = Calls::new(rt.alloc());
     for (value, firsts, seconds) in TUPLES.iter().copied() {
         assert_eq!(rt; value.transpose(), (firsts, seconds), "{value:?}");
     }
     for (value, firsts, seconds) in LIKE_TUPLES.iter().copied() {
         assert_eq!(rt; value.transpose(), (firsts, seconds), "{value:?}");
     }
-}
-
-/// The form for one side makes one value of the parts of that side, by its closure where there are two.
-#[test]
-fn tuples_with_one_value_of_a_side(rt: HostRuntime) {
-    let calls = Calls::new(rt.alloc());
     for (value, first, seconds, want_calls) in FIRSTS.iter().copied() {
         let answer = value.transpose_left(|a, b| sum(&calls, a, b));
         assert_eq!(rt; answer, (first, seconds), "{value:?}");
@@ -129,21 +125,17 @@ static CONTENTS: [(Numbers, Result<u8, Errors>, &str); 8] = [
     (Right(Err("e")), Err(Right("e")), ""),
 ];
 
-/// Of options, None where a place holds None. Of results, the errors in the places that err.
+/// Of options, None where a place holds None. Of results, the errors in the places that err. The forms for one side make one
+/// value of two errors or of two contents, by their closure.
 #[test]
 fn options_and_results_of_either_or_both(rt: HostRuntime) {
+    let calls = Calls::new(rt.alloc());
     for (value, want) in OPTIONS.iter().copied() {
         assert_eq!(rt; value.transpose(), want, "{value:?}");
     }
     for (value, want) in RESULTS.iter().copied() {
         assert_eq!(rt; value.transpose(), want, "{value:?}");
     }
-}
-
-/// The forms for one side make one value of two errors or of two contents, by their closure.
-#[test]
-fn results_with_one_value_of_a_side(rt: HostRuntime) {
-    let calls = Calls::new(rt.alloc());
     for (value, want, want_calls) in ERRORS.iter().copied() {
         let answer = value.transpose_err(|a, b| sum(&calls, a, b));
         assert_eq!(rt; answer, want, "{value:?}");
@@ -225,7 +217,8 @@ static EITHER_CONTENTS: [(EitherNumbers, Result<u8, Either<char, &str>>); 4] = [
     (Either::Right(Err("e")), Err(Either::Right("e"))),
 ];
 
-/// Of an option, None where it is None. Of a result, its content or its error in its place.
+/// Of an option, None where it is None. Of a result, its content or its error in its place, but for the side whose form is
+/// called.
 #[test]
 fn options_and_results_of_either(rt: HostRuntime) {
     for (value, want) in EITHER_OPTIONS.iter().copied() {
@@ -234,11 +227,6 @@ fn options_and_results_of_either(rt: HostRuntime) {
     for (value, want) in EITHER_RESULTS.iter().copied() {
         assert_eq!(rt; value.transpose(), want, "{value:?}");
     }
-}
-
-/// The form for one side gives what that side holds without a place.
-#[test]
-fn results_of_one_side_of_either(rt: HostRuntime) {
     for (value, want) in EITHER_ERRORS.iter().copied() {
         assert_eq!(rt; value.transpose_err(), want, "{value:?}");
     }
