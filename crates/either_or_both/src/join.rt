@@ -8,8 +8,6 @@ ghost use Rattle.either_or_both.specs.JoinLaws.{AllBoth, HasJoinCounts};
 
 mod laws;
 mod refs;
-#[cfg(test)]
-mod refused;
 mod walk;
 
 use crate::EitherOrBoth;

@@ -5,8 +5,6 @@
 mod drive;
 mod normal;
 mod recollect;
-#[cfg(test)]
-mod refused;
 mod results;
 mod walks;
 
@@ -20,8 +18,8 @@ pub use normal::{
     is_normal, law_aligned, law_equal_pairs, law_twice, law_unchanged, regroup, regroup_in,
 };
 pub use recollect::{
-    recollect_btree_map, recollect_btree_set, recollect_hash_map, recollect_hash_set,
-    recollect_index_map, recollect_index_set, recollect_vec, recollect_vec_deque,
+    Walked, recollect_btree_map, recollect_btree_set, recollect_hash_map, recollect_hash_set,
+    recollect_in, recollect_index_map, recollect_index_set, recollect_vec, recollect_vec_deque,
 };
 pub use results::law_results;
 pub use walks::{

@@ -4,7 +4,7 @@ ghost use Rattle.either_or_both.specs.Aligned.{aligned};
 ghost use Rattle.either_or_both.specs.Places.{left_place, right_place};
 
 use either_or_both::EitherOrBoth;
-use eob_listing::listed::law_rev;
+use eob_known_lists::listed::law_rev;
 use std::alloc::{AllocError, Global};
 
 /// The first item beside the first, the second beside the second, and so on.

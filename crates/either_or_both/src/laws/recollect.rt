@@ -16,8 +16,8 @@ use std::alloc::{AllocError, Allocator, Global};
 use std::collections::{BTreeMap, BTreeSet, HashMap, HashSet, VecDeque};
 use std::hash::{BuildHasher, Hash};
 
-// A container whose walk gives what it holds.
-pub(super) trait Walked: IntoIterator {
+/// A container whose iterator gives what it holds: the eight shapes that [`recollect_in`] serves.
+pub trait Walked: IntoIterator {
     // The contents of a container, as a list.
     ghost contents: { Self → List Self.Item };
 
@@ -146,8 +146,9 @@ impl<K: Ord + Drop, A: Allocator> Walked for BTreeSet<K, A> {
     ghost holds_none = { none_rise K.cmp };
 }
 
-// Walks the pair and collects what comes.
-pub(super) fn recollect<C: Walked, D: Walked, A: Allocator>(
+/// A pair of containers of any shape, walked side by side and collected again, with memory of any allocator: what each `recollect_*`
+/// does for one shape. `AllocError` where a request for memory was refused: then the pair is dropped.
+pub fn recollect_in<C: Walked, D: Walked, A: Allocator>(
     alloc: A,
     pair: EitherOrBoth<C, D>,
 ) -> Result<EitherOrBoth<C, D>, AllocError>
@@ -174,7 +175,7 @@ pub fn recollect_vec<L: Drop, R: Drop>(
 ) -> Result<EitherOrBoth<Vec<L>, Vec<R>>, AllocError>
     ensures { IfOk result (λ v. map_places (λ l. l.items) (λ r. r.items) v ≡ pair_of (contents_at (λ l. l.items) (left_place pair)) (contents_at (λ r. r.items) (right_place pair))) }
 {
-    recollect(alloc, pair)
+    recollect_in(alloc, pair)
 }
 
 /// The same of a pair of hashed maps, in whatever order they are walked: each key of a side keeps its value.
@@ -200,7 +201,7 @@ pub fn recollect_hash_map<
     ensures { IfOk result (λ v. Collects (λ l. l.entries) (λ r. r.entries) (IsSameMap K1.eq) (IsSameMap K2.eq)
         (contents_at (λ l. l.entries) (left_place pair)) (contents_at (λ r. r.entries) (right_place pair)) v) }
 {
-    recollect(alloc, pair)
+    recollect_in(alloc, pair)
 }
 
 /// The same of a pair of hashed sets, in whatever order they are walked.
@@ -224,7 +225,7 @@ pub fn recollect_hash_set<
     ensures { IfOk result (λ v. Collects (λ l. l.keys) (λ r. r.keys) (AreSameMembers K1.eq) (AreSameMembers K2.eq)
         (contents_at (λ l. l.keys) (left_place pair)) (contents_at (λ r. r.keys) (right_place pair)) v) }
 {
-    recollect(alloc, pair)
+    recollect_in(alloc, pair)
 }
 
 /// The same of a pair of maps in the order of insertion, which is kept.
@@ -249,7 +250,7 @@ pub fn recollect_index_map<
 ) -> Result<EitherOrBoth<IndexMap<K1, V1, S1>, IndexMap<K2, V2, S2>>, AllocError>
     ensures { IfOk result (λ v. map_places (λ l. l.entries) (λ r. r.entries) v ≡ pair_of (contents_at (λ l. l.entries) (left_place pair)) (contents_at (λ r. r.entries) (right_place pair))) }
 {
-    recollect(alloc, pair)
+    recollect_in(alloc, pair)
 }
 
 /// The same of a pair of sets in the order of insertion, which is kept.
@@ -272,7 +273,7 @@ pub fn recollect_index_set<
 ) -> Result<EitherOrBoth<IndexSet<K1, S1>, IndexSet<K2, S2>>, AllocError>
     ensures { IfOk result (λ v. map_places (λ l. l.keys) (λ r. r.keys) v ≡ pair_of (contents_at (λ l. l.keys) (left_place pair)) (contents_at (λ r. r.keys) (right_place pair))) }
 {
-    recollect(alloc, pair)
+    recollect_in(alloc, pair)
 }
 
 /// The same of a pair of queues.
@@ -289,7 +290,7 @@ pub fn recollect_vec_deque<L: Drop, R: Drop>(
 ) -> Result<EitherOrBoth<VecDeque<L>, VecDeque<R>>, AllocError>
     ensures { IfOk result (λ v. map_places (λ l. l.items) (λ r. r.items) v ≡ pair_of (contents_at (λ l. l.items) (left_place pair)) (contents_at (λ r. r.items) (right_place pair))) }
 {
-    recollect(alloc, pair)
+    recollect_in(alloc, pair)
 }
 
 /// The same of a pair of maps in the order of their keys: each key of a side keeps its value.
@@ -308,7 +309,7 @@ pub fn recollect_btree_map<K1: Ord + Drop, V1: Drop, K2: Ord + Drop, V2: Drop>(
     ensures { IfOk result (λ v. Collects (λ l. l.entries) (λ r. r.entries) (IsSameRisingMap K1.cmp) (IsSameRisingMap K2.cmp)
         (contents_at (λ l. l.entries) (left_place pair)) (contents_at (λ r. r.entries) (right_place pair)) v) }
 {
-    recollect(alloc, pair)
+    recollect_in(alloc, pair)
 }
 
 /// The same of a pair of sets in the order of their values.
@@ -327,5 +328,5 @@ pub fn recollect_btree_set<K1: Ord + Drop, K2: Ord + Drop>(
     ensures { IfOk result (λ v. Collects (λ l. l.keys) (λ r. r.keys) (AreSameRisingMembers K1.cmp) (AreSameRisingMembers K2.cmp)
         (contents_at (λ l. l.keys) (left_place pair)) (contents_at (λ r. r.keys) (right_place pair)) v) }
 {
-    recollect(alloc, pair)
+    recollect_in(alloc, pair)
 }

@@ -3,7 +3,7 @@
 mod joins;
 
 use super::{Outcome, run, run_in};
-use refusing::Refusing;
+use eob_testkit::memory::Refusing;
 use std::alloc::{AllocError, Global};
 use std::cell::Cell;
 use std::io;

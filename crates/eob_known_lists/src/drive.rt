@@ -1,0 +1,131 @@
+//! Walks over such values, driven from both ends, with no premise.
+ghost use Rattle.std.specs.Prelude.{◌≡◌, ◌++◌, map, reverse, IfOk};
+ghost use Rattle.std.specs.Option.{option_map};
+ghost use Rattle.eob_both.specs.Aligned.{aligned};
+ghost use Rattle.eob_both.specs.Places.{left_place, right_place, map_places};
+ghost use Rattle.eob_both.specs.Ends.{CountedToCome};
+ghost use Rattle.either_or_both.specs.Answers.{answers, left_over, Listed};
+ghost use Rattle.eob_known_lists.specs.Listed.{listed_at};
+
+use crate::listing::{CountedListing, Listing, OwnListing};
+use either_or_both::EitherOrBoth;
+use either_or_both::laws::{Driven, End, drive_chain, drive_swap};
+use std::alloc::{AllocError, Global};
+
+/// Drives the paired walk of two such values: [`drive_swap`] with nothing to show. `AllocError` where a request for memory was
+/// refused.
+pub fn drive_swap_listed<L, R>(
+    alloc: Global,
+    pair: EitherOrBoth<L, R>,
+    ends: &[End],
+) -> Result<Driven<EitherOrBoth<L::Item, R::Item>>, AllocError>
+where
+    L: CountedListing,
+    R: CountedListing,
+    L::IntoIter: DoubleEndedIterator + ExactSizeIterator,
+    R::IntoIter: DoubleEndedIterator + ExactSizeIterator,
+    L::Item: Drop,
+    R::Item: Drop,
+    ensures answers { IfOk result (λ d. map (option_map (map_places L.view R.view)) d.answers.items
+        ≡ answers (aligned (listed_at L.listed (left_place pair)) (listed_at R.listed (right_place pair))) ends.now) }
+    ensures rest { IfOk result (λ d. d.rest ≡ left_over (aligned (listed_at L.listed (left_place pair)) (listed_at R.listed (right_place pair))) ends.now) }
+{
+    drive_swap(alloc, pair, ends)
+}
+
+/// The same of two values that are walked by value: the answers are the items themselves.
+pub fn drive_swap_owned<L, R>(
+    alloc: Global,
+    pair: EitherOrBoth<L, R>,
+    ends: &[End],
+) -> Result<Driven<EitherOrBoth<L::Item, R::Item>>, AllocError>
+where
+    L: CountedListing + OwnListing,
+    R: CountedListing + OwnListing,
+    L::IntoIter: DoubleEndedIterator + ExactSizeIterator,
+    R::IntoIter: DoubleEndedIterator + ExactSizeIterator,
+    L::Item: Drop,
+    R::Item: Drop,
+    ensures answers { IfOk result (λ d. d.answers.items ≡ answers (aligned (listed_at L.listed (left_place pair)) (listed_at R.listed (right_place pair))) ends.now) }
+    ensures rest { IfOk result (λ d. d.rest ≡ left_over (aligned (listed_at L.listed (left_place pair)) (listed_at R.listed (right_place pair))) ends.now) }
+{
+    drive_swap_listed(alloc, pair, ends)
+}
+
+/// Drives the chain of two such values: [`drive_chain`] with nothing to show. `AllocError` where a request for memory was refused.
+pub fn drive_chain_listed<T>(
+    alloc: Global,
+    pair: EitherOrBoth<T, T>,
+    ends: &[End],
+) -> Result<Vec<Option<T::Item>>, AllocError>
+where
+    T: Listing,
+    T::IntoIter: DoubleEndedIterator,
+    T::Item: Drop,
+    ensures { IfOk result (λ v. map (option_map T.view) v.items ≡ answers (listed_at T.listed (left_place pair) ++ listed_at T.listed (right_place pair)) ends.now) }
+{
+    drive_chain(alloc, pair, ends)
+}
+
+/// The same of two values that are walked by value: the answers are the items themselves.
+pub fn drive_chain_owned<T>(
+    alloc: Global,
+    pair: EitherOrBoth<T, T>,
+    ends: &[End],
+) -> Result<Vec<Option<T::Item>>, AllocError>
+where
+    T: OwnListing,
+    T::IntoIter: DoubleEndedIterator,
+    T::Item: Drop,
+    ensures { IfOk result (λ v. v.items ≡ answers (listed_at T.listed (left_place pair) ++ listed_at T.listed (right_place pair)) ends.now) }
+{
+    drive_chain_listed(alloc, pair, ends)
+}
+
+// Takes a walk from its front and its back in turn until they meet.
+fn take_in_turn<I: DoubleEndedIterator + ExactSizeIterator>(
+    alloc: Global,
+    mut walk: I,
+) -> Result<(Vec<I::Item>, Vec<I::Item>), AllocError>
+where
+    I::Item: Drop,
+    requires { (list : Listed I.Item) × CountedToCome I.DoubleEndedIterator list.view list.items walk }
+    ensures { (list : Listed I.Item) → CountedToCome I.DoubleEndedIterator list.view list.items walk
+        → IfOk result (λ r. map list.view r.0.items ++ reverse (map list.view r.1.items) ≡ list.items) }
+{
+    let mut fronts = Vec::new(alloc);
+    let mut backs = Vec::new(alloc);
+    while let Some(first) = walk.next() {
+        fronts.push(first)?;
+        match walk.next_back() {
+            Some(last) => backs.push(last)?,
+            None => break,
+        }
+    }
+    Ok((fronts, backs))
+}
+
+/// Takes the paired walk of two such values from its front and its back in turn until they meet: the items from the front, and
+/// those from the back in the order in which they came. Together they are the aligned list, cut in two. `AllocError` where a
+/// request for memory was refused.
+pub fn take_swap_in_turn<L, R>(
+    alloc: Global,
+    pair: EitherOrBoth<L, R>,
+) -> Result<
+    (
+        Vec<EitherOrBoth<L::Item, R::Item>>,
+        Vec<EitherOrBoth<L::Item, R::Item>>,
+    ),
+    AllocError,
+>
+where
+    L: CountedListing + OwnListing,
+    R: CountedListing + OwnListing,
+    L::IntoIter: DoubleEndedIterator + ExactSizeIterator,
+    R::IntoIter: DoubleEndedIterator + ExactSizeIterator,
+    L::Item: Drop,
+    R::Item: Drop,
+    ensures { IfOk result (λ r. r.0.items ++ reverse r.1.items ≡ aligned (listed_at L.listed (left_place pair)) (listed_at R.listed (right_place pair))) }
+{
+    take_in_turn(alloc, pair.into_iter_swap())
+}

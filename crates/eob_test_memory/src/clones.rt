@@ -1,0 +1,217 @@
+//! Clones of both enums and of their walks, and clones of what references show.
+
+use either_or_both::EitherOrBoth::{Both, Left, Right};
+use either_or_both::{Either, EitherOrBoth};
+use eob_testkit::memory::{RUNS, Refusing, Tokens};
+use std::alloc::{AllocError, Global};
+use std::fmt::Debug;
+use std::process::Abort;
+use std::rc::Rc;
+use std::test::Fail;
+
+type Memory<'a> = &'a Refusing<Global>;
+
+type List<'a> = Vec<Rc<u8>, Memory<'a>>;
+
+fn shown<T: Debug>(alloc: Global, value: &T) -> Result<String, AllocError> {
+    format!(in alloc; "{value:?}")
+}
+
+// Clones the value with each request refused in turn. What a refused run has cloned is dropped, the value is as it was, and the run
+// that meets no refusal answers its like. The value asks for memory with the handle that it was built with.
+fn check<V: Clone + Debug + Drop>(
+    rt: &impl Abort,
+    alloc: Global,
+    memory: Memory,
+    tokens: &Tokens,
+    value: V,
+) -> Result<(), Fail> {
+    let want = shown(alloc, &value)?;
+    let alive = tokens.alive();
+    for number in 1..RUNS {
+        memory.refuse(number);
+        let ended: Result<V, AllocError> = value.clone();
+        let judged = memory.judge(ended)?;
+        assert_eq!(rt; shown(alloc, &value)?, want, "request {number} refused");
+        if let Some(whole) = judged {
+            assert_eq!(rt; shown(alloc, &whole)?, want);
+            drop(whole);
+            assert_eq!(rt; tokens.alive(), alive, "{want}");
+            assert!(rt; 1 < number, "{want}");
+            return Ok(());
+        }
+        assert_eq!(rt;
+            tokens.alive(),
+            alive,
+            "{want} with request {number} refused"
+        );
+    }
+    Err("each run was refused")?;
+    Ok(())
+}
+
+// A list of two numbers, built with nothing refused.
+fn list<'a>(memory: Memory<'a>, tokens: &Tokens) -> Result<List<'a>, AllocError> {
+    memory.refuse(0);
+    let mut list = Vec::new(memory);
+    list.push(tokens.one()?)?;
+    list.push(tokens.three()?)?;
+    Ok(list)
+}
+
+/// Each variant of both enums, and their walks.
+#[test]
+fn of_values_and_walks(rt: HostRuntime) -> Result<(), Fail> {
+    let alloc = rt.alloc();
+    let m = &Refusing::new(alloc);
+    let t = &Tokens::new(alloc)?;
+    check(
+        &rt,
+        alloc,
+        m,
+        t,
+        EitherOrBoth::<List, u8>::Left(list(m, t)?),
+    )?;
+    check(&rt, alloc, m, t, Both(list(m, t)?, list(m, t)?))?;
+    check(
+        &rt,
+        alloc,
+        m,
+        t,
+        EitherOrBoth::<u8, List>::Right(list(m, t)?),
+    )?;
+    check(&rt, alloc, m, t, Either::<List, u8>::Left(list(m, t)?))?;
+    check(&rt, alloc, m, t, Either::<u8, List>::Right(list(m, t)?))?;
+    check(&rt, alloc, m, t, Both(list(m, t)?, list(m, t)?).into_iter())?;
+    check(
+        &rt,
+        alloc,
+        m,
+        t,
+        Both(list(m, t)?, list(m, t)?).into_iter_chain(),
+    )?;
+    check(
+        &rt,
+        alloc,
+        m,
+        t,
+        Either::<List>::Left(list(m, t)?).into_iter(),
+    )?;
+    check(
+        &rt,
+        alloc,
+        m,
+        t,
+        Either::<List>::Right(list(m, t)?).into_iter_inner(),
+    )?;
+    check(
+        &rt,
+        alloc,
+        m,
+        t,
+        Either::<List>::Left(list(m, t)?).into_iter_swap(),
+    )?;
+    check(
+        &rt,
+        alloc,
+        m,
+        t,
+        Both(list(m, t)?, list(m, t)?).into_iter_swap(),
+    )
+}
+
+// A value whose places are cloned through references to them.
+trait ClonedPlaces: Debug + Drop + Sized {
+    fn cloned_places(&self) -> Result<Self, AllocError>;
+
+    fn cloned_places_mut(&mut self) -> Result<Self, AllocError>;
+}
+
+impl<'a> ClonedPlaces for EitherOrBoth<List<'a>, List<'a>> {
+    fn cloned_places(&self) -> Result<Self, AllocError> {
+        self.as_ref().cloned()
+    }
+
+    fn cloned_places_mut(&mut self) -> Result<Self, AllocError> {
+        self.as_mut().cloned()
+    }
+}
+
+impl<'a> ClonedPlaces for Either<List<'a>, List<'a>> {
+    fn cloned_places(&self) -> Result<Self, AllocError> {
+        self.as_ref().cloned()
+    }
+
+    fn cloned_places_mut(&mut self) -> Result<Self, AllocError> {
+        self.as_mut().cloned()
+    }
+}
+
+// Clones what is behind the references of a value with each request refused in turn.
+fn check_cloned<V: ClonedPlaces>(
+    rt: &impl Abort,
+    alloc: Global,
+    memory: Memory,
+    tokens: &Tokens,
+    mut value: V,
+) -> Result<(), Fail> {
+    let want = shown(alloc, &value)?;
+    let alive = tokens.alive();
+    for number in 1..RUNS {
+        memory.refuse(number);
+        let shared = memory.judge(value.cloned_places())?;
+        memory.refuse(number);
+        let lent = memory.judge(value.cloned_places_mut())?;
+        assert_eq!(rt; shown(alloc, &value)?, want, "request {number} refused");
+        if let Some(shared) = shared {
+            assert_eq!(rt; shown(alloc, &shared)?, want);
+            assert_eq!(rt; shown(alloc, &lent)?, format!(in alloc; "Some({want})")?);
+            assert!(rt; 1 < number, "{want}");
+            return Ok(());
+        }
+        assert!(rt; lent.is_none(), "{want} with request {number} refused");
+        assert_eq!(rt;
+            tokens.alive(),
+            alive,
+            "{want} with request {number} refused"
+        );
+    }
+    Err("each run was refused")?;
+    Ok(())
+}
+
+/// Each variant of both enums, through references and through references for writing.
+#[test]
+fn of_references(rt: HostRuntime) -> Result<(), Fail> {
+    let alloc = rt.alloc();
+    let m = &Refusing::new(alloc);
+    let t = &Tokens::new(alloc)?;
+    check_cloned(&rt, alloc, m, t, Left(list(m, t)?))?;
+    check_cloned(&rt, alloc, m, t, Both(list(m, t)?, list(m, t)?))?;
+    check_cloned(&rt, alloc, m, t, Right(list(m, t)?))?;
+    check_cloned(&rt, alloc, m, t, Either::Left(list(m, t)?))?;
+    check_cloned(&rt, alloc, m, t, Either::Right(list(m, t)?))
+}
+
+/// A value whose clone refuses by itself.
+#[derive(Debug, PartialEq, Eq, Drop)]
+struct Stubborn;
+
+impl Clone for Stubborn {
+    fn clone(&self) -> Result<Stubborn, AllocError> {
+        Err(AllocError)
+    }
+}
+
+/// A clone that refuses by itself is handed on: what was borrowed is as it was.
+#[test]
+fn of_stubborn_values(rt: HostRuntime) {
+    let left = 1;
+    let right = Stubborn;
+    let refused: Result<EitherOrBoth<i32, Stubborn>, AllocError> = Both(&left, &right).cloned();
+    assert!(rt; refused.is_err());
+    assert_eq!(rt; (left, right), (1, Stubborn));
+    let either: Either<Stubborn> = Either::Right(Stubborn);
+    assert!(rt; either.clone().is_err() && either.as_ref().cloned().is_err());
+    assert_eq!(rt; either, Either::Right(Stubborn));
+}

@@ -1,0 +1,169 @@
+//! Pairs of containers of each shape, collected from values of either enum.
+
+ghost use Rattle.std.specs.Prelude.{List};
+
+use either_or_both::EitherOrBoth::{Both, Left, Right};
+use either_or_both::{Either, EitherOrBoth};
+use eob_testkit::memory::{RUNS, Refusing, Source, Tokens, Watch};
+use indexmap::{IndexMap, IndexSet};
+use std::alloc::{AllocError, Global};
+use std::collections::{BTreeMap, BTreeSet, HashMap, HashSet, VecDeque};
+use std::fmt::Debug;
+use std::hash::{BuildHasherDefault, FoldHasher};
+use std::process::Abort;
+use std::rc::Rc;
+use std::test::Fail;
+
+type Memory<'a> = &'a Refusing<Global>;
+
+type Hasher = BuildHasherDefault<FoldHasher>;
+
+// Collects the items with each request refused in turn. A refused run asks the source no more, the run that meets no refusal
+// answers `want`, and each drops what it took.
+fn check<'a, I: Clone + Drop, P: FromIterator<I, Alloc = Memory<'a>> + Debug + Drop>(
+    rt: &impl Abort,
+    alloc: Global,
+    memory: Memory<'a>,
+    tokens: &Tokens,
+    items: &[I],
+    want: &str,
+) -> Result<(), Fail>
+    requires { (xs : List I) → P.can_from_iter xs }
+{
+    let alive = tokens.alive();
+    for number in 1..RUNS {
+        let watch = Watch::new(memory);
+        memory.refuse(number);
+        let ended: Result<P, AllocError> = Source::new(items, &watch).collect(memory);
+        assert!(rt; !watch.is_late(), "{want} with request {number} refused");
+        if let Some(whole) = memory.judge(ended)? {
+            assert_eq!(rt; format!(in alloc; "{whole:?}")?.as_str(), want);
+            drop(whole);
+            assert_eq!(rt; tokens.alive(), alive, "{want}");
+            assert!(rt; 1 < number, "{want}");
+            return Ok(());
+        }
+        assert_eq!(rt;
+            tokens.alive(),
+            alive,
+            "{want} with request {number} refused"
+        );
+    }
+    Err("each run was refused")?;
+    Ok(())
+}
+
+type One = Rc<u8>;
+
+type Entry = (Rc<u8>, Rc<u8>);
+
+type Vecs<M> = EitherOrBoth<Vec<One, M>>;
+
+type VecDeques<M> = EitherOrBoth<VecDeque<One, M>>;
+
+type HashSets<M> = EitherOrBoth<HashSet<One, Hasher, M>>;
+
+type IndexSets<M> = EitherOrBoth<IndexSet<One, Hasher, M>>;
+
+type BTreeSets<M> = EitherOrBoth<BTreeSet<One, M>>;
+
+type HashMaps<M> = EitherOrBoth<HashMap<One, One, Hasher, M>>;
+
+type IndexMaps<M> = EitherOrBoth<IndexMap<One, One, Hasher, M>>;
+
+type BTreeMaps<M> = EitherOrBoth<BTreeMap<One, One, M>>;
+
+/// Lists and sets, from values of `EitherOrBoth`. A hashed set has one value a side here, since its order is not told.
+#[test]
+fn of_values(rt: HostRuntime) -> Result<(), Fail> {
+    let alloc = rt.alloc();
+    let m = &Refusing::new(alloc);
+    let t = &Tokens::new(alloc)?;
+    let items = [
+        Left(t.three()?),
+        Both(t.one()?, t.two()?),
+        Right(t.one()?),
+        Left(t.three()?),
+    ];
+    let alike = [Left(t.three()?), Both(t.three()?, t.two()?)];
+    let lists = "Both([3, 1, 3], [2, 1])";
+    check::<_, Vecs<_>>(&rt, alloc, m, t, &items, lists)?;
+    check::<_, VecDeques<_>>(&rt, alloc, m, t, &items, lists)?;
+    check::<_, HashSets<_>>(&rt, alloc, m, t, &alike, "Both({3}, {2})")?;
+    check::<_, IndexSets<_>>(&rt, alloc, m, t, &items, "Both({3, 1}, {2, 1})")?;
+    check::<_, BTreeSets<_>>(&rt, alloc, m, t, &items, "Both({1, 3}, {1, 2})")
+}
+
+/// Lists and sets, from values of `Either`.
+#[test]
+fn of_values_of_either(rt: HostRuntime) -> Result<(), Fail> {
+    let alloc = rt.alloc();
+    let m = &Refusing::new(alloc);
+    let t = &Tokens::new(alloc)?;
+    let items = [
+        Either::Right(t.three()?),
+        Either::Left(t.two()?),
+        Either::Right(t.one()?),
+    ];
+    let alike = [Either::Right(t.three()?), Either::Right(t.three()?)];
+    check::<_, Vecs<_>>(&rt, alloc, m, t, &items, "Both([2], [3, 1])")?;
+    check::<_, VecDeques<_>>(&rt, alloc, m, t, &items, "Both([2], [3, 1])")?;
+    check::<_, HashSets<_>>(&rt, alloc, m, t, &alike, "Right({3})")?;
+    check::<_, IndexSets<_>>(&rt, alloc, m, t, &items, "Both({2}, {3, 1})")?;
+    check::<_, BTreeSets<_>>(&rt, alloc, m, t, &items, "Both({2}, {1, 3})")
+}
+
+/// Maps, from values of `EitherOrBoth`.
+#[test]
+fn of_entries(rt: HostRuntime) -> Result<(), Fail> {
+    let alloc = rt.alloc();
+    let m = &Refusing::new(alloc);
+    let t = &Tokens::new(alloc)?;
+    let items: [EitherOrBoth<Entry>; 3] = [
+        Left((t.three()?, t.one()?)),
+        Both((t.one()?, t.one()?), (t.two()?, t.two()?)),
+        Left((t.three()?, t.two()?)),
+    ];
+    let alike: [EitherOrBoth<Entry>; 2] = [
+        Left((t.three()?, t.one()?)),
+        Both((t.three()?, t.two()?), (t.two()?, t.two()?)),
+    ];
+    check::<_, HashMaps<_>>(&rt, alloc, m, t, &alike, "Both({3: 2}, {2: 2})")?;
+    check::<_, IndexMaps<_>>(&rt, alloc, m, t, &items, "Both({3: 2, 1: 1}, {2: 2})")?;
+    check::<_, BTreeMaps<_>>(&rt, alloc, m, t, &items, "Both({1: 1, 3: 2}, {2: 2})")
+}
+
+/// Maps, from values of `Either`.
+#[test]
+fn of_entries_of_either(rt: HostRuntime) -> Result<(), Fail> {
+    let alloc = rt.alloc();
+    let m = &Refusing::new(alloc);
+    let t = &Tokens::new(alloc)?;
+    let items: [Either<Entry>; 3] = [
+        Either::Left((t.three()?, t.one()?)),
+        Either::Left((t.one()?, t.two()?)),
+        Either::Left((t.three()?, t.three()?)),
+    ];
+    let alike: [Either<Entry>; 2] = [
+        Either::Left((t.three()?, t.one()?)),
+        Either::Right((t.three()?, t.two()?)),
+    ];
+    check::<_, HashMaps<_>>(&rt, alloc, m, t, &alike, "Both({3: 1}, {3: 2})")?;
+    check::<_, IndexMaps<_>>(&rt, alloc, m, t, &items, "Left({3: 3, 1: 2})")?;
+    check::<_, BTreeMaps<_>>(&rt, alloc, m, t, &items, "Left({1: 2, 3: 3})")
+}
+
+/// Where the first request is refused the source was asked for one value alone.
+#[test]
+fn source_is_asked_once(rt: HostRuntime) -> Result<(), Fail> {
+    let memory = &Refusing::new(rt.alloc());
+    let watch = Watch::new(memory);
+    let items: [EitherOrBoth<u8>; 3] = [Left(1), Left(2), Left(3)];
+    memory.refuse(1);
+    let refused: Result<EitherOrBoth<Vec<u8, Memory>>, AllocError> = Source::new(
+        &items, &watch,
+    ).collect(memory);
+    assert!(rt; refused.is_err());
+    assert_eq!(rt; watch.calls(), 1);
+    Ok(())
+}

@@ -1,0 +1,118 @@
+//! Tests: a walk that is given up after any number of calls from either end drops each value that it still has, once.
+
+use either_or_both::Either;
+use either_or_both::EitherOrBoth::{Both, Left, Right};
+use eob_testkit::memory::Tokens;
+use std::alloc::{AllocError, Global};
+use std::rc::Rc;
+use std::test::Fail;
+
+// How many calls are made at most, and in how many orders.
+const CALLS: [(usize, usize); 6] = [(0, 1), (1, 2), (2, 4), (3, 8), (4, 16), (5, 32)];
+
+// So many values that are counted.
+fn values(alloc: Global, tokens: &Tokens, length: usize) -> Result<Vec<Rc<u8>>, AllocError> {
+    let mut made = Vec::new(alloc);
+    for _ in 0..length {
+        made.push(tokens.one()?)?;
+    }
+    Ok(made)
+}
+
+// Calls the ends of a walk in an order that a number stands for, a bit for each call, and gives it up.
+macro_rules! give_up {
+    ($walk:expr, $calls:expr, $order:expr) => {{
+        let mut walk = $walk;
+        let mut order: usize = $order;
+        for _ in 0..$calls {
+            let _item = if order % 2 == 0 {
+                walk.next()
+            } else {
+                walk.next_back()
+            };
+            order /= 2;
+        }
+    }};
+}
+
+// Two sides walked at once, and given up after these calls; and in turn.
+fn give_up_pairs(
+    alloc: Global,
+    tokens: &Tokens,
+    lengths: (usize, usize),
+    calls: (usize, usize),
+) -> Result<(), Fail> {
+    let pair = Both(
+        values(alloc, tokens, lengths.0)?,
+        values(alloc, tokens, lengths.1)?,
+    );
+    give_up!(pair.into_iter_swap(), calls.0, calls.1);
+    Ok(())
+}
+
+fn give_up_chain(
+    alloc: Global,
+    tokens: &Tokens,
+    lengths: (usize, usize),
+    calls: (usize, usize),
+) -> Result<(), Fail> {
+    let pair = Both(
+        values(alloc, tokens, lengths.0)?,
+        values(alloc, tokens, lengths.1)?,
+    );
+    give_up!(pair.into_iter_chain(), calls.0, calls.1);
+    Ok(())
+}
+
+// The held side of an `Either`, alone and in its variant.
+fn give_up_inner(
+    alloc: Global,
+    tokens: &Tokens,
+    length: usize,
+    calls: (usize, usize),
+) -> Result<(), Fail> {
+    let held: Either<Vec<Rc<u8>>> = Either::Right(values(alloc, tokens, length)?);
+    give_up!(held.into_iter_inner(), calls.0, calls.1);
+    Ok(())
+}
+
+fn give_up_held(
+    alloc: Global,
+    tokens: &Tokens,
+    length: usize,
+    calls: (usize, usize),
+) -> Result<(), Fail> {
+    let held: Either<Vec<Rc<u8>>> = Either::Left(values(alloc, tokens, length)?);
+    give_up!(held.into_iter_swap(), calls.0, calls.1);
+    Ok(())
+}
+
+#[test]
+fn walks_that_are_given_up(rt: HostRuntime) -> Result<(), Fail> {
+    let alloc = rt.alloc();
+    let tokens = Tokens::new(alloc)?;
+    let alive = tokens.alive();
+    for (count, orders) in CALLS {
+        for order in 0..orders {
+            for l in 0..4usize {
+                give_up_inner(alloc, &tokens, l, (count, order))?;
+                give_up_held(alloc, &tokens, l, (count, order))?;
+                for r in 0..4usize {
+                    give_up_pairs(alloc, &tokens, (l, r), (count, order))?;
+                    give_up_chain(alloc, &tokens, (l, r), (count, order))?;
+                    assert_eq!(rt; tokens.alive(), alive, "{l} {r}: {count} {order}");
+                }
+            }
+            give_up!(Left(tokens.one()?).into_iter(), count, order);
+            give_up!(Both(tokens.one()?, tokens.two()?).into_iter(), count, order);
+            give_up!(Right(tokens.two()?).into_iter(), count, order);
+            give_up!(
+                Either::<Rc<u8>>::Left(tokens.one()?).into_iter(),
+                count,
+                order
+            );
+            assert_eq!(rt; tokens.alive(), alive, "values: {count} {order}");
+        }
+    }
+    Ok(())
+}

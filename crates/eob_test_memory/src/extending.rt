@@ -1,0 +1,65 @@
+//! Containers in an `Either` that grow.
+
+use either_or_both::Either;
+use eob_testkit::memory::{RUNS, Refusing, Source, Tokens, Watch};
+use std::alloc::Global;
+use std::process::Abort;
+use std::rc::Rc;
+use std::test::Fail;
+
+// Extends a vector on one side with each request and all after it refused in turn. The side is kept and holds what it held, and a
+// beginning of the items.
+fn check(
+    rt: &impl Abort,
+    memory: &Refusing<Global>,
+    tokens: &Tokens,
+    items: &[Rc<u8>],
+    is_left: bool,
+) -> Result<(), Fail> {
+    let alive = tokens.alive();
+    for number in 1..RUNS {
+        memory.refuse(0);
+        let watch = Watch::new(memory);
+        let mut held = Vec::new(memory);
+        held.push(tokens.one()?)?;
+        let mut pair: Either<_> = if is_left {
+            Either::Left(held)
+        } else {
+            Either::Right(held)
+        };
+        memory.refuse_from(number);
+        let judged = memory.judge(pair.extend(Source::new(items, &watch)))?;
+        assert!(rt; !watch.is_late(), "request {number} refused");
+        assert_eq!(rt; pair.is_left(), is_left, "request {number} refused");
+        let list = pair.reduce();
+        let (first, rest) = list.split_first().ok_or("it lost what it held")?;
+        assert_eq!(rt; **first, 1);
+        assert!(rt; items.starts_with(rest), "request {number} refused");
+        let is_whole = rest.len() == items.len();
+        drop(list);
+        assert_eq!(rt; tokens.alive(), alive, "request {number} refused");
+        assert_eq!(rt; judged.is_some(), is_whole, "request {number} refused");
+        if is_whole {
+            assert!(rt; 1 < number);
+            return Ok(());
+        }
+    }
+    Err("each run was refused")?;
+    Ok(())
+}
+
+/// A vector grows on each side. All requests after the refused one are refused too, since std's own `extend` asks a second time, for
+/// less, where its first request is refused.
+#[test]
+fn of_vectors(rt: HostRuntime) -> Result<(), Fail> {
+    let alloc = rt.alloc();
+    let memory = Refusing::new(alloc);
+    let tokens = Tokens::new(alloc)?;
+    let mut items = Vec::new(alloc);
+    for _ in 0..5 {
+        items.push(tokens.two()?)?;
+        items.push(tokens.three()?)?;
+    }
+    check(&rt, &memory, &tokens, items.as_slice(), true)?;
+    check(&rt, &memory, &tokens, items.as_slice(), false)
+}

@@ -1,0 +1,349 @@
+//! Tests: a value put beside the one that is there, and values replaced.
+
+use crate::counted::{Counted, Tally};
+use either_or_both::EitherOrBoth::{Both, Left, Right};
+use either_or_both::{Either, EitherOrBoth};
+use eob_testkit::rows::Calls;
+use std::test::Fail;
+
+/// A value, what the reference that a call gives points to, what is held then, what is held once 8 or 'd' is written through it,
+/// and the calls of the closure.
+type Row<T> = (
+    EitherOrBoth<u8, char>,
+    T,
+    EitherOrBoth<u8, char>,
+    EitherOrBoth<u8, char>,
+    &'static str,
+);
+
+/// The calls that answer a reference to the left place, with 7 or 9 where they take a value.
+static INSERTED_LEFT: [(&str, &[Row<u8>]); 4] = [
+    (
+        "insert_left",
+        &[
+            (Left(1), 7, Left(7), Left(8), ""),
+            (Both(1, 'c'), 7, Both(7, 'c'), Both(8, 'c'), ""),
+            (Right('c'), 7, Both(7, 'c'), Both(8, 'c'), ""),
+        ],
+    ),
+    (
+        "left_or_insert",
+        &[
+            (Left(1), 1, Left(1), Left(8), ""),
+            (Both(1, 'c'), 1, Both(1, 'c'), Both(8, 'c'), ""),
+            (Right('c'), 9, Both(9, 'c'), Both(8, 'c'), ""),
+        ],
+    ),
+    (
+        "left_or_insert_default",
+        &[
+            (Left(1), 1, Left(1), Left(8), ""),
+            (Both(1, 'c'), 1, Both(1, 'c'), Both(8, 'c'), ""),
+            (Right('c'), 0, Both(0, 'c'), Both(8, 'c'), ""),
+        ],
+    ),
+    (
+        "left_or_insert_with",
+        &[
+            (Left(1), 1, Left(1), Left(8), ""),
+            (Both(1, 'c'), 1, Both(1, 'c'), Both(8, 'c'), ""),
+            (Right('c'), 9, Both(9, 'c'), Both(8, 'c'), "f()"),
+        ],
+    ),
+];
+
+/// The calls that answer a reference to the right place, with 'm' where they take a value.
+static INSERTED_RIGHT: [(&str, &[Row<char>]); 4] = [
+    (
+        "insert_right",
+        &[
+            (Left(1), 'm', Both(1, 'm'), Both(1, 'd'), ""),
+            (Both(1, 'c'), 'm', Both(1, 'm'), Both(1, 'd'), ""),
+            (Right('c'), 'm', Right('m'), Right('d'), ""),
+        ],
+    ),
+    (
+        "right_or_insert",
+        &[
+            (Left(1), 'm', Both(1, 'm'), Both(1, 'd'), ""),
+            (Both(1, 'c'), 'c', Both(1, 'c'), Both(1, 'd'), ""),
+            (Right('c'), 'c', Right('c'), Right('d'), ""),
+        ],
+    ),
+    (
+        "right_or_insert_default",
+        &[
+            (Left(1), '\0', Both(1, '\0'), Both(1, 'd'), ""),
+            (Both(1, 'c'), 'c', Both(1, 'c'), Both(1, 'd'), ""),
+            (Right('c'), 'c', Right('c'), Right('d'), ""),
+        ],
+    ),
+    (
+        "right_or_insert_with",
+        &[
+            (Left(1), 'm', Both(1, 'm'), Both(1, 'd'), "f()"),
+            (Both(1, 'c'), 'c', Both(1, 'c'), Both(1, 'd'), ""),
+            (Right('c'), 'c', Right('c'), Right('d'), ""),
+        ],
+    ),
+];
+
+fn inserted_left<'a>(
+    call: &str,
+    value: &'a mut EitherOrBoth<u8, char>,
+    calls: &Calls,
+) -> &'a mut u8 {
+    match call {
+        "insert_left" => value.insert_left(7),
+        "left_or_insert" => value.left_or_insert(9),
+        "left_or_insert_default" => value.left_or_insert_default(),
+        _ => value.left_or_insert_with(|| {
+            calls.note("f", &format_args!(""));
+            9
+        }),
+    }
+}
+
+fn inserted_right<'a>(
+    call: &str,
+    value: &'a mut EitherOrBoth<u8, char>,
+    calls: &Calls,
+) -> &'a mut char {
+    match call {
+        "insert_right" => value.insert_right('m'),
+        "right_or_insert" => value.right_or_insert('m'),
+        "right_or_insert_default" => value.right_or_insert_default(),
+        _ => value.right_or_insert_with(|| {
+            calls.note("f", &format_args!(""));
+            'm'
+        }),
+    }
+}
+
+/// An insertion answers a reference to its place, and what is written through it is held. The other place stays, and a closure
+/// is called only where the place is absent.
+#[test]
+fn insertions_at_the_left(rt: HostRuntime) {
+    let calls = Calls::new(rt.alloc());
+    for (call, rows) in INSERTED_LEFT.iter().copied() {
+        for (value, want, after, written, want_calls) in rows.iter().copied() {
+            let mut changed = value;
+            let place = inserted_left(call, &mut changed, &calls);
+            assert_eq!(rt; *place, want, "{call} of {value:?}");
+            assert_eq!(rt; changed, after, "{call} of {value:?}");
+            assert_eq!(rt; calls.take().as_str(), want_calls, "{call} of {value:?}");
+            let mut changed = value;
+            *inserted_left(call, &mut changed, &calls) = 8;
+            assert_eq!(rt; changed, written, "{call} of {value:?}");
+            assert_eq!(rt; calls.take().as_str(), want_calls, "{call} of {value:?}");
+        }
+    }
+}
+
+/// The same of the right place.
+#[test]
+fn insertions_at_the_right(rt: HostRuntime) {
+    let calls = Calls::new(rt.alloc());
+    for (call, rows) in INSERTED_RIGHT.iter().copied() {
+        for (value, want, after, written, want_calls) in rows.iter().copied() {
+            let mut changed = value;
+            let place = inserted_right(call, &mut changed, &calls);
+            assert_eq!(rt; *place, want, "{call} of {value:?}");
+            assert_eq!(rt; changed, after, "{call} of {value:?}");
+            assert_eq!(rt; calls.take().as_str(), want_calls, "{call} of {value:?}");
+            let mut changed = value;
+            *inserted_right(call, &mut changed, &calls) = 'd';
+            assert_eq!(rt; changed, written, "{call} of {value:?}");
+            assert_eq!(rt; calls.take().as_str(), want_calls, "{call} of {value:?}");
+        }
+    }
+}
+
+/// A value, what replacing both places by 5 and 'm' answers, and what is held then.
+static REPLACED_ANY: [(
+    EitherOrBoth<u8, char>,
+    EitherOrBoth<u8, char>,
+    EitherOrBoth<u8, char>,
+); 3] = [
+    (Left(1), Left(1), Left(5)),
+    (Both(1, 'c'), Both(1, 'c'), Both(5, 'm')),
+    (Right('c'), Right('c'), Right('m')),
+];
+
+/// The same with one type, and 5 and 6.
+static REPLACED_NUMBERS: [(EitherOrBoth<u8>, EitherOrBoth<u8>, EitherOrBoth<u8>); 3] = [
+    (Left(1), Left(1), Left(5)),
+    (Both(1, 2), Both(1, 2), Both(5, 6)),
+    (Right(2), Right(2), Right(6)),
+];
+
+/// A value, what replacing its left place by 5 answers, and what is held then.
+static REPLACED_LEFT: [(EitherOrBoth<u8, char>, Option<u8>, EitherOrBoth<u8, char>); 3] = [
+    (Left(1), Some(1), Left(5)),
+    (Both(1, 'c'), Some(1), Both(5, 'c')),
+    (Right('c'), None, Right('c')),
+];
+
+/// A value, what replacing its right place by 'm' answers, and what is held then.
+static REPLACED_RIGHT: [(EitherOrBoth<u8, char>, Option<char>, EitherOrBoth<u8, char>); 3] = [
+    (Left(1), None, Left(1)),
+    (Both(1, 'c'), Some('c'), Both(1, 'm')),
+    (Right('c'), Some('c'), Right('m')),
+];
+
+static EITHER_REPLACED_LEFT: [(Either<u8, char>, Option<u8>, Either<u8, char>); 2] = [
+    (Either::Left(1), Some(1), Either::Left(5)),
+    (Either::Right('c'), None, Either::Right('c')),
+];
+
+static EITHER_REPLACED_RIGHT: [(Either<u8, char>, Option<char>, Either<u8, char>); 2] = [
+    (Either::Left(1), None, Either::Left(1)),
+    (Either::Right('c'), Some('c'), Either::Right('m')),
+];
+
+/// A replacement answers what was there and changes a place that is present. An absent place stays absent.
+#[test]
+fn replacements(rt: HostRuntime) {
+    for (value, want, after) in REPLACED_ANY.iter().copied() {
+        let mut changed = value;
+        assert_eq!(rt; changed.replace_any(5, 'm'), want, "{value:?}");
+        assert_eq!(rt; changed, after, "{value:?}");
+    }
+    for (value, want, after) in REPLACED_NUMBERS.iter().copied() {
+        let mut changed = value;
+        assert_eq!(rt; changed.replace_any(5, 6), want, "{value:?}");
+        assert_eq!(rt; changed, after, "{value:?}");
+    }
+    for (value, want, after) in REPLACED_LEFT.iter().copied() {
+        let mut changed = value;
+        assert_eq!(rt; changed.replace_left(5), want, "{value:?}");
+        assert_eq!(rt; changed, after, "{value:?}");
+    }
+    for (value, want, after) in REPLACED_RIGHT.iter().copied() {
+        let mut changed = value;
+        assert_eq!(rt; changed.replace_right('m'), want, "{value:?}");
+        assert_eq!(rt; changed, after, "{value:?}");
+    }
+    for (value, want, after) in EITHER_REPLACED_LEFT.iter().copied() {
+        let mut changed = value;
+        assert_eq!(rt; changed.replace_left(5), want, "{value:?}");
+        assert_eq!(rt; changed, after, "{value:?}");
+    }
+    for (value, want, after) in EITHER_REPLACED_RIGHT.iter().copied() {
+        let mut changed = value;
+        assert_eq!(rt; changed.replace_right('m'), want, "{value:?}");
+        assert_eq!(rt; changed, after, "{value:?}");
+    }
+}
+
+/// A value that is put beside one with memory of its own leaves that one whole.
+#[test]
+fn insertions_beside_owned_memory(rt: HostRuntime) -> Result<(), Fail> {
+    let alloc = rt.alloc();
+    let mut value: EitherOrBoth<String, Vec<u8>> = Right(vec![in alloc; 1, 2]?);
+    value
+        .insert_left(String::from_str(alloc, "seven")?)
+        .push('!')?;
+    assert_eq!(rt;
+        value,
+        Both(String::from_str(alloc, "seven!")?, vec![in alloc; 1, 2]?)
+    );
+    let mut value: EitherOrBoth<String, Vec<u8>> = Left(String::from_str(alloc, "seven")?);
+    value.insert_right(vec![in alloc; 1, 2]?).push(3)?;
+    assert_eq!(rt;
+        value,
+        Both(String::from_str(alloc, "seven")?, vec![in alloc; 1, 2, 3]?)
+    );
+    value.insert_left(String::from_str(alloc, "eight")?);
+    assert_eq!(rt;
+        value,
+        Both(String::from_str(alloc, "eight")?, vec![in alloc; 1, 2, 3]?)
+    );
+    Ok(())
+}
+
+/// A call, a value, and how many of its held values and of the arguments are dropped when the call and its answer are over.
+static DROPPED: [(&str, EitherOrBoth<(), ()>, u32, u32); 21] = [
+    ("insert_left", Left(()), 1, 0),
+    ("insert_left", Both((), ()), 1, 0),
+    ("insert_left", Right(()), 0, 0),
+    ("insert_right", Left(()), 0, 0),
+    ("insert_right", Both((), ()), 1, 0),
+    ("insert_right", Right(()), 1, 0),
+    ("left_or_insert", Left(()), 0, 1),
+    ("left_or_insert", Both((), ()), 0, 1),
+    ("left_or_insert", Right(()), 0, 0),
+    ("right_or_insert", Left(()), 0, 0),
+    ("right_or_insert", Both((), ()), 0, 1),
+    ("right_or_insert", Right(()), 0, 1),
+    ("replace_left", Left(()), 1, 0),
+    ("replace_left", Both((), ()), 1, 0),
+    ("replace_left", Right(()), 0, 1),
+    ("replace_right", Left(()), 0, 1),
+    ("replace_right", Both((), ()), 1, 0),
+    ("replace_right", Right(()), 1, 0),
+    ("replace_any", Left(()), 1, 1),
+    ("replace_any", Both((), ()), 2, 0),
+    ("replace_any", Right(()), 1, 1),
+];
+
+/// What a call gives up is dropped once: an old value that an argument takes the place of, or an argument that finds no place.
+/// All the rest is dropped once with the value.
+#[test]
+fn dropped_values_of_either_or_both(rt: HostRuntime) {
+    for (call, variant, want_held, want_given) in DROPPED.iter().copied() {
+        let held = Tally::new();
+        let given = Tally::new();
+        let mut value = variant.bimap(
+            |()| Counted::new(&held, false),
+            |()| Counted::new(&held, false),
+        );
+        let argument = Counted::new(&given, false);
+        match call {
+            "insert_left" => drop(value.insert_left(argument)),
+            "insert_right" => drop(value.insert_right(argument)),
+            "left_or_insert" => drop(value.left_or_insert(argument)),
+            "right_or_insert" => drop(value.right_or_insert(argument)),
+            "replace_left" => drop(value.replace_left(argument)),
+            "replace_right" => drop(value.replace_right(argument)),
+            _ => drop(value.replace_any(argument, Counted::new(&given, false))),
+        }
+        assert_eq!(rt; held.dropped(), want_held, "{call} of {variant:?}");
+        assert_eq!(rt; given.dropped(), want_given, "{call} of {variant:?}");
+        drop(value);
+        let held_in_all = if variant.is_both() { 2 } else { 1 };
+        let given_in_all = if call == "replace_any" { 2 } else { 1 };
+        assert_eq!(rt; held.dropped(), held_in_all, "{call} of {variant:?}");
+        assert_eq!(rt; given.dropped(), given_in_all, "{call} of {variant:?}");
+    }
+}
+
+static DROPPED_BY_EITHER: [(&str, Either<(), ()>, u32, u32); 4] = [
+    ("replace_left", Either::Left(()), 1, 0),
+    ("replace_left", Either::Right(()), 0, 1),
+    ("replace_right", Either::Left(()), 0, 1),
+    ("replace_right", Either::Right(()), 1, 0),
+];
+
+/// What a replacement in an `Either` gives up is dropped once, and the rest with the value.
+#[test]
+fn dropped_values_of_either(rt: HostRuntime) {
+    for (call, variant, want_held, want_given) in DROPPED_BY_EITHER.iter().copied() {
+        let held = Tally::new();
+        let given = Tally::new();
+        let mut value = variant.bimap(
+            |()| Counted::new(&held, false),
+            |()| Counted::new(&held, false),
+        );
+        let argument = Counted::new(&given, false);
+        match call {
+            "replace_left" => drop(value.replace_left(argument)),
+            _ => drop(value.replace_right(argument)),
+        }
+        assert_eq!(rt; held.dropped(), want_held, "{call} of {variant:?}");
+        assert_eq!(rt; given.dropped(), want_given, "{call} of {variant:?}");
+        drop(value);
+        assert_eq!(rt; held.dropped(), 1, "{call} of {variant:?}");
+        assert_eq!(rt; given.dropped(), 1, "{call} of {variant:?}");
+    }
+}

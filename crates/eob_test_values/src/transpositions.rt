@@ -1,0 +1,236 @@
+//! Tests: transpositions of tuples, options and results that the places of a value hold.
+
+use either_or_both::EitherOrBoth::{Both, Left, Right};
+use either_or_both::{Either, EitherOrBoth};
+use eob_testkit::rows::Calls;
+
+// The sum of two numbers, after a note of the call.
+fn sum(calls: &Calls, left: u8, right: u8) -> u8 {
+    calls.note("f", &format_args!("{left}, {right}"));
+    left.wrapping_add(right)
+}
+
+type Pairs = EitherOrBoth<(u8, char), (char, &'static str)>;
+
+/// A value, the first parts of its tuples, and their second parts.
+static TUPLES: [(Pairs, EitherOrBoth<u8, char>, EitherOrBoth<char, &str>); 3] = [
+    (Left((1, 'a')), Left(1), Left('a')),
+    (Both((1, 'a'), ('c', "b")), Both(1, 'c'), Both('a', "b")),
+    (Right(('c', "b")), Right('c'), Right("b")),
+];
+
+type NumbersFirst = EitherOrBoth<(u8, char)>;
+
+static LIKE_TUPLES: [(NumbersFirst, EitherOrBoth<u8>, EitherOrBoth<char>); 3] = [
+    (Left((1, 'a')), Left(1), Left('a')),
+    (Both((1, 'a'), (2, 'b')), Both(1, 2), Both('a', 'b')),
+    (Right((2, 'b')), Right(2), Right('b')),
+];
+
+/// A value, its first parts or their sum, its second parts, and the calls of the closure.
+static FIRSTS: [(NumbersFirst, u8, EitherOrBoth<char>, &str); 3] = [
+    (Left((1, 'a')), 1, Left('a'), ""),
+    (Both((1, 'a'), (2, 'b')), 3, Both('a', 'b'), "f(1, 2)"),
+    (Right((2, 'b')), 2, Right('b'), ""),
+];
+
+type NumbersSecond = EitherOrBoth<(char, u8)>;
+
+/// A value, its first parts, its second parts or their sum, and the calls of the closure.
+static SECONDS: [(NumbersSecond, EitherOrBoth<char>, u8, &str); 3] = [
+    (Left(('a', 1)), Left('a'), 1, ""),
+    (Both(('a', 1), ('b', 2)), Both('a', 'b'), 3, "f(1, 2)"),
+    (Right(('b', 2)), Right('b'), 2, ""),
+];
+
+/// Of tuples, the first parts and the second parts keep the places of their tuples. The form for one side makes one value of
+/// the parts of that side, by its closure where there are two.
+#[test]
+fn tuples_of_either_or_both(rt: HostRuntime) {
+    let calls = Calls::new(rt.alloc());
+    for (value, firsts, seconds) in TUPLES.iter().copied() {
+        assert_eq!(rt; value.transpose(), (firsts, seconds), "{value:?}");
+    }
+    for (value, firsts, seconds) in LIKE_TUPLES.iter().copied() {
+        assert_eq!(rt; value.transpose(), (firsts, seconds), "{value:?}");
+    }
+    for (value, first, seconds, want_calls) in FIRSTS.iter().copied() {
+        let answer = value.transpose_left(|a, b| sum(&calls, a, b));
+        assert_eq!(rt; answer, (first, seconds), "{value:?}");
+        assert_eq!(rt; calls.take().as_str(), want_calls, "{value:?}");
+    }
+    for (value, firsts, second, want_calls) in SECONDS.iter().copied() {
+        let answer = value.transpose_right(|a, b| sum(&calls, a, b));
+        assert_eq!(rt; answer, (firsts, second), "{value:?}");
+        assert_eq!(rt; calls.take().as_str(), want_calls, "{value:?}");
+    }
+}
+
+type Options = EitherOrBoth<Option<u8>, Option<char>>;
+
+static OPTIONS: [(Options, Option<EitherOrBoth<u8, char>>); 8] = [
+    (Left(Some(1)), Some(Left(1))),
+    (Left(None), None),
+    (Both(Some(1), Some('c')), Some(Both(1, 'c'))),
+    (Both(Some(1), None), None),
+    (Both(None, Some('c')), None),
+    (Both(None, None), None),
+    (Right(Some('c')), Some(Right('c'))),
+    (Right(None), None),
+];
+
+type Results = EitherOrBoth<Result<u8, &'static str>, Result<char, char>>;
+
+static RESULTS: [(
+    Results,
+    Result<EitherOrBoth<u8, char>, EitherOrBoth<&str, char>>,
+); 8] = [
+    (Left(Ok(1)), Ok(Left(1))),
+    (Left(Err("e")), Err(Left("e"))),
+    (Both(Ok(1), Ok('c')), Ok(Both(1, 'c'))),
+    (Both(Ok(1), Err('h')), Err(Right('h'))),
+    (Both(Err("e"), Ok('c')), Err(Left("e"))),
+    (Both(Err("e"), Err('h')), Err(Both("e", 'h'))),
+    (Right(Ok('c')), Ok(Right('c'))),
+    (Right(Err('h')), Err(Right('h'))),
+];
+
+type Contents = EitherOrBoth<char>;
+
+/// A value whose errors are numbers, its contents or the error or the sum of the two, and the calls of the closure.
+static ERRORS: [(EitherOrBoth<Result<char, u8>>, Result<Contents, u8>, &str); 8] = [
+    (Left(Ok('p')), Ok(Left('p')), ""),
+    (Left(Err(1)), Err(1), ""),
+    (Both(Ok('p'), Ok('q')), Ok(Both('p', 'q')), ""),
+    (Both(Ok('p'), Err(2)), Err(2), ""),
+    (Both(Err(1), Ok('q')), Err(1), ""),
+    (Both(Err(1), Err(2)), Err(3), "f(1, 2)"),
+    (Right(Ok('q')), Ok(Right('q')), ""),
+    (Right(Err(2)), Err(2), ""),
+];
+
+type Numbers = EitherOrBoth<Result<u8, char>, Result<u8, &'static str>>;
+
+type Errors = EitherOrBoth<char, &'static str>;
+
+/// A value whose contents are numbers, the content or the sum of the two or its errors, and the calls of the closure.
+static CONTENTS: [(Numbers, Result<u8, Errors>, &str); 8] = [
+    (Left(Ok(1)), Ok(1), ""),
+    (Left(Err('h')), Err(Left('h')), ""),
+    (Both(Ok(1), Ok(2)), Ok(3), "f(1, 2)"),
+    (Both(Ok(1), Err("e")), Err(Right("e")), ""),
+    (Both(Err('h'), Ok(2)), Err(Left('h')), ""),
+    (Both(Err('h'), Err("e")), Err(Both('h', "e")), ""),
+    (Right(Ok(2)), Ok(2), ""),
+    (Right(Err("e")), Err(Right("e")), ""),
+];
+
+/// Of options, None where a place holds None. Of results, the errors in the places that err. The forms for one side make one
+/// value of two errors or of two contents, by their closure.
+#[test]
+fn options_and_results_of_either_or_both(rt: HostRuntime) {
+    let calls = Calls::new(rt.alloc());
+    for (value, want) in OPTIONS.iter().copied() {
+        assert_eq!(rt; value.transpose(), want, "{value:?}");
+    }
+    for (value, want) in RESULTS.iter().copied() {
+        assert_eq!(rt; value.transpose(), want, "{value:?}");
+    }
+    for (value, want, want_calls) in ERRORS.iter().copied() {
+        let answer = value.transpose_err(|a, b| sum(&calls, a, b));
+        assert_eq!(rt; answer, want, "{value:?}");
+        assert_eq!(rt; calls.take().as_str(), want_calls, "{value:?}");
+    }
+    for (value, want, want_calls) in CONTENTS.iter().copied() {
+        let answer = value.transpose_ok(|a, b| sum(&calls, a, b));
+        assert_eq!(rt; answer, want, "{value:?}");
+        assert_eq!(rt; calls.take().as_str(), want_calls, "{value:?}");
+    }
+}
+
+type EitherPairs = Either<(u8, char), (char, &'static str)>;
+
+static EITHER_TUPLES: [(EitherPairs, Either<u8, char>, Either<char, &str>); 2] = [
+    (Either::Left((1, 'a')), Either::Left(1), Either::Left('a')),
+    (
+        Either::Right(('c', "b")),
+        Either::Right('c'),
+        Either::Right("b"),
+    ),
+];
+
+/// A value, its first part, and its second part in its place.
+static EITHER_FIRSTS: [(Either<(&str, u8), (&str, char)>, &str, Either<u8, char>); 2] = [
+    (Either::Left(("t", 1)), "t", Either::Left(1)),
+    (Either::Right(("u", 'c')), "u", Either::Right('c')),
+];
+
+/// A value, its first part in its place, and its second part.
+static EITHER_SECONDS: [(Either<(u8, &str), (char, &str)>, Either<u8, char>, &str); 2] = [
+    (Either::Left((1, "t")), Either::Left(1), "t"),
+    (Either::Right(('c', "u")), Either::Right('c'), "u"),
+];
+
+/// Of a tuple, both parts keep its place, but for the part of the side whose form is called.
+#[test]
+fn tuples_of_either(rt: HostRuntime) {
+    for (value, first, second) in EITHER_TUPLES.iter().copied() {
+        assert_eq!(rt; value.transpose(), (first, second), "{value:?}");
+    }
+    for (value, first, second) in EITHER_FIRSTS.iter().copied() {
+        assert_eq!(rt; value.transpose_left(), (first, second), "{value:?}");
+    }
+    for (value, first, second) in EITHER_SECONDS.iter().copied() {
+        assert_eq!(rt; value.transpose_right(), (first, second), "{value:?}");
+    }
+}
+
+static EITHER_OPTIONS: [(Either<Option<u8>, Option<char>>, Option<Either<u8, char>>); 4] = [
+    (Either::Left(Some(1)), Some(Either::Left(1))),
+    (Either::Left(None), None),
+    (Either::Right(Some('c')), Some(Either::Right('c'))),
+    (Either::Right(None), None),
+];
+
+type EitherResults = Either<Result<u8, &'static str>, Result<char, char>>;
+
+static EITHER_RESULTS: [(EitherResults, Result<Either<u8, char>, Either<&str, char>>); 4] = [
+    (Either::Left(Ok(1)), Ok(Either::Left(1))),
+    (Either::Left(Err("e")), Err(Either::Left("e"))),
+    (Either::Right(Ok('c')), Ok(Either::Right('c'))),
+    (Either::Right(Err('h')), Err(Either::Right('h'))),
+];
+
+static EITHER_ERRORS: [(Either<Result<char, u8>>, Result<Either<char>, u8>); 4] = [
+    (Either::Left(Ok('p')), Ok(Either::Left('p'))),
+    (Either::Left(Err(1)), Err(1)),
+    (Either::Right(Ok('q')), Ok(Either::Right('q'))),
+    (Either::Right(Err(2)), Err(2)),
+];
+
+type EitherNumbers = Either<Result<u8, char>, Result<u8, &'static str>>;
+
+static EITHER_CONTENTS: [(EitherNumbers, Result<u8, Either<char, &str>>); 4] = [
+    (Either::Left(Ok(1)), Ok(1)),
+    (Either::Left(Err('h')), Err(Either::Left('h'))),
+    (Either::Right(Ok(2)), Ok(2)),
+    (Either::Right(Err("e")), Err(Either::Right("e"))),
+];
+
+/// Of an option, None where it is None. Of a result, its content or its error in its place, but for the side whose form is
+/// called.
+#[test]
+fn options_and_results_of_either(rt: HostRuntime) {
+    for (value, want) in EITHER_OPTIONS.iter().copied() {
+        assert_eq!(rt; value.transpose(), want, "{value:?}");
+    }
+    for (value, want) in EITHER_RESULTS.iter().copied() {
+        assert_eq!(rt; value.transpose(), want, "{value:?}");
+    }
+    for (value, want) in EITHER_ERRORS.iter().copied() {
+        assert_eq!(rt; value.transpose_err(), want, "{value:?}");
+    }
+    for (value, want) in EITHER_CONTENTS.iter().copied() {
+        assert_eq!(rt; value.transpose_ok(), want, "{value:?}");
+    }
+}

@@ -1,0 +1,112 @@
+//! The values of the places where the caller knows that they are there, on each variant that a call allows.
+
+use either_or_both::EitherOrBoth::{Both, Left, Right};
+use either_or_both::{Either, EitherOrBoth};
+use eob_testkit::rows::{Calls, Row, check_rows};
+use std::alloc::AllocError;
+use std::test::Fail;
+
+static BOTH_AND_LEFT: [Row<EitherOrBoth<u8, char>>; 12] = [
+    ("expect_both", Both(1, 'c'), "(1, 'c')", ""),
+    ("unwrap_both", Both(1, 'c'), "(1, 'c')", ""),
+    ("unwrap_both_unchecked", Both(1, 'c'), "(1, 'c')", ""),
+    ("expect_left", Left(1), "1", ""),
+    ("expect_left", Both(1, 'c'), "1", ""),
+    ("unwrap_left", Left(1), "1", ""),
+    ("unwrap_left", Both(1, 'c'), "1", ""),
+    ("unwrap_left_unchecked", Left(1), "1", ""),
+    ("unwrap_left_unchecked", Both(1, 'c'), "1", ""),
+    ("expect_only_left", Left(1), "1", ""),
+    ("unwrap_only_left", Left(1), "1", ""),
+    ("unwrap_only_left_unchecked", Left(1), "1", ""),
+];
+
+fn ask_both_and_left(
+    call: &str,
+    value: EitherOrBoth<u8, char>,
+    calls: &Calls,
+) -> Result<String, AllocError> {
+    match call {
+        "expect_both" if value.is_both() => calls.show(value.expect_both("m")),
+        "unwrap_both" if value.is_both() => calls.show(value.unwrap_both()),
+        "unwrap_both_unchecked" if value.is_both() => calls.show(value.unwrap_both_unchecked()),
+        "expect_left" if value.has_left() => calls.show(value.expect_left("m")),
+        "unwrap_left" if value.has_left() => calls.show(value.unwrap_left()),
+        "unwrap_left_unchecked" if value.has_left() => calls.show(value.unwrap_left_unchecked()),
+        "expect_only_left" if value.is_left() => calls.show(value.expect_only_left("m")),
+        "unwrap_only_left" if value.is_left() => calls.show(value.unwrap_only_left()),
+        "unwrap_only_left_unchecked" if value.is_left() => calls.show(
+            value.unwrap_only_left_unchecked(),
+        ),
+        _ => calls.show("no such call"),
+    }
+}
+
+/// Both values, or the left one.
+#[test]
+fn both_and_left(rt: HostRuntime) -> Result<(), Fail> {
+    check_rows(rt.alloc(), &BOTH_AND_LEFT, ask_both_and_left)
+}
+
+static RIGHT: [Row<EitherOrBoth<u8, char>>; 9] = [
+    ("expect_right", Both(1, 'c'), "'c'", ""),
+    ("expect_right", Right('c'), "'c'", ""),
+    ("unwrap_right", Both(1, 'c'), "'c'", ""),
+    ("unwrap_right", Right('c'), "'c'", ""),
+    ("unwrap_right_unchecked", Both(1, 'c'), "'c'", ""),
+    ("unwrap_right_unchecked", Right('c'), "'c'", ""),
+    ("expect_only_right", Right('c'), "'c'", ""),
+    ("unwrap_only_right", Right('c'), "'c'", ""),
+    ("unwrap_only_right_unchecked", Right('c'), "'c'", ""),
+];
+
+fn ask_right(
+    call: &str,
+    value: EitherOrBoth<u8, char>,
+    calls: &Calls,
+) -> Result<String, AllocError> {
+    match call {
+        "expect_right" if value.has_right() => calls.show(value.expect_right("m")),
+        "unwrap_right" if value.has_right() => calls.show(value.unwrap_right()),
+        "unwrap_right_unchecked" if value.has_right() => calls.show(value.unwrap_right_unchecked()),
+        "expect_only_right" if value.is_right() => calls.show(value.expect_only_right("m")),
+        "unwrap_only_right" if value.is_right() => calls.show(value.unwrap_only_right()),
+        "unwrap_only_right_unchecked" if value.is_right() => calls.show(
+            value.unwrap_only_right_unchecked(),
+        ),
+        _ => calls.show("no such call"),
+    }
+}
+
+/// The right value.
+#[test]
+fn right(rt: HostRuntime) -> Result<(), Fail> {
+    check_rows(rt.alloc(), &RIGHT, ask_right)
+}
+
+static OF_EITHER: [Row<Either<u8, char>>; 6] = [
+    ("expect_left", Either::Left(1), "1", ""),
+    ("unwrap_left", Either::Left(1), "1", ""),
+    ("unwrap_left_unchecked", Either::Left(1), "1", ""),
+    ("expect_right", Either::Right('c'), "'c'", ""),
+    ("unwrap_right", Either::Right('c'), "'c'", ""),
+    ("unwrap_right_unchecked", Either::Right('c'), "'c'", ""),
+];
+
+fn ask_either(call: &str, value: Either<u8, char>, calls: &Calls) -> Result<String, AllocError> {
+    match call {
+        "expect_left" if value.is_left() => calls.show(value.expect_left("m")),
+        "unwrap_left" if value.is_left() => calls.show(value.unwrap_left()),
+        "unwrap_left_unchecked" if value.is_left() => calls.show(value.unwrap_left_unchecked()),
+        "expect_right" if value.is_right() => calls.show(value.expect_right("m")),
+        "unwrap_right" if value.is_right() => calls.show(value.unwrap_right()),
+        "unwrap_right_unchecked" if value.is_right() => calls.show(value.unwrap_right_unchecked()),
+        _ => calls.show("no such call"),
+    }
+}
+
+/// The unwraps of `Either`.
+#[test]
+fn of_either(rt: HostRuntime) -> Result<(), Fail> {
+    check_rows(rt.alloc(), &OF_EITHER, ask_either)
+}
