@@ -1,0 +1,137 @@
+-- How the loops of a join of maps come closer to it.
+use Rattle.std.proofs.Common.{◌≡◌, ◌∙◌, Bool, true, false, cond, List, [], ◌∷◌, ◌++◌, map, filter, Option, Some, None, append-nil, append_assoc, refl, sym, ap, subst}
+use Rattle.std.specs.Prelude.{not, is_some}
+use Rattle.std.specs.Option.{option_map, option_or}
+use Rattle.std.specs.Cmp.{IsEquivalence}
+use Rattle.std.specs.Map.{keys_of, lookup}
+use Rattle.std.specs.Set.{is_member}
+use Rattle.std.specs.List.{AllByRecursion, IsDistinct}
+use Rattle.std.proofs.lemmas.List.{map-append}
+use Rattle.std.proofs.lemmas.List.Elements.{filter-append}
+use Rattle.std.proofs.lemmas.Map.Keys.{IsDistinct-head, IsDistinct-tail}
+use Rattle.std.proofs.lemmas.Map.Made.{is_some-lookup, lookup-map_values}
+use Rattle.eob_both.specs.declared.either_or_both.EitherOrBoth.{EitherOrBoth}
+use Rattle.eob_both.specs.declared.either_or_both.EitherOrBoth.TheVariants.{Left, Both, Right}
+use Rattle.eob_both.specs.Places.{from_places, left_place, right_place}
+use Rattle.eob_joins.specs.MapJoin.{IsMapJoin}
+
+-- the entries of the left map, each with its value as left place
+abbrev pub lefts_of : {K A B : Type 0} → List (K × A) → List (K × EitherOrBoth A B)
+lefts_of ys = map (λ y. (y.0, Left y.1)) ys
+
+by_test : {G : Type 0} (t : Bool) → (t ≡ true → G) → (t ≡ false → G) → G
+by_test true f g = f refl
+by_test false f g = g refl
+
+or_none : {V : Type 0} (m : Option V) → option_or m None ≡ m
+or_none None = refl
+or_none (Some v) = refl
+
+-- a row that had no right place, once it has one
+one_more : {A B : Type 0} (m : Option A) (row new : EitherOrBoth A B) (b : B) → Some row ≡ from_places m None → left_place new ≡ left_place row → right_place new ≡ Some b → Some new ≡ from_places m (Some b)
+one_more None row new b e f g = absurd (cc)
+one_more (Some a) (Left x) (Both y z) b e f g = cc
+one_more (Some a) (Left x) (Left y) b e f g = absurd (cc)
+one_more (Some a) (Left x) (Right y) b e f g = absurd (cc)
+one_more (Some a) (Both x y) new b e f g = absurd (cc)
+one_more (Some a) (Right x) new b e f g = absurd (cc)
+
+-- where both places are absent
+neither : {A B : Type 0} (m : Option A) → None ≡ from_places {R = B} m None → m ≡ None
+neither None e = refl
+neither (Some a) e = absurd (cc)
+
+has_left : {A B : Type 0} (m : Option A) (row : EitherOrBoth A B) → Some row ≡ from_places m None → is_some m ≡ true
+has_left None row e = absurd (cc)
+has_left (Some a) row e = refl
+
+module _ {K : Type 0} {eq : K → K → Bool} (laws : IsEquivalence eq) where
+  lookup_alike : {V : Type 0} (j k : K) → eq j k ≡ true → (xs : List (K × V)) → lookup (eq j) xs ≡ lookup (eq k) xs
+  lookup_alike j k e [] = refl
+  lookup_alike j k e (x ∷ xs) = rw (laws.congr j k x.0 e, lookup_alike j k e xs) refl
+
+  lookup_push : {V : Type 0} (j : K) (xs : List (K × V)) (k : K) (v : V) → lookup (eq j) (xs ++ (k, v) ∷ []) ≡ option_or (lookup (eq j) xs) (cond (eq j k) (Some v) None)
+  lookup_push j [] k v = refl
+  lookup_push j (x ∷ xs) k v = by_test (eq j x.0) (λ t. rw t refl) (λ f. rw f (lookup_push j xs k v))
+
+  at_entry : {V : Type 0} (P : K → Type 0) (zs : List (K × V)) (k : K) (v : V) (rest : List (K × V)) → AllByRecursion P (keys_of (zs ++ (k, v) ∷ rest)) → P k
+  at_entry P [] k v rest h = h.0
+  at_entry P (z ∷ zs) k v rest h = at_entry P zs k v rest h.1
+
+  -- keys that stand before an entry in a map are not its own
+  pub lookup_before : {V : Type 0} (ys : List (K × V)) (k : K) (v : V) (rest : List (K × V)) → IsDistinct eq (keys_of (ys ++ (k, v) ∷ rest)) → lookup (eq k) ys ≡ None
+  lookup_before [] k v rest d = refl
+  lookup_before (y ∷ ys) k v rest d =
+      let apart : eq k y.0 ≡ false = laws.symm k y.0 ∙ at_entry (λ j. eq y.0 j ≡ false) ys k v rest (IsDistinct-head eq y.0 (keys_of (ys ++ (k, v) ∷ rest)) d) in
+      rw apart (lookup_before ys k v rest (IsDistinct-tail eq y.0 (keys_of (ys ++ (k, v) ∷ rest)) d))
+
+  keys_lefts : {A : Type 0} (B : Type 0) (ys : List (K × A)) → keys_of (lefts_of {B = B} ys) ≡ keys_of ys
+  keys_lefts B [] = refl
+  keys_lefts B (y ∷ ys) = ap (λ ks. y.0 ∷ ks) (keys_lefts B ys)
+
+  as_left : {A : Type 0} (B : Type 0) (m : Option A) → option_map {U = EitherOrBoth A B} (λ a. Left a) m ≡ from_places m None
+  as_left B None = refl
+  as_left B (Some a) = refl
+
+  -- once the left map was walked
+  pub join_lefts : {A : Type 0} (B : Type 0) (p : List (K × A)) → IsMapJoin eq {B = B} p [] (lefts_of p)
+  join_lefts B p = record { order = keys_lefts B p ∙ sym (append-nil (keys_of p)); values = λ k. lookup-map_values (λ a. Left a) (eq k) p ∙ as_left B (lookup (eq k) p) }
+
+  module _ {A B : Type 0} (p : List (K × A)) (ys : List (K × B)) (k : K) (b : B) (es fs : List (K × EitherOrBoth A B)) where
+    abbrev lacked : List K → List K
+    lacked ks = filter (λ j. not (is_member eq (keys_of p) j)) ks
+
+    more_keys : lacked (keys_of (ys ++ (k, b) ∷ [])) ≡ lacked (keys_of ys) ++ lacked (k ∷ [])
+    more_keys = rw map-append (filter-append (λ j. not (is_member eq (keys_of p) j)) (keys_of ys) (k ∷ []))
+
+    -- a right entry, where the left map has its key
+    pub join_present : (row new : EitherOrBoth A B) → IsMapJoin eq p ys es → lookup (eq k) ys ≡ None → lookup (eq k) es ≡ Some row → left_place new ≡ left_place row → right_place new ≡ Some b
+        → keys_of fs ≡ keys_of es → ((j : K) → lookup (eq j) fs ≡ cond (eq k j) (Some new) (lookup (eq j) es)) → IsMapJoin eq p (ys ++ (k, b) ∷ []) fs
+    join_present row new h none found l r keys there =
+        let was : Some row ≡ from_places (lookup (eq k) p) None = sym found ∙ h.values k ∙ ap (from_places (lookup (eq k) p)) none in
+        let member : is_member eq (keys_of p) k ≡ true = sym (is_some-lookup (eq k) p) ∙ has_left (lookup (eq k) p) row was in
+        record {
+          order = keys ∙ h.order ∙ ap (λ ks. keys_of p ++ ks) (sym (more_keys ∙ rw member (append-nil (lacked (keys_of ys)))));
+          values = λ j.
+              by_test (eq k j)
+              (λ t.
+              let same : lookup (eq j) p ≡ lookup (eq k) p = sym (lookup_alike k j t p) in
+              let back : eq j k ≡ true = laws.symm j k ∙ t in
+              let gone : lookup (eq j) ys ≡ None = sym (lookup_alike k j t ys) ∙ none in
+              there j ∙ rw (t, same, lookup_push j ys k b, gone, back) (one_more (lookup (eq k) p) row new b was l r))
+              (λ f.
+              let back : eq j k ≡ false = laws.symm j k ∙ f in
+              there j ∙ rw (f, lookup_push j ys k b, back, or_none (lookup (eq j) ys)) (h.values j));
+        }
+
+    -- a right entry, where the left map lacks its key
+    pub join_absent : IsMapJoin eq p ys es → lookup (eq k) ys ≡ None → lookup (eq k) es ≡ None → fs ≡ es ++ (k, Right b) ∷ [] → IsMapJoin eq p (ys ++ (k, b) ∷ []) fs
+    join_absent h none missed made =
+        let was : lookup (eq k) p ≡ None = neither (lookup (eq k) p) (sym missed ∙ h.values k ∙ ap (from_places (lookup (eq k) p)) none) in
+        let member : is_member eq (keys_of p) k ≡ false = sym (is_some-lookup (eq k) p) ∙ ap is_some was in
+        record {
+          order = ap keys_of made ∙ rw map-append (ap (λ ks. ks ++ k ∷ []) h.order ∙ append_assoc (keys_of p) (lacked (keys_of ys)) (k ∷ []) ∙ ap (λ ks. keys_of p ++ ks) (sym (more_keys ∙ rw member refl)));
+          values = λ j.
+              ap (lookup (eq j)) made ∙ lookup_push j es k (Right b) ∙
+              by_test (eq j k)
+              (λ t.
+              let gone : lookup (eq j) ys ≡ None = lookup_alike j k t ys ∙ none in
+              rw (lookup_push j ys k b, gone, t, lookup_alike j k t es, missed, lookup_alike j k t p, was) refl)
+              (λ f. rw (lookup_push j ys k b, f, or_none (lookup (eq j) es), or_none (lookup (eq j) ys)) (h.values j));
+        }
+
+  distinct_lefts : {A : Type 0} (B : Type 0) (p : List (K × A)) → IsDistinct eq (keys_of p) → IsDistinct eq (keys_of (lefts_of {B = B} p))
+  distinct_lefts B p d = subst (IsDistinct eq) (sym (keys_lefts B p)) d
+
+  -- the loop over the left map: its next key is in no row yet, and at its end the rows are its join with nothing
+  pub left_apart : {A B : Type 0} (p its rest : List (K × A)) (k : K) (a : A) (es : List (K × EitherOrBoth A B)) → IsDistinct eq (keys_of p) → es ++ lefts_of its ≡ lefts_of p → its ≡ (k, a) ∷ rest → lookup (eq k) es ≡ None
+  left_apart {A = A} {B = B} p its rest k a es d e f =
+      lookup_before es k (Left a) (lefts_of rest) (subst (λ l. IsDistinct eq (keys_of l)) (sym e ∙ ap (λ l. es ++ lefts_of l) f) (distinct_lefts B p d))
+
+  pub lefts_done : {A B : Type 0} (p its : List (K × A)) (es : List (K × EitherOrBoth A B)) → es ++ lefts_of its ≡ lefts_of p → its ≡ [] → IsMapJoin eq p [] es
+  lefts_done {A = A} {B = B} p its es e f = subst (IsMapJoin eq p []) (sym e ∙ ap (λ l. es ++ lefts_of l) f ∙ append-nil es) (join_lefts B p)
+
+  -- the loop over the right map: its next key is not among those that came
+  pub right_apart : {B : Type 0} (q ys its rest : List (K × B)) (k : K) (b : B) → IsDistinct eq (keys_of q) → ys ++ its ≡ q → its ≡ (k, b) ∷ rest → (lookup (eq k) ys ≡ None) × ((ys ++ (k, b) ∷ []) ++ rest ≡ q)
+  right_apart q ys its rest k b d e f =
+      (lookup_before ys k b rest (subst (λ l. IsDistinct eq (keys_of l)) (sym e ∙ ap (λ l. ys ++ l) f) d), append_assoc ys ((k, b) ∷ []) rest ∙ ap (λ l. ys ++ l) (sym f) ∙ e)
