@@ -11,17 +11,22 @@ use Rattle.eob_both.specs.declared.either_or_both.EitherOrBoth.{EitherOrBoth}
 use Rattle.eob_both.specs.declared.either_or_both.EitherOrBoth.TheVariants.{Left, Both, Right}
 use Rattle.either_or_both.specs.declared.join.walk.JoinedPairs.{JoinedPairs}
 use Rattle.either_or_both.specs.Join.{IsJoin}
+use Rattle.either_or_both.specs.JoinLaws.{IsCallRun}
 use Rattle.either_or_both.specs.OuterJoin.{StepsFrom, join_steps, held_remaining, IsJoinRun}
 use Rattle.either_or_both.proofs.MergeLemmas.{by_order, merge, place, IsJoin-merge}
 
-some_same : {X : Type 0} (x y : X) → Some x ≡ Some y → x ≡ y
+pub some_same : {X : Type 0} (x y : X) → Some x ≡ Some y → x ≡ y
 some_same x y e = cc
 
-none_some : {X : Type 0} (x : X) → None ≡ Some x → ⊥
+pub none_some : {X : Type 0} (x : X) → None ≡ Some x → ⊥
 none_some x e = cc
 
 never : false ≡ true → ⊥
 never e = cc
+
+pub call_run : {S A : Type 0} (steps : S → Option A → S → Type 0) (s : S) (r : Option A) (t : S) → steps s r t → IsCallRun steps s r
+call_run steps s None t h = (run steps s [] true (s, refl, λ w. (t, h)), refl, (refl, refl))
+call_run steps s (Some x) t h = (run steps s (x ∷ []) false (t, (t, h, refl), λ e. absurd (never e)), refl, (refl, refl))
 
 -- a side that holds o beside its iterator s gave xs, and where c is true it holds none then
 abbrev pub HeldDrains : {S X : Type 0} → (S → Option X → S → Type 0) → Option X → S → List X → Bool → Type 0
@@ -133,7 +138,7 @@ module _ {I J K A B : Type 0} (cmp : K → K → Ordering) (firsts : I → Optio
       let waits : HeldDrains firsts w.left w.lefts h.0 b = kept firsts j.left w.left j.lefts w.lefts h.0 b s.1.0 s.1.1 h.2 in
       (h.0, y ∷ h.1, waits, (r, j.right, j.rights, s.2, h.3), ap₂ (λ a k. a ∷ k) same h.4 ∙ greater_on x y h.0 h.1 w.left w.lefts b d l waits))
 
-  both_ended : (l : Option (K × A)) (r : Option (K × B)) (w u : Walk) → w.left ≡ l → w.right ≡ r → StepsFrom cmp firsts seconds l r w None u → (w.left ≡ None) × (w.right ≡ None)
+  pub both_ended : (l : Option (K × A)) (r : Option (K × B)) (w u : Walk) → w.left ≡ l → w.right ≡ r → StepsFrom cmp firsts seconds l r w None u → (w.left ≡ None) × (w.right ≡ None)
   both_ended None None w u l r e = (l, r)
   both_ended (Some x) None w u l r e = absurd (none_some (x.0, Left x.1) e.0)
   both_ended None (Some y) w u l r e = absurd (none_some (y.0, Right y.1) e.0)

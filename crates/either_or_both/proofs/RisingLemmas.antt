@@ -2,20 +2,24 @@
 use Rattle.std.proofs.Common.{◌≡◌, ◌∙◌, ◌⊎◌, List, [], ◌∷◌, Bool, true, false, cond, map, Contains, Option, Some, None, option_map, inl, inr, refl, sym, ap, ap₂, subst}
 use Rattle.std.specs.Prelude.{⊤}
 use Rattle.std.specs.Borrow.{Bor}
+use Rattle.std.specs.Cmp.{IsTotalOrder}
 use Rattle.std.specs.List.{AllByRecursion}
 use Rattle.std.specs.List.Sorted.{IsStrictlySortedBy}
 use Rattle.std.specs.Map.{keys_of}
 use Rattle.std.specs.Map.Iter.{deref_pair}
-use Rattle.std.specs.Ordering.{is_eq}
+use Rattle.std.specs.Ordering.{eq_by_cmp, is_eq}
 use Rattle.std.specs.declared.cmp.Ordering.{Ordering}
 use Rattle.std.specs.declared.cmp.Ordering.TheVariants.{Less}
 use Rattle.std.proofs.Math.ListN.{get_or-map}
 use Rattle.std.proofs.lemmas.List.{length-map}
+use Rattle.std.proofs.lemmas.Cmp.{eq_by_cmp_equiv}
 use Rattle.std.proofs.lemmas.List.Elements.{All-map, All-weaker}
+use Rattle.std.proofs.lemmas.Map.Keys.{IsDistinct-from_sorted}
+use Rattle.std.proofs.lemmas.Map.Made.{update_all_none}
 use Rattle.eob_both.specs.Places.{from_places, map_places}
 use Rattle.either_or_both.specs.Join.{Rising, value_under}
-use Rattle.either_or_both.specs.JoinLaws.{deref_joined, RisingLaw, SortedRisesLaw, ShownRisesLaw, ShownJoinLaw}
-use Rattle.either_or_both.proofs.MergeLemmas.{Up, up, rising}
+use Rattle.either_or_both.specs.JoinLaws.{deref_joined, RisingKeysLaw, RisingLaw, RisingMapLaw, SortedRisesLaw, ShownRisesLaw, ShownJoinLaw}
+use Rattle.either_or_both.proofs.MergeLemmas.{Up, up, up_weaker, rising}
 
 module _ {K : Type 0} (cmp : K → K → Ordering) where
   pub rising_law : (V : Type 0) → RisingLaw cmp V
@@ -34,6 +38,22 @@ module _ {K : Type 0} (cmp : K → K → Ordering) where
 
   pub sorted_rises : (V : Type 0) → SortedRisesLaw cmp V
   sorted_rises V xs s = rising cmp (λ k. ⊤) xs (sorted_up xs s)
+
+  module _ (o : IsTotalOrder cmp) where
+    all_after : {V : Type 0} (j : K) (xs : List (K × V)) → Up cmp (λ k. cmp j k ≡ Less) xs → AllByRecursion (λ k. cmp j k ≡ Less) (keys_of xs)
+    all_after j [] h = tt
+    all_after j (x ∷ xs) h = (h.0, all_after j xs (up_weaker cmp (λ k. cmp x.0 k ≡ Less) (λ k. cmp j k ≡ Less) (λ k l. o.trans j x.0 k h.0 l) xs h.1))
+
+    up_sorted : {V : Type 0} (P : K → Type 0) (xs : List (K × V)) → Up cmp P xs → IsStrictlySortedBy cmp (keys_of xs)
+    unfolding IsStrictlySortedBy
+    up_sorted P [] h = tt
+    up_sorted P (x ∷ xs) h = (all_after x.0 xs h.1, up_sorted (λ k. cmp x.0 k ≡ Less) xs h.1)
+
+    pub rising_keys : (V : Type 0) → RisingKeysLaw cmp V
+    rising_keys V xs h = let s = up_sorted (λ k. ⊤) xs (up cmp xs h) in (s, IsDistinct-from_sorted cmp (keys_of xs) s)
+
+    pub rising_map : (V : Type 0) → RisingMapLaw cmp V
+    rising_map V xs h k = update_all_none (eq_by_cmp_equiv o) (eq_by_cmp cmp) (λ x y. refl) xs k (rising_keys V xs h).1
 
   -- the order of references
   abbrev shown : Bor K → Bor K → Ordering

@@ -2,11 +2,16 @@
 use Rattle.std.specs.Prelude.{◌≡◌, length, List, [], ◌∷◌, Option, MatchOption}
 use Rattle.std.specs.Iterator.{AlwaysYields, size}
 use Rattle.eob_both.specs.Ends.{Ends, both_ends, LastTaken, StillToCome, CountedToCome}
+use Rattle.either_or_both.specs.declared.either.Either.{Either}
 use Rattle.either_or_both.specs.declared.iter_either.inner.InnerIterEither.{InnerIterEither}
 use Rattle.either_or_both.specs.Either.{held}
 
 module _ {S : Type 0} where
-  -- the iterator that the walk holds
+  -- the iterator that the walk holds, in the variant of the value that it was made of
+  abbrev pub inner_side : InnerIterEither S → Either S S
+  inner_side s = s.side
+
+  -- the iterator itself
   abbrev pub inner_held : InnerIterEither S → S
   inner_held s = held s.side
 

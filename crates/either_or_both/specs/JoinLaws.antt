@@ -1,10 +1,12 @@
 -- What follows for every full outer join of two lists whose keys rise.
-use Rattle.std.specs.Prelude.{◌≡◌, ◌↔◌, ℕ, ◌+◌, IsSome, List, length, map, All, count_by, is_none, is_some}
+use Rattle.std.specs.Prelude.{◌≡◌, ◌↔◌, ℕ, ◌+◌, true, IsSome, MatchOption, Option, Some, None, List, length, map, All, count_by, is_none, is_some}
 use Rattle.std.specs.Borrow.{Bor}
-use Rattle.std.specs.List.{AllAdjacentBelow, AllZip}
+use Rattle.std.specs.Iterator.Runs.{SomeRun}
+use Rattle.std.specs.List.{AllAdjacentBelow, AllZip, IsDistinct}
 use Rattle.std.specs.List.Sorted.{IsStrictlySortedBy}
 use Rattle.std.specs.Option.{option_zip}
-use Rattle.std.specs.Map.{keys_of, values_of}
+use Rattle.std.specs.Map.{keys_of, update_all, values_of}
+use Rattle.std.specs.Ordering.{eq_by_cmp}
 use Rattle.std.specs.Map.Iter.{deref_pair}
 use Rattle.std.specs.declared.cmp.Ordering.{Ordering}
 use Rattle.std.specs.declared.cmp.Ordering.TheVariants.{Less, Equal}
@@ -40,8 +42,9 @@ module _ {K : Type 0} (cmp : K → K → Ordering) where
   shared_keys p q = count_by (λ x. is_some (value_under cmp q x.0)) p
 
   -- zs has a lone left value for each key of p alone, a lone right value for each key of q alone, and Both for each key of both
-  abbrev pub HasJoinCounts : {A B : Type 0} → List (K × A) → List (K × B) → List (K × EitherOrBoth A B) → Type 0
-  HasJoinCounts p q zs = (count_by (λ z. is_none (right_place z.1)) zs + shared_keys p q ≡ length p) × (count_by (λ z. is_none (left_place z.1)) zs + shared_keys p q ≡ length q)
+  abbrev pub HasJoinCounts : {A B J L R : Type 0} → List (K × A) → List (K × B) → List (J × EitherOrBoth L R) → Type 0
+  HasJoinCounts p q zs = (count_by (λ z. is_none (right_place z.1)) zs + shared_keys p q ≡ length p)
+      × (count_by (λ z. is_none (left_place z.1)) zs + shared_keys p q ≡ length q)
       × (count_by (λ z. is_some (option_zip (left_place z.1) (right_place z.1))) zs ≡ shared_keys p q)
 
   module _ (A B : Type 0) where
@@ -95,3 +98,15 @@ module _ {K : Type 0} (cmp : K → K → Ordering) where
     -- a list of references rises where what it shows does
     abbrev pub ShownRisesLaw : Type 0
     ShownRisesLaw = (xs : List (Bor K × Bor V)) → Rising cmp (map deref_pair xs) → Rising (λ j k. cmp j.now k.now) xs
+
+    -- the keys of a rising list are sorted, and so distinct, in the standard library's words
+    abbrev pub RisingKeysLaw : Type 0
+    RisingKeysLaw = (xs : List (K × V)) → Rising cmp xs → IsStrictlySortedBy cmp (keys_of xs) × IsDistinct (eq_by_cmp cmp) (keys_of xs)
+
+    -- a map into which the pairs of a rising list are put in turn has under each key what the list has
+    abbrev pub RisingMapLaw : Type 0
+    RisingMapLaw = (xs : List (K × V)) → Rising cmp xs → (k : K) → update_all (eq_by_cmp cmp) (λ _. None) xs k ≡ value_under cmp xs k
+
+-- a call that answered r is a run: of no item where r is None, and else of that one
+abbrev pub IsCallRun : {S A : Type 0} → (S → Option A → S → Type 0) → S → Option A → Type 0
+IsCallRun steps s r = SomeRun steps s (λ p. MatchOption r ((p.whole ≡ true) × (p.len ≡ 0)) (λ x. (p.len ≡ 1) × (p.at 0 ≡ Some x)))

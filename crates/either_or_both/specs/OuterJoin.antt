@@ -1,9 +1,9 @@
 -- The sides, the steps and the runs of `OuterJoin`.
-use Rattle.std.specs.Prelude.{◌≡◌, ℕ, ◌<◌, ◌≤◌, ◌+◌, ◌^◌, true, List, length, map, Option, Some, None, IfSome, SomeIff}
+use Rattle.std.specs.Prelude.{◌≡◌, ℕ, ◌<◌, ◌≤◌, ◌+◌, ◌^◌, true, List, ◌++◌, length, map, Option, Some, None, IfSome, SomeIff, option_map}
 use Rattle.std.specs.Borrow.{Bor}
 use Rattle.std.specs.Slice.Iter.{iter_rest}
 use Rattle.std.specs.Iterator.{Count, IsFinite, at_most, count_add, count_map}
-use Rattle.std.specs.Iterator.Runs.{Run, SomeRun, EachRunFrom}
+use Rattle.std.specs.Iterator.Runs.{Run, SomeRun, EachRunFrom, AllItems}
 use Rattle.std.specs.Map.Iter.{deref_pair}
 use Rattle.std.specs.Ordering.{MatchOrdering}
 use Rattle.std.specs.declared.cmp.Ordering.{Ordering}
@@ -11,8 +11,9 @@ use Rattle.eob_both.specs.declared.either_or_both.EitherOrBoth.{EitherOrBoth}
 use Rattle.eob_both.specs.declared.either_or_both.EitherOrBoth.TheVariants.{Left, Both, Right}
 use Rattle.either_or_both.specs.declared.join.walk.JoinedPairs.{JoinedPairs}
 use Rattle.either_or_both.specs.declared.join.refs.PairRefs.{PairRefs}
-use Rattle.either_or_both.specs.Join.{Rising, IsJoin}
-use Rattle.either_or_both.specs.JoinLaws.{deref_joined}
+use Rattle.eob_both.specs.Places.{left_place, right_place}
+use Rattle.either_or_both.specs.Join.{Rising, IsJoin, value_under}
+use Rattle.either_or_both.specs.JoinLaws.{HasJoinCounts, deref_joined, shared_keys}
 
 -- how many items a side has left at most: the one that is held, and those of its iterator; a side that holds none has ended
 abbrev pub held_remaining : {X : Type 0} → Option X → Count → Count
@@ -64,23 +65,33 @@ abbrev pub IsJoinRun : {W S T K A B : Type 0} {steps : W → Option (K × Either
 IsJoinRun cmp p a b = (a.len ≤ p.len) × (b.len ≤ p.len) × (p.len ≤ a.len + b.len) × (p.whole ≡ true → (a.whole ≡ true) × (b.whole ≡ true))
     × (Rising cmp a.items → Rising cmp b.items → IsJoin cmp a.items b.items p.items)
 
--- z is the walk over what x and y were made into: it may be called, it ends where those end, and behind each run of it stand runs of those
+-- z holds the first item of s and that of t, and what is left of each
+abbrev pub HoldsFirsts : {S T K A B : Type 0} → (S → Option (K × A) → S → Type 0) → (T → Option (K × B) → T → Type 0) → S → T
+    → JoinedPairs S T (K × A) (K × B) → Type 0
+HoldsFirsts firsts seconds s t z = firsts s z.left z.lefts × seconds t z.right z.rights
+
+-- z is the walk over what x and y were made into: it has asked each for its first item, it ends where those end, and behind each
+-- run of it stand runs of those
 abbrev pub JoinsRuns : {X Y S T K A B : Type 0} → (K → K → Ordering) → (X → S → Type 0) → (Y → T → Type 0) → (S → Count) → (T → Count)
     → (S → Option (K × A) → S → Type 0) → (T → Option (K × B) → T → Type 0) → X → Y → JoinedPairs S T (K × A) (K × B) → Type 0
 JoinsRuns {S = S} {T = T} cmp gives others first second firsts seconds x y z = (s : S) × (t : T) × gives x s × others y t
-    × (IsFinite (first s) → IsFinite (second t) → IsFinite (join_remaining first second z))
+    × HoldsFirsts firsts seconds s t z × (IsFinite (first s) → IsFinite (second t) → IsFinite (join_remaining first second z))
     × EachRunFrom (join_steps cmp firsts seconds) z (λ p. SomeRun firsts s (λ a. SomeRun seconds t (λ b. IsJoinRun cmp p a b)))
 
--- the same for references: the join is of what they show
-abbrev pub IsShownJoinRun : {W S T K A B : Type 0} {steps : W → Option (Bor K × EitherOrBoth (Bor A) (Bor B)) → W → Type 0} {firsts : S → Option (Bor K × Bor A) → S → Type 0} {seconds : T → Option (Bor K × Bor B) → T → Type 0}
-    → (K → K → Ordering) → Run steps → Run firsts → Run seconds → Type 0
-IsShownJoinRun cmp p a b = (a.len ≤ p.len) × (b.len ≤ p.len) × (p.len ≤ a.len + b.len) × (p.whole ≡ true → (a.whole ≡ true) × (b.whole ≡ true))
-    × (Rising cmp (map deref_pair a.items) → Rising cmp (map deref_pair b.items) → IsJoin cmp (map deref_pair a.items) (map deref_pair b.items) (map deref_joined p.items))
+module _ {W S T K A B : Type 0} {steps : W → Option (Bor K × EitherOrBoth (Bor A) (Bor B)) → W → Type 0}
+    {firsts : S → Option (Bor K × Bor A) → S → Type 0} {seconds : T → Option (Bor K × Bor B) → T → Type 0} where
+  -- the same as `IsJoinRun` for references: the join is of what they show
+  abbrev pub IsShownJoinRun : (K → K → Ordering) → Run steps → Run firsts → Run seconds → Type 0
+  IsShownJoinRun cmp p a b = (a.len ≤ p.len) × (b.len ≤ p.len) × (p.len ≤ a.len + b.len) × (p.whole ≡ true → (a.whole ≡ true) × (b.whole ≡ true))
+      × (Rising cmp (map deref_pair a.items) → Rising cmp (map deref_pair b.items)
+      → IsJoin cmp (map deref_pair a.items) (map deref_pair b.items) (map deref_joined p.items))
 
+-- the same as `JoinsRuns` for references
 abbrev pub JoinsShownRuns : {X Y S T K A B : Type 0} → (K → K → Ordering) → (X → S → Type 0) → (Y → T → Type 0) → (S → Count) → (T → Count)
-    → (S → Option (Bor K × Bor A) → S → Type 0) → (T → Option (Bor K × Bor B) → T → Type 0) → X → Y → JoinedPairs S T (Bor K × Bor A) (Bor K × Bor B) → Type 0
+    → (S → Option (Bor K × Bor A) → S → Type 0) → (T → Option (Bor K × Bor B) → T → Type 0) → X → Y
+    → JoinedPairs S T (Bor K × Bor A) (Bor K × Bor B) → Type 0
 JoinsShownRuns {S = S} {T = T} cmp gives others first second firsts seconds x y z = (s : S) × (t : T) × gives x s × others y t
-    × (IsFinite (first s) → IsFinite (second t) → IsFinite (join_remaining first second z))
+    × HoldsFirsts firsts seconds s t z × (IsFinite (first s) → IsFinite (second t) → IsFinite (join_remaining first second z))
     × EachRunFrom (join_steps (λ j k. cmp j.now k.now) firsts seconds) z (λ p. SomeRun firsts s (λ a. SomeRun seconds t (λ b. IsShownJoinRun cmp p a b)))
 
 -- the sum of two upper bounds, where both are there and it fits
@@ -93,6 +104,19 @@ IsBoundSum (Some m) (Some n) r = SomeIff r (m + n < 2 ^ 64) (m + n)
 abbrev pub pairs_left : {K V : Type 0} → PairRefs K V → List (K × V)
 pairs_left s = iter_rest s.rest
 
--- p gave no more items than both lists have; and where it ended it had shown their join
-abbrev pub ShowsJoin : {W K A B : Type 0} {steps : W → Option (Bor K × EitherOrBoth (Bor A) (Bor B)) → W → Type 0} → (K → K → Ordering) → List (K × A) → List (K × B) → Run steps → Type 0
+-- the values of a row of references are what the two lists have under its key
+abbrev pub ShowsPlaces : {K A B : Type 0} → (K → K → Ordering) → List (K × A) → List (K × B) → Bor K × EitherOrBoth (Bor A) (Bor B) → Type 0
+ShowsPlaces cmp xs ys z = (option_map (λ a. a.now) (left_place z.1) ≡ value_under cmp xs z.0.now)
+    × (option_map (λ b. b.now) (right_place z.1) ≡ value_under cmp ys z.0.now)
+
+-- the rows are a beginning of the join
+abbrev pub BeginsJoin : {K A B : Type 0} → (K → K → Ordering) → List (K × A) → List (K × B) → List (K × EitherOrBoth A B) → Type 0
+BeginsJoin {K} {A} {B} cmp xs ys zs = (rest : List (K × EitherOrBoth A B)) × IsJoin cmp xs ys (zs ++ rest)
+
+-- p gave no more rows than both lists have; each shows what the two lists have under its key, their keys rise, and they are a
+-- beginning of the join; where p ended they are all of it, a row for each key of either list
+abbrev pub ShowsJoin : {W K A B : Type 0} {steps : W → Option (Bor K × EitherOrBoth (Bor A) (Bor B)) → W → Type 0} → (K → K → Ordering)
+    → List (K × A) → List (K × B) → Run steps → Type 0
 ShowsJoin cmp xs ys p = (p.len ≤ length xs + length ys) × (p.whole ≡ true → IsJoin cmp xs ys (map deref_joined p.items))
+    × AllItems p (ShowsPlaces cmp xs ys) × Rising cmp (map deref_joined p.items) × BeginsJoin cmp xs ys (map deref_joined p.items)
+    × (p.whole ≡ true → p.len + shared_keys cmp xs ys ≡ length xs + length ys) × (p.whole ≡ true → HasJoinCounts cmp xs ys p.items)

@@ -1,7 +1,6 @@
 //! The walk over the items of the held side, where both sides have one type.
 ghost use Rattle.std.specs.Prelude.{◌≡◌};
-ghost use Rattle.either_or_both.specs.Either.{held};
-ghost use Rattle.either_or_both.specs.EitherInner.{inner_held, inner_steps};
+ghost use Rattle.either_or_both.specs.EitherInner.{inner_held, inner_side, inner_steps};
 
 use crate::Either;
 use crate::Either::{Left, Right};
@@ -15,7 +14,7 @@ pub struct InnerIterEither<T> {
 
 impl<T> InnerIterEither<T> {
     pub(crate) fn new(side: Either<T, T>) -> Self
-        ensures { inner_held result ≡ held side }
+        ensures { inner_side result ≡ side }
     {
         InnerIterEither { side }
     }

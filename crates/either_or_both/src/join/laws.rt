@@ -2,7 +2,9 @@
 ghost use Rattle.std.specs.Prelude.{◌≡◌, map};
 ghost use Rattle.std.specs.Option.{option_or};
 ghost use Rattle.either_or_both.specs.Join.{IsJoin, value_under};
-ghost use Rattle.either_or_both.specs.JoinLaws.{JoinBothLaw, JoinCountsLaw, JoinFlipLaw, JoinLengthLaw, JoinPlacesLaw, JoinSidesLaw, OneJoinLaw, RisingLaw, ShownJoinLaw, ShownRisesLaw, SortedRisesLaw, overlaid};
+ghost use Rattle.either_or_both.specs.JoinLaws.{IsCallRun, JoinBothLaw, JoinCountsLaw, JoinFlipLaw, JoinLengthLaw, JoinPlacesLaw};
+ghost use Rattle.either_or_both.specs.JoinLaws.{JoinSidesLaw, OneJoinLaw, RisingKeysLaw, RisingLaw, RisingMapLaw, ShownJoinLaw};
+ghost use Rattle.either_or_both.specs.JoinLaws.{ShownRisesLaw, SortedRisesLaw, overlaid};
 
 use crate::EitherOrBoth;
 
@@ -45,7 +47,8 @@ pub fn law_join_both<K: Ord, A, B>()
 /// A join of two lists whose values are of one type, with each right value over the left one, has under each key what the right list
 /// has there, and else what the left list has.
 pub fn law_join_overlaid<K: Ord, V>(joined: &[(K, EitherOrBoth<V, V>)])
-    ensures { (p : _) (q : _) → IsJoin K.cmp p q joined.now → (k : _) → value_under K.cmp (map (λ z. (z.0, overlaid z.1)) joined.now) k ≡ option_or (value_under K.cmp q k) (value_under K.cmp p k) }
+    ensures { (p : _) (q : _) → IsJoin K.cmp p q joined.now → (k : _)
+        → value_under K.cmp (map (λ z. (z.0, overlaid z.1)) joined.now) k ≡ option_or (value_under K.cmp q k) (value_under K.cmp p k) }
 {}
 
 /// A list rises exactly where each key is less than the next.
@@ -56,6 +59,22 @@ pub fn law_rising<K: Ord, V>()
 /// A list whose keys are sorted strictly rises, as the entries of an ordered map do.
 pub fn law_sorted_rises<K: Ord, V>()
     ensures { SortedRisesLaw K.cmp V }
+{}
+
+/// The keys of a rising list are sorted, and so distinct, in the words of the standard library's ordered maps.
+pub fn law_rising_keys<K: Ord, V>()
+    ensures { RisingKeysLaw K.cmp V }
+{}
+
+/// A rising list that is collected into an ordered map is found there: the map has under each key what the list has. Called before
+/// `collect`.
+pub fn law_rising_map<K: Ord, V>()
+    ensures { RisingMapLaw K.cmp V }
+{}
+
+/// What a clause says of the runs of an iterator, it says of the first call of `next`. Called before that call, on the iterator.
+pub fn law_first_call<I: Iterator>(_walk: &I)
+    ensures { (r : _) (t : I) → I.next_gives _walk.now r t → IsCallRun I.next_gives _walk.now r }
 {}
 
 /// A list of references rises where what it shows does.

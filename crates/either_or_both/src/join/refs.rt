@@ -1,13 +1,15 @@
 //! The full outer join by reference, of two slices and of other sources of references: nothing is moved or cloned.
-ghost use Rattle.std.specs.Prelude.{◌≡◌, ⊤};
-ghost use Rattle.std.specs.Iterator.{IsFinite, YieldsFirstBy, item_count};
+ghost use Rattle.std.specs.Prelude.{◌≡◌, IfSome, Some, length, ⊤};
+ghost use Rattle.std.specs.Iterator.{IsFinite, UpTo, YieldsFirstBy, YieldsLastBy, item_count};
 ghost use Rattle.std.specs.Iterator.Runs.{EachRunFrom};
+ghost use Rattle.std.specs.Iterator.SizeHint.{IsWithinCount};
 ghost use Rattle.std.specs.Map.Iter.{TakesFirst, deref_pair};
 ghost use Rattle.either_or_both.specs.Join.{Rising};
 ghost use Rattle.either_or_both.specs.OuterJoin.{JoinsShownRuns, ShowsJoin, join_can, join_remaining, join_steps, pairs_left};
 
-use super::{JoinedPairs, OuterJoin, law_sorted_rises, outer_join_lazily};
+use super::{OuterJoin, law_sorted_rises, outer_join_lazily};
 use std::collections::{BTreeMap, btree_map};
+use std::iter::FusedIterator;
 use std::slice;
 
 /// References to the keys and the values of a slice of pairs, pair by pair. Made by [`outer_join_slices`].
@@ -39,24 +41,50 @@ impl<'a, K, V> Iterator for PairRefs<'a, K, V> {
         }
     }
 
-    fn size_hint(&self) -> (usize, Option<usize>) {
-        self.rest.size_hint()
+    fn size_hint(&self) -> (usize, Option<usize>)
+        ensures lower { IsWithinCount result.0 (item_count pairs_left self.now) }
+        ensures upper { IfSome result.1 (UpTo (item_count pairs_left self.now)) }
+        ensures exact { result ≡ (length (pairs_left self.now), Some (length (pairs_left self.now))) }
+    {
+        let left = self.rest.len();
+        (left, Some(left))
     }
 }
+
+impl<'a, K, V> DoubleEndedIterator for PairRefs<'a, K, V> {
+    ghost next_back_gives = { YieldsLastBy deref_pair pairs_left };
+
+    #[inline(always)]
+    fn next_back(&mut self) -> Option<(&'a K, &'a V)> {
+        match self.rest.next_back() {
+            Some(pair) => Some((&pair.0, &pair.1)),
+            None => None,
+        }
+    }
+}
+
+impl<'a, K, V> ExactSizeIterator for PairRefs<'a, K, V> {
+    fn len(&self) -> usize {
+        self.rest.len()
+    }
+}
+
+impl<'a, K, V> FusedIterator for PairRefs<'a, K, V> {}
 
 /// The full outer join of two sources of references to keys and values, whose keys rise, as [`outer_join_lazily`] gives it: such as
 /// of the walks over two maps that stay as they are. It is that walk, and its contract speaks of what the references show.
 pub fn outer_join_refs<'a, K: Ord, A, B, U, V>(
     left: U,
     right: V,
-) -> JoinedPairs<U::IntoIter, V::IntoIter, (&'a K, &'a A), (&'a K, &'a B)>
+) -> OuterJoin<U::IntoIter, V::IntoIter>
 where
     U: IntoIterator<Item = (&'a K, &'a A)>,
     V: IntoIterator<Item = (&'a K, &'a B)>,
     requires left { (it : U.IntoIter) → U.into_iter_gives left it → U.IntoIter.can_next it }
     requires right { (it : V.IntoIter) → V.into_iter_gives right it → V.IntoIter.can_next it }
     ensures can { join_can U.IntoIter.can_next V.IntoIter.can_next result }
-    ensures runs { JoinsShownRuns K.cmp U.into_iter_gives V.into_iter_gives U.IntoIter.remaining V.IntoIter.remaining U.IntoIter.next_gives V.IntoIter.next_gives left right result }
+    ensures runs { JoinsShownRuns K.cmp U.into_iter_gives V.into_iter_gives U.IntoIter.remaining V.IntoIter.remaining
+        U.IntoIter.next_gives V.IntoIter.next_gives left right result }
 {
     outer_join_lazily(left, right)
 }
@@ -80,7 +108,8 @@ pub fn outer_join_slices<'a, K: Ord, A, B>(
     requires right { Rising K.cmp right.now }
     ensures can { join_can (λ _. ⊤) (λ _. ⊤) result }
     ensures finite { IsFinite (join_remaining (item_count pairs_left) (item_count pairs_left) result) }
-    ensures runs { EachRunFrom (join_steps (λ j k. K.cmp j.now k.now) (YieldsFirstBy deref_pair pairs_left) (YieldsFirstBy deref_pair pairs_left)) result (λ p. ShowsJoin K.cmp left.now right.now p) }
+    ensures runs { EachRunFrom (join_steps (λ j k. K.cmp j.now k.now) (YieldsFirstBy deref_pair pairs_left) (YieldsFirstBy deref_pair pairs_left))
+        result (λ p. ShowsJoin K.cmp left.now right.now p) }
 {
     outer_join_refs(PairRefs::new(left), PairRefs::new(right))
 }
@@ -101,7 +130,8 @@ pub fn outer_join_maps<'a, K: Ord, A, B>(
 ) -> OuterJoin<btree_map::Iter<'a, K, A>, btree_map::Iter<'a, K, B>>
     ensures can { join_can (λ _. ⊤) (λ _. ⊤) result }
     ensures finite { IsFinite (join_remaining (item_count (λ xs. xs)) (item_count (λ ys. ys)) result) }
-    ensures runs { EachRunFrom (join_steps (λ j k. K.cmp j.now k.now) (TakesFirst deref_pair) (TakesFirst deref_pair)) result (λ p. ShowsJoin K.cmp left.now.entries right.now.entries p) }
+    ensures runs { EachRunFrom (join_steps (λ j k. K.cmp j.now k.now) (TakesFirst deref_pair) (TakesFirst deref_pair))
+        result (λ p. ShowsJoin K.cmp left.now.entries right.now.entries p) }
 {
     law_sorted_rises::<K, A>();
     law_sorted_rises::<K, B>();

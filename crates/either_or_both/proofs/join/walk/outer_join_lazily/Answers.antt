@@ -13,6 +13,7 @@ returns-clause-runs g c =
       t,
       c.into_iter-lefts.ensures.into_iter_gives,
       c.into_iter-rights.ensures.into_iter_gives,
+      (left.ensures.steps, right.ensures.steps),
       join_finite it.can_next it.remaining s left.new.self left.result jt.can_next jt.remaining t right.new.self right.result left.ensures.goes right.ensures.goes,
       join_runs g.K.Ord.cmp it.next_gives jt.next_gives g.met.K.Ord.total _ s t left.ensures.steps right.ensures.steps,
     )
