@@ -10,7 +10,7 @@ use Rattle.either_or_both.specs.declared.iter_either.inner.InnerIterEither.{Inne
 use Rattle.either_or_both.specs.declared.iter_either.swap.SwapIterEither.{SwapIterEither}
 use Rattle.either_or_both.specs.Either.{item_left, item_right, map_places, MatchPlaces}
 use Rattle.either_or_both.specs.EitherInner.{inner_held, inner_ends}
-use Rattle.either_or_both.specs.EitherSwap.{swap_side, count_of, swap_steps, swap_ends, SwapYields, SwapToCome}
+use Rattle.either_or_both.specs.EitherSwap.{swap_side, count_of, held_swap_steps, held_swap_ends, HeldSwapYields, HeldSwapToCome}
 use Rattle.either_or_both.proofs.EitherRunLemmas.{left_move, right_move}
 
 -- a call where a list comes forward takes its first item
@@ -102,12 +102,12 @@ module _ {S T A B C D : Type 0} (it : Ends S A) (jt : Ends T B) (v : A → C) (w
   abbrev left_by : SwapIterEither S T → S → Type 0
   left_by z s = swap_side z ≡ Left s
 
-  left_wraps : (r : Option (Either A B)) → item_right r ≡ None → Wraps it (swap_ends it jt) v (map_places v w) to_left left_by (item_left r) r
+  left_wraps : (r : Option (Either A B)) → item_right r ≡ None → Wraps it (held_swap_ends it jt) v (map_places v w) to_left left_by (item_left r) r
   left_wraps None e = refl
   left_wraps (Some (Left x)) e = refl
   left_wraps (Some (Right y)) e = absurd (let k = e in cc)
 
-  left_carries : Carries it (swap_ends it jt) v (map_places v w) to_left left_by
+  left_carries : Carries it (held_swap_ends it jt) v (map_places v w) to_left left_by
   left_carries = record {
     callable = λ z s a h. subst (λ o. MatchPlaces o it.can_next jt.can_next) (sym a) h;
     callable_back = λ z s a h. subst (λ o. MatchPlaces o it.can_next_back jt.can_next_back) (sym a) h;
@@ -116,27 +116,27 @@ module _ {S T A B C D : Type 0} (it : Ends S A) (jt : Ends T B) (v : A → C) (w
     back = λ z r j s a e. let m = left_move it.next_back_gives jt.next_back_gives r z j s a e in (m.0, item_left r, m.1, m.2, left_wraps r m.3);
   }
 
-  left_come : (c : Count → ℕ → Type 0) (zs : List (Either C D)) (z : SwapIterEither S T) (s : S) → swap_side z ≡ Left s → (xs : List C) × ToCome c it v xs s × (zs ≡ map to_left xs) → ToCome c (swap_ends it jt) (map_places v w) zs z
-  left_come c zs z s a h = subst (λ l. ToCome c (swap_ends it jt) (map_places v w) l z) (sym h.2) (to_come_carried it (swap_ends it jt) v (map_places v w) to_left left_by c left_carries h.0 s z a h.1)
+  left_come : (c : Count → ℕ → Type 0) (zs : List (Either C D)) (z : SwapIterEither S T) (s : S) → swap_side z ≡ Left s → (xs : List C) × ToCome c it v xs s × (zs ≡ map to_left xs) → ToCome c (held_swap_ends it jt) (map_places v w) zs z
+  left_come c zs z s a h = subst (λ l. ToCome c (held_swap_ends it jt) (map_places v w) l z) (sym h.2) (to_come_carried it (held_swap_ends it jt) v (map_places v w) to_left left_by c left_carries h.0 s z a h.1)
 
-  left_stays : (c : Count → ℕ → Type 0) (xs : List C) (s : S) (z : SwapIterEither S T) → swap_side z ≡ Left s → ToCome c it v xs s → SwapToCome c it jt v w (map to_left xs) z
+  left_stays : (c : Count → ℕ → Type 0) (xs : List C) (s : S) (z : SwapIterEither S T) → swap_side z ≡ Left s → ToCome c it v xs s → HeldSwapToCome c it jt v w (map to_left xs) z
   left_stays c xs s z a h = subst (λ o. MatchPlaces o (λ b. (ys : List C) × ToCome c it v ys b × (map to_left xs ≡ map to_left ys)) (λ b. (ys : List D) × ToCome c jt w ys b × (map to_left xs ≡ map to_right ys))) (sym a) (xs, h, refl)
 
   left_back : (c : Count → ℕ → Type 0) (zs : List (Either C D)) (z : SwapIterEither S T) (r : Option (Either A B)) (j : SwapIterEither S T) (s : S) → swap_side z ≡ Left s → (xs : List C) × ToCome c it v xs s × (zs ≡ map to_left xs)
-      → swap_steps it.next_back_gives jt.next_back_gives z r j → LastTaken (map_places v w) (SwapToCome c it jt v w) zs r j
+      → held_swap_steps it.next_back_gives jt.next_back_gives z r j → LastTaken (map_places v w) (HeldSwapToCome c it jt v w) zs r j
   left_back c zs z r j s a h e =
       let m = left_move it.next_back_gives jt.next_back_gives r z j s a e in
-      subst (λ l. LastTaken (map_places v w) (SwapToCome c it jt v w) l r j) (sym h.2) (last_carried it (swap_ends it jt) v (map_places v w) to_left left_by (ToCome c it v) (SwapToCome c it jt v w) (left_stays c) h.0 (item_left r) r m.0 j m.1 (left_wraps r m.3) (to_come_back (item_left r) m.0 h.1 m.2))
+      subst (λ l. LastTaken (map_places v w) (HeldSwapToCome c it jt v w) l r j) (sym h.2) (last_carried it (held_swap_ends it jt) v (map_places v w) to_left left_by (ToCome c it v) (HeldSwapToCome c it jt v w) (left_stays c) h.0 (item_left r) r m.0 j m.1 (left_wraps r m.3) (to_come_back (item_left r) m.0 h.1 m.2))
 
   abbrev right_by : SwapIterEither S T → T → Type 0
   right_by z s = swap_side z ≡ Right s
 
-  right_wraps : (r : Option (Either A B)) → item_left r ≡ None → Wraps jt (swap_ends it jt) w (map_places v w) to_right right_by (item_right r) r
+  right_wraps : (r : Option (Either A B)) → item_left r ≡ None → Wraps jt (held_swap_ends it jt) w (map_places v w) to_right right_by (item_right r) r
   right_wraps None e = refl
   right_wraps (Some (Right x)) e = refl
   right_wraps (Some (Left y)) e = absurd (let k = e in cc)
 
-  right_carries : Carries jt (swap_ends it jt) w (map_places v w) to_right right_by
+  right_carries : Carries jt (held_swap_ends it jt) w (map_places v w) to_right right_by
   right_carries = record {
     callable = λ z s a h. subst (λ o. MatchPlaces o it.can_next jt.can_next) (sym a) h;
     callable_back = λ z s a h. subst (λ o. MatchPlaces o it.can_next_back jt.can_next_back) (sym a) h;
@@ -145,31 +145,31 @@ module _ {S T A B C D : Type 0} (it : Ends S A) (jt : Ends T B) (v : A → C) (w
     back = λ z r j s a e. let m = right_move it.next_back_gives jt.next_back_gives r z j s a e in (m.0, item_right r, m.1, m.2, right_wraps r m.3);
   }
 
-  right_come : (c : Count → ℕ → Type 0) (zs : List (Either C D)) (z : SwapIterEither S T) (s : T) → swap_side z ≡ Right s → (xs : List D) × ToCome c jt w xs s × (zs ≡ map to_right xs) → ToCome c (swap_ends it jt) (map_places v w) zs z
-  right_come c zs z s a h = subst (λ l. ToCome c (swap_ends it jt) (map_places v w) l z) (sym h.2) (to_come_carried jt (swap_ends it jt) w (map_places v w) to_right right_by c right_carries h.0 s z a h.1)
+  right_come : (c : Count → ℕ → Type 0) (zs : List (Either C D)) (z : SwapIterEither S T) (s : T) → swap_side z ≡ Right s → (xs : List D) × ToCome c jt w xs s × (zs ≡ map to_right xs) → ToCome c (held_swap_ends it jt) (map_places v w) zs z
+  right_come c zs z s a h = subst (λ l. ToCome c (held_swap_ends it jt) (map_places v w) l z) (sym h.2) (to_come_carried jt (held_swap_ends it jt) w (map_places v w) to_right right_by c right_carries h.0 s z a h.1)
 
-  right_stays : (c : Count → ℕ → Type 0) (xs : List D) (s : T) (z : SwapIterEither S T) → swap_side z ≡ Right s → ToCome c jt w xs s → SwapToCome c it jt v w (map to_right xs) z
+  right_stays : (c : Count → ℕ → Type 0) (xs : List D) (s : T) (z : SwapIterEither S T) → swap_side z ≡ Right s → ToCome c jt w xs s → HeldSwapToCome c it jt v w (map to_right xs) z
   right_stays c xs s z a h = subst (λ o. MatchPlaces o (λ b. (ys : List C) × ToCome c it v ys b × (map to_right xs ≡ map to_left ys)) (λ b. (ys : List D) × ToCome c jt w ys b × (map to_right xs ≡ map to_right ys))) (sym a) (xs, h, refl)
 
   right_back : (c : Count → ℕ → Type 0) (zs : List (Either C D)) (z : SwapIterEither S T) (r : Option (Either A B)) (j : SwapIterEither S T) (s : T) → swap_side z ≡ Right s → (xs : List D) × ToCome c jt w xs s × (zs ≡ map to_right xs)
-      → swap_steps it.next_back_gives jt.next_back_gives z r j → LastTaken (map_places v w) (SwapToCome c it jt v w) zs r j
+      → held_swap_steps it.next_back_gives jt.next_back_gives z r j → LastTaken (map_places v w) (HeldSwapToCome c it jt v w) zs r j
   right_back c zs z r j s a h e =
       let m = right_move it.next_back_gives jt.next_back_gives r z j s a e in
-      subst (λ l. LastTaken (map_places v w) (SwapToCome c it jt v w) l r j) (sym h.2) (last_carried jt (swap_ends it jt) w (map_places v w) to_right right_by (ToCome c jt w) (SwapToCome c it jt v w) (right_stays c) h.0 (item_right r) r m.0 j m.1 (right_wraps r m.3) (to_come_back (item_right r) m.0 h.1 m.2))
+      subst (λ l. LastTaken (map_places v w) (HeldSwapToCome c it jt v w) l r j) (sym h.2) (last_carried jt (held_swap_ends it jt) w (map_places v w) to_right right_by (ToCome c jt w) (HeldSwapToCome c it jt v w) (right_stays c) h.0 (item_right r) r m.0 j m.1 (right_wraps r m.3) (to_come_back (item_right r) m.0 h.1 m.2))
 
   -- the walk has the list of the held side still to come, in the held variant
-  pub held_swap_to_come : (c : Count → ℕ → Type 0) (zs : List (Either C D)) (z : SwapIterEither S T) → SwapToCome c it jt v w zs z → ToCome c (swap_ends it jt) (map_places v w) zs z
+  pub held_swap_to_come : (c : Count → ℕ → Type 0) (zs : List (Either C D)) (z : SwapIterEither S T) → HeldSwapToCome c it jt v w zs z → ToCome c (held_swap_ends it jt) (map_places v w) zs z
   held_swap_to_come c zs z h = by (swap_side z) refl h
     where
-      by : (o : Either S T) → swap_side z ≡ o → MatchPlaces o (λ a. (xs : List C) × ToCome c it v xs a × (zs ≡ map to_left xs)) (λ b. (ys : List D) × ToCome c jt w ys b × (zs ≡ map to_right ys)) → ToCome c (swap_ends it jt) (map_places v w) zs z
+      by : (o : Either S T) → swap_side z ≡ o → MatchPlaces o (λ a. (xs : List C) × ToCome c it v xs a × (zs ≡ map to_left xs)) (λ b. (ys : List D) × ToCome c jt w ys b × (zs ≡ map to_right ys)) → ToCome c (held_swap_ends it jt) (map_places v w) zs z
       by (Left s) a h = left_come c zs z s a h
       by (Right t) a h = right_come c zs z t a h
 
   -- a call of the back takes the last
-  pub held_swap_back : (c : Count → ℕ → Type 0) (zs : List (Either C D)) (z : SwapIterEither S T) (r : Option (Either A B)) (j : SwapIterEither S T) → SwapToCome c it jt v w zs z → swap_steps it.next_back_gives jt.next_back_gives z r j → LastTaken (map_places v w) (SwapToCome c it jt v w) zs r j
+  pub held_swap_back : (c : Count → ℕ → Type 0) (zs : List (Either C D)) (z : SwapIterEither S T) (r : Option (Either A B)) (j : SwapIterEither S T) → HeldSwapToCome c it jt v w zs z → held_swap_steps it.next_back_gives jt.next_back_gives z r j → LastTaken (map_places v w) (HeldSwapToCome c it jt v w) zs r j
   held_swap_back c zs z r j h e = by (swap_side z) refl h
     where
-      by : (o : Either S T) → swap_side z ≡ o → MatchPlaces o (λ a. (xs : List C) × ToCome c it v xs a × (zs ≡ map to_left xs)) (λ b. (ys : List D) × ToCome c jt w ys b × (zs ≡ map to_right ys)) → LastTaken (map_places v w) (SwapToCome c it jt v w) zs r j
+      by : (o : Either S T) → swap_side z ≡ o → MatchPlaces o (λ a. (xs : List C) × ToCome c it v xs a × (zs ≡ map to_left xs)) (λ b. (ys : List D) × ToCome c jt w ys b × (zs ≡ map to_right ys)) → LastTaken (map_places v w) (HeldSwapToCome c it jt v w) zs r j
       by (Left s) a h = left_back c zs z r j s a h e
       by (Right t) a h = right_back c zs z r j t a h e
 
@@ -180,36 +180,36 @@ module _ {S T A B C D : Type 0} (firsts : S → Option A → S → Type 0) (seco
   abbrev right_of : D → Either C D
   right_of y = Right y
 
-  forward_left : (zs : List (Either C D)) (z : SwapIterEither S T) (r : Option (Either A B)) (j : SwapIterEither S T) (s : S) → swap_side z ≡ Left s → (xs : List C) × AlwaysYields firsts v s xs × (zs ≡ map left_of xs) → swap_steps firsts seconds z r j
-      → MatchOption r (zs ≡ []) (λ x. (ys : List (Either C D)) × (zs ≡ map_places v w x ∷ ys) × SwapYields firsts seconds v w ys j)
+  forward_left : (zs : List (Either C D)) (z : SwapIterEither S T) (r : Option (Either A B)) (j : SwapIterEither S T) (s : S) → swap_side z ≡ Left s → (xs : List C) × AlwaysYields firsts v s xs × (zs ≡ map left_of xs) → held_swap_steps firsts seconds z r j
+      → MatchOption r (zs ≡ []) (λ x. (ys : List (Either C D)) × (zs ≡ map_places v w x ∷ ys) × HeldSwapYields firsts seconds v w ys j)
   forward_left zs z r j s a h e = took r (left_move firsts seconds r z j s a e)
     where
-      stays : (xs : List C) (b : S) → swap_side j ≡ Left b → AlwaysYields firsts v b xs → SwapYields firsts seconds v w (map left_of xs) j
+      stays : (xs : List C) (b : S) → swap_side j ≡ Left b → AlwaysYields firsts v b xs → HeldSwapYields firsts seconds v w (map left_of xs) j
       stays xs b o k = subst (λ o. MatchPlaces o (λ b. (ys : List C) × AlwaysYields firsts v b ys × (map left_of xs ≡ map left_of ys)) (λ b. (ys : List D) × AlwaysYields seconds w b ys × (map left_of xs ≡ map right_of ys))) (sym o) (xs, k, refl)
 
-      took : (r : Option (Either A B)) → (b : S) × (swap_side j ≡ Left b) × firsts s (item_left r) b × (item_right r ≡ None) → MatchOption r (zs ≡ []) (λ x. (ys : List (Either C D)) × (zs ≡ map_places v w x ∷ ys) × SwapYields firsts seconds v w ys j)
+      took : (r : Option (Either A B)) → (b : S) × (swap_side j ≡ Left b) × firsts s (item_left r) b × (item_right r ≡ None) → MatchOption r (zs ≡ []) (λ x. (ys : List (Either C D)) × (zs ≡ map_places v w x ∷ ys) × HeldSwapYields firsts seconds v w ys j)
       took None m = let k = always_next firsts v s h.0 None m.0 h.1 m.2 in h.2 ∙ ap (map left_of) k
       took (Some (Left x)) m = let k = always_next firsts v s h.0 (Some x) m.0 h.1 m.2 in (map left_of k.0, h.2 ∙ ap (map left_of) k.1, stays k.0 m.0 m.1 k.2)
       took (Some (Right y)) m = absurd (let k = m.3 in cc)
 
-  forward_right : (zs : List (Either C D)) (z : SwapIterEither S T) (r : Option (Either A B)) (j : SwapIterEither S T) (s : T) → swap_side z ≡ Right s → (xs : List D) × AlwaysYields seconds w s xs × (zs ≡ map right_of xs) → swap_steps firsts seconds z r j
-      → MatchOption r (zs ≡ []) (λ x. (ys : List (Either C D)) × (zs ≡ map_places v w x ∷ ys) × SwapYields firsts seconds v w ys j)
+  forward_right : (zs : List (Either C D)) (z : SwapIterEither S T) (r : Option (Either A B)) (j : SwapIterEither S T) (s : T) → swap_side z ≡ Right s → (xs : List D) × AlwaysYields seconds w s xs × (zs ≡ map right_of xs) → held_swap_steps firsts seconds z r j
+      → MatchOption r (zs ≡ []) (λ x. (ys : List (Either C D)) × (zs ≡ map_places v w x ∷ ys) × HeldSwapYields firsts seconds v w ys j)
   forward_right zs z r j s a h e = took r (right_move firsts seconds r z j s a e)
     where
-      stays : (xs : List D) (b : T) → swap_side j ≡ Right b → AlwaysYields seconds w b xs → SwapYields firsts seconds v w (map right_of xs) j
+      stays : (xs : List D) (b : T) → swap_side j ≡ Right b → AlwaysYields seconds w b xs → HeldSwapYields firsts seconds v w (map right_of xs) j
       stays xs b o k = subst (λ o. MatchPlaces o (λ b. (ys : List C) × AlwaysYields firsts v b ys × (map right_of xs ≡ map left_of ys)) (λ b. (ys : List D) × AlwaysYields seconds w b ys × (map right_of xs ≡ map right_of ys))) (sym o) (xs, k, refl)
 
-      took : (r : Option (Either A B)) → (b : T) × (swap_side j ≡ Right b) × seconds s (item_right r) b × (item_left r ≡ None) → MatchOption r (zs ≡ []) (λ x. (ys : List (Either C D)) × (zs ≡ map_places v w x ∷ ys) × SwapYields firsts seconds v w ys j)
+      took : (r : Option (Either A B)) → (b : T) × (swap_side j ≡ Right b) × seconds s (item_right r) b × (item_left r ≡ None) → MatchOption r (zs ≡ []) (λ x. (ys : List (Either C D)) × (zs ≡ map_places v w x ∷ ys) × HeldSwapYields firsts seconds v w ys j)
       took None m = let k = always_next seconds w s h.0 None m.0 h.1 m.2 in h.2 ∙ ap (map right_of) k
       took (Some (Right x)) m = let k = always_next seconds w s h.0 (Some x) m.0 h.1 m.2 in (map right_of k.0, h.2 ∙ ap (map right_of) k.1, stays k.0 m.0 m.1 k.2)
       took (Some (Left y)) m = absurd (let k = m.3 in cc)
 
   -- a call of the front takes the first of the list that comes forward
-  pub held_swap_front : (zs : List (Either C D)) (z : SwapIterEither S T) (r : Option (Either A B)) (j : SwapIterEither S T) → SwapYields firsts seconds v w zs z → swap_steps firsts seconds z r j
-      → MatchOption r (zs ≡ []) (λ x. (ys : List (Either C D)) × (zs ≡ map_places v w x ∷ ys) × SwapYields firsts seconds v w ys j)
+  pub held_swap_front : (zs : List (Either C D)) (z : SwapIterEither S T) (r : Option (Either A B)) (j : SwapIterEither S T) → HeldSwapYields firsts seconds v w zs z → held_swap_steps firsts seconds z r j
+      → MatchOption r (zs ≡ []) (λ x. (ys : List (Either C D)) × (zs ≡ map_places v w x ∷ ys) × HeldSwapYields firsts seconds v w ys j)
   held_swap_front zs z r j h e = by (swap_side z) refl h
     where
       by : (o : Either S T) → swap_side z ≡ o → MatchPlaces o (λ a. (xs : List C) × AlwaysYields firsts v a xs × (zs ≡ map left_of xs)) (λ b. (ys : List D) × AlwaysYields seconds w b ys × (zs ≡ map right_of ys))
-          → MatchOption r (zs ≡ []) (λ x. (ys : List (Either C D)) × (zs ≡ map_places v w x ∷ ys) × SwapYields firsts seconds v w ys j)
+          → MatchOption r (zs ≡ []) (λ x. (ys : List (Either C D)) × (zs ≡ map_places v w x ∷ ys) × HeldSwapYields firsts seconds v w ys j)
       by (Left s) a h = forward_left zs z r j s a h e
       by (Right t) a h = forward_right zs z r j t a h e

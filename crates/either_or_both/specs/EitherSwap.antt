@@ -13,59 +13,59 @@ module _ {S T : Type 0} where
   swap_side s = s.side
 
   -- an end may be called where it may be called at the held side
-  abbrev pub swap_can : (S → Type 0) → (T → Type 0) → SwapIterEither S T → Type 0
-  swap_can first second s = MatchPlaces (swap_side s) first second
+  abbrev pub held_swap_can : (S → Type 0) → (T → Type 0) → SwapIterEither S T → Type 0
+  held_swap_can first second s = MatchPlaces (swap_side s) first second
 
   -- as many items are left as at the held side
   abbrev pub count_of : (S → Count) → (T → Count) → Either S T → Count
   count_of first second (Left a) = first a
   count_of first second (Right b) = second b
 
-  abbrev pub swap_remaining : (S → Count) → (T → Count) → SwapIterEither S T → Count
-  swap_remaining first second s = count_of first second (swap_side s)
+  abbrev pub held_swap_remaining : (S → Count) → (T → Count) → SwapIterEither S T → Count
+  held_swap_remaining first second s = count_of first second (swap_side s)
 
   -- a call takes a step of the held side, and gives its item in the held variant
-  abbrev pub swap_steps : {A B : Type 0} → (S → Option A → S → Type 0) → (T → Option B → T → Type 0) → SwapIterEither S T → Option (Either A B) → SwapIterEither S T → Type 0
-  swap_steps firsts seconds s r t = MatchPlaces (swap_side s)
+  abbrev pub held_swap_steps : {A B : Type 0} → (S → Option A → S → Type 0) → (T → Option B → T → Type 0) → SwapIterEither S T → Option (Either A B) → SwapIterEither S T → Type 0
+  held_swap_steps firsts seconds s r t = MatchPlaces (swap_side s)
       (λ a. (b : S) × (swap_side t ≡ Left b) × firsts a (item_left r) b × (item_right r ≡ None))
       (λ a. (b : T) × (swap_side t ≡ Right b) × seconds a (item_right r) b × (item_left r ≡ None))
 
   -- the words of the walk, from those of its sides
-  abbrev pub swap_ends : {A B : Type 0} → Ends S A → Ends T B → Ends (SwapIterEither S T) (Either A B)
-  swap_ends it jt = both_ends
-      (swap_can it.can_next jt.can_next)
-      (swap_can it.can_next_back jt.can_next_back)
-      (swap_steps it.next_gives jt.next_gives)
-      (swap_steps it.next_back_gives jt.next_back_gives)
-      (swap_remaining it.remaining jt.remaining)
+  abbrev pub held_swap_ends : {A B : Type 0} → Ends S A → Ends T B → Ends (SwapIterEither S T) (Either A B)
+  held_swap_ends it jt = both_ends
+      (held_swap_can it.can_next jt.can_next)
+      (held_swap_can it.can_next_back jt.can_next_back)
+      (held_swap_steps it.next_gives jt.next_gives)
+      (held_swap_steps it.next_back_gives jt.next_back_gives)
+      (held_swap_remaining it.remaining jt.remaining)
 
   -- zs is what the held side gives forward, in the held variant
-  abbrev pub SwapYields : {A B C D : Type 0} → (S → Option A → S → Type 0) → (T → Option B → T → Type 0) → (A → C) → (B → D) → List (Either C D) → SwapIterEither S T → Type 0
-  SwapYields {C = C} {D = D} firsts seconds v w zs s = MatchPlaces (swap_side s)
+  abbrev pub HeldSwapYields : {A B C D : Type 0} → (S → Option A → S → Type 0) → (T → Option B → T → Type 0) → (A → C) → (B → D) → List (Either C D) → SwapIterEither S T → Type 0
+  HeldSwapYields {C = C} {D = D} firsts seconds v w zs s = MatchPlaces (swap_side s)
       (λ a. (xs : List C) × AlwaysYields firsts v a xs × (zs ≡ map (λ x. Left x) xs))
       (λ b. (ys : List D) × AlwaysYields seconds w b ys × (zs ≡ map (λ y. Right y) ys))
 
   -- zs is what the held side has still to come, in the held variant
-  abbrev pub SwapToCome : {A B C D : Type 0} → (Count → ℕ → Type 0) → Ends S A → Ends T B → (A → C) → (B → D) → List (Either C D) → SwapIterEither S T → Type 0
-  SwapToCome {C = C} {D = D} c it jt v w zs s = MatchPlaces (swap_side s)
+  abbrev pub HeldSwapToCome : {A B C D : Type 0} → (Count → ℕ → Type 0) → Ends S A → Ends T B → (A → C) → (B → D) → List (Either C D) → SwapIterEither S T → Type 0
+  HeldSwapToCome {C = C} {D = D} c it jt v w zs s = MatchPlaces (swap_side s)
       (λ a. (xs : List C) × ToCome c it v xs a × (zs ≡ map (λ x. Left x) xs))
       (λ b. (ys : List D) × ToCome c jt w ys b × (zs ≡ map (λ y. Right y) ys))
 
   -- every call of `next` takes the first item of what the held side gives forward, in the held variant, or finds it empty
-  abbrev pub SwapNextTakesFirst : {A B : Type 0} → (S → Option A → S → Type 0) → (T → Option B → T → Type 0) → Type 0
-  SwapNextTakesFirst {A} {B} firsts seconds = (s : SwapIterEither S T) (r : Option (Either A B)) (t : SwapIterEither S T) → swap_steps firsts seconds s r t
-      → (v : A → A) (w : B → B) (zs : List (Either A B)) → SwapYields firsts seconds v w zs s → MatchOption r (zs ≡ []) (λ x. (ys : List (Either A B)) × (zs ≡ map_places v w x ∷ ys) × SwapYields firsts seconds v w ys t)
+  abbrev pub HeldSwapNextTakesFirst : {A B : Type 0} → (S → Option A → S → Type 0) → (T → Option B → T → Type 0) → Type 0
+  HeldSwapNextTakesFirst {A} {B} firsts seconds = (s : SwapIterEither S T) (r : Option (Either A B)) (t : SwapIterEither S T) → held_swap_steps firsts seconds s r t
+      → (v : A → A) (w : B → B) (zs : List (Either A B)) → HeldSwapYields firsts seconds v w zs s → MatchOption r (zs ≡ []) (λ x. (ys : List (Either A B)) × (zs ≡ map_places v w x ∷ ys) × HeldSwapYields firsts seconds v w ys t)
 
   -- every call of `next_back` takes the last item of what the held side has still to come, or finds it empty, as it stays
-  abbrev pub SwapBackTakesLast : {A B : Type 0} → Ends S A → Ends T B → Type 0
-  SwapBackTakesLast {A} {B} it jt = (s : SwapIterEither S T) (r : Option (Either A B)) (t : SwapIterEither S T) → (swap_ends it jt).next_back_gives s r t
-      → (v : A → A) (w : B → B) (zs : List (Either A B)) → SwapToCome HasBound it jt v w zs s → LastTaken (map_places v w) (SwapToCome HasBound it jt v w) zs r t
+  abbrev pub HeldSwapBackTakesLast : {A B : Type 0} → Ends S A → Ends T B → Type 0
+  HeldSwapBackTakesLast {A} {B} it jt = (s : SwapIterEither S T) (r : Option (Either A B)) (t : SwapIterEither S T) → (held_swap_ends it jt).next_back_gives s r t
+      → (v : A → A) (w : B → B) (zs : List (Either A B)) → HeldSwapToCome HasBound it jt v w zs s → LastTaken (map_places v w) (HeldSwapToCome HasBound it jt v w) zs r t
 
   -- the walk has that list still to come, however its ends are called
   abbrev pub SwapHasHeld : {A B : Type 0} → Ends S A → Ends T B → Type 0
-  SwapHasHeld {A} {B} it jt = (v : A → A) (w : B → B) (zs : List (Either A B)) (s : SwapIterEither S T) → SwapToCome HasBound it jt v w zs s → StillToCome (swap_ends it jt) (map_places v w) zs s
+  SwapHasHeld {A} {B} it jt = (v : A → A) (w : B → B) (zs : List (Either A B)) (s : SwapIterEither S T) → HeldSwapToCome HasBound it jt v w zs s → StillToCome (held_swap_ends it jt) (map_places v w) zs s
 
   -- and where the held side counts it, so does the walk
   abbrev pub SwapCountsHeld : {A B : Type 0} → Ends S A → Ends T B → Type 0
-  SwapCountsHeld {A} {B} it jt = (v : A → A) (w : B → B) (zs : List (Either A B)) (s : SwapIterEither S T) → SwapToCome IsExactly it jt v w zs s
-      → CountedToCome (swap_ends it jt) (map_places v w) zs s × (size ((swap_ends it jt).remaining s) ≡ length zs)
+  SwapCountsHeld {A} {B} it jt = (v : A → A) (w : B → B) (zs : List (Either A B)) (s : SwapIterEither S T) → HeldSwapToCome IsExactly it jt v w zs s
+      → CountedToCome (held_swap_ends it jt) (map_places v w) zs s × (size ((held_swap_ends it jt).remaining s) ≡ length zs)

@@ -1,6 +1,6 @@
 //! The walk over the items of the held side, each in the held variant.
 ghost use Rattle.std.specs.Prelude.{◌≡◌};
-ghost use Rattle.either_or_both.specs.EitherSwap.{swap_side, swap_can, swap_remaining, swap_steps};
+ghost use Rattle.either_or_both.specs.EitherSwap.{swap_side, held_swap_can, held_swap_remaining, held_swap_steps};
 
 use crate::Either;
 use crate::Either::{Left, Right};
@@ -23,11 +23,11 @@ impl<L, R> SwapIterEither<L, R> {
 impl<L: Iterator, R: Iterator> Iterator for SwapIterEither<L, R> {
     type Item = Either<L::Item, R::Item>;
 
-    ghost can_next = { swap_can L.can_next R.can_next };
+    ghost can_next = { held_swap_can L.can_next R.can_next };
 
-    ghost next_gives = { swap_steps L.next_gives R.next_gives };
+    ghost next_gives = { held_swap_steps L.next_gives R.next_gives };
 
-    ghost remaining = { swap_remaining L.remaining R.remaining };
+    ghost remaining = { held_swap_remaining L.remaining R.remaining };
 
     #[inline(always)]
     fn next(&mut self) -> Option<Self::Item> {
@@ -46,9 +46,9 @@ impl<L: Iterator, R: Iterator> Iterator for SwapIterEither<L, R> {
 }
 
 impl<L: DoubleEndedIterator, R: DoubleEndedIterator> DoubleEndedIterator for SwapIterEither<L, R> {
-    ghost can_next_back = { swap_can L.can_next_back R.can_next_back };
+    ghost can_next_back = { held_swap_can L.can_next_back R.can_next_back };
 
-    ghost next_back_gives = { swap_steps L.next_back_gives R.next_back_gives };
+    ghost next_back_gives = { held_swap_steps L.next_back_gives R.next_back_gives };
 
     #[inline(always)]
     fn next_back(&mut self) -> Option<Self::Item> {

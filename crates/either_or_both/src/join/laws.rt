@@ -48,7 +48,8 @@ pub fn law_join_both<K: Ord, A, B>()
 /// has there, and else what the left list has.
 pub fn law_join_overlaid<K: Ord, V>(joined: &[(K, EitherOrBoth<V, V>)])
     ensures { (p : _) (q : _) → IsJoin K.cmp p q joined.now → (k : _)
-        → value_under K.cmp (map (λ z. (z.0, overlaid z.1)) joined.now) k ≡ option_or (value_under K.cmp q k) (value_under K.cmp p k) }
+        → value_under K.cmp (map (λ z. (z.0, overlaid z.1)) joined.now) k
+        ≡ option_or (value_under K.cmp q k) (value_under K.cmp p k) }
 {}
 
 /// A list rises exactly where each key is less than the next.

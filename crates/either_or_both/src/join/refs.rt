@@ -83,18 +83,22 @@ where
     requires left { (it : U.IntoIter) → U.into_iter_gives left it → U.IntoIter.can_next it }
     requires right { (it : V.IntoIter) → V.into_iter_gives right it → V.IntoIter.can_next it }
     ensures can { join_can U.IntoIter.can_next V.IntoIter.can_next result }
-    ensures runs { JoinsShownRuns K.cmp U.into_iter_gives V.into_iter_gives U.IntoIter.remaining V.IntoIter.remaining
-        U.IntoIter.next_gives V.IntoIter.next_gives left right result }
+    ensures runs { JoinsShownRuns K.cmp U.into_iter_gives V.into_iter_gives
+        U.IntoIter.remaining V.IntoIter.remaining U.IntoIter.next_gives V.IntoIter.next_gives left right result }
 {
     outer_join_lazily(left, right)
 }
 
-/// The full outer join of two slices of pairs whose keys rise, as a walk over references to their keys and values. That the keys rise
-/// is asked and not tested, as [`outer_join`](super::outer_join) does.
+/// The full outer join of two slices of pairs, as an iterator over references to their keys and values. The caller must prove that the
+/// keys of both rise, which [`is_rising`](super::is_rising) tests. The contract speaks of each run, so that a caller of `next`,
+/// `find`, `take` or a loop that stops early learns what its rows show.
 ///
 /// ```
 /// let left = [(1, 'a'), (3, 'b')];
 /// let right = [(3, 'y')];
+/// // The checker does not read from a table that its keys rise, so a test tells it.
+/// assert!(rt; is_rising(&left));
+/// assert!(rt; is_rising(&right));
 /// let mut walk = outer_join_slices(&left, &right);
 /// assert_eq!(rt; walk.next(), Some((&1, Left(&'a'))));
 /// assert_eq!(rt; walk.next(), Some((&3, Both(&'b', &'y'))));
@@ -108,7 +112,8 @@ pub fn outer_join_slices<'a, K: Ord, A, B>(
     requires right { Rising K.cmp right.now }
     ensures can { join_can (λ _. ⊤) (λ _. ⊤) result }
     ensures finite { IsFinite (join_remaining (item_count pairs_left) (item_count pairs_left) result) }
-    ensures runs { EachRunFrom (join_steps (λ j k. K.cmp j.now k.now) (YieldsFirstBy deref_pair pairs_left) (YieldsFirstBy deref_pair pairs_left))
+    ensures runs { EachRunFrom
+        (join_steps (λ j k. K.cmp j.now k.now) (YieldsFirstBy deref_pair pairs_left) (YieldsFirstBy deref_pair pairs_left))
         result (λ p. ShowsJoin K.cmp left.now right.now p) }
 {
     outer_join_refs(PairRefs::new(left), PairRefs::new(right))
@@ -130,7 +135,8 @@ pub fn outer_join_maps<'a, K: Ord, A, B>(
 ) -> OuterJoin<btree_map::Iter<'a, K, A>, btree_map::Iter<'a, K, B>>
     ensures can { join_can (λ _. ⊤) (λ _. ⊤) result }
     ensures finite { IsFinite (join_remaining (item_count (λ xs. xs)) (item_count (λ ys. ys)) result) }
-    ensures runs { EachRunFrom (join_steps (λ j k. K.cmp j.now k.now) (TakesFirst deref_pair) (TakesFirst deref_pair))
+    ensures runs { EachRunFrom
+        (join_steps (λ j k. K.cmp j.now k.now) (TakesFirst deref_pair) (TakesFirst deref_pair))
         result (λ p. ShowsJoin K.cmp left.now.entries right.now.entries p) }
 {
     law_sorted_rises::<K, A>();

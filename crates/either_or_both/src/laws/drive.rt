@@ -83,16 +83,15 @@ where
 }
 
 /// Calls the ends of the paired walk over a pair in turn. Where the sides have lists still to come, which are counted, the answers
-/// are those of calls of the aligned list, and the rest is what is left of it. `AllocError` where a request for memory was refused:
-/// then the pair is dropped.
+/// are those of calls of the aligned list, and the rest is what is left of it.
 ///
-/// ```
-/// let pair = EitherOrBoth::Both([1, 2, 3], ['a']);
-/// let driven = drive_swap(alloc, pair, &[End::Back, End::Front])?;
-/// let answers = vec![in alloc; Some(EitherOrBoth::Left(3)), Some(EitherOrBoth::Both(1, 'a'))]?;
-/// assert_eq!(rt; driven.answers, answers);
-/// assert_eq!(rt; driven.rest, 1);
-/// ```
+/// The caller must prove that the sides have such lists. `drive_swap_owned` and `drive_swap_listed` of the crate `eob_known_lists`
+/// are this function with nothing to prove, over vectors, arrays, slices, queues, ranges, options and walks: call those, as the
+/// example at `drive_swap_owned` does.
+///
+/// # Errors
+///
+/// `AllocError` where a request for memory was refused: then the pair is dropped.
 pub fn drive_swap<L, R>(
     alloc: Global,
     pair: EitherOrBoth<L, R>,
@@ -144,12 +143,14 @@ where
 }
 
 /// Calls the ends of the chain over a pair in turn. Where the sides have lists still to come, the answers are those of calls of the
-/// left list followed by the right one. `AllocError` where a request for memory was refused: then the pair is dropped.
+/// left list followed by the right one.
 ///
-/// ```
-/// let answers = drive_chain(alloc, EitherOrBoth::Both([1, 2], [3, 4]), &[End::Back, End::Front])?;
-/// assert_eq!(rt; answers, vec![in alloc; Some(4), Some(1)]?);
-/// ```
+/// The caller must prove that the sides have such lists. `drive_chain_owned` and `drive_chain_listed` of the crate `eob_known_lists`
+/// are this function with nothing to prove: call those, as the example at `drive_chain_owned` does.
+///
+/// # Errors
+///
+/// `AllocError` where a request for memory was refused: then the pair is dropped.
 pub fn drive_chain<T>(
     alloc: Global,
     pair: EitherOrBoth<T, T>,

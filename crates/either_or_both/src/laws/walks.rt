@@ -4,7 +4,7 @@
 //! `next_gives` and `next_back_gives` of the walks say what a call asks of the held side. What this means for the list that it has
 //! still to come stands here, since a further clause on `next` would be read by every loop over a walk.
 ghost use Rattle.either_or_both.specs.EitherInner.{InnerNextTakesFirst, InnerBackTakesLast, InnerHasHeld, InnerCountsHeld};
-ghost use Rattle.either_or_both.specs.EitherSwap.{SwapNextTakesFirst, SwapBackTakesLast, SwapHasHeld, SwapCountsHeld};
+ghost use Rattle.either_or_both.specs.EitherSwap.{HeldSwapNextTakesFirst, HeldSwapBackTakesLast, SwapHasHeld, SwapCountsHeld};
 
 /// `next` of the inner walk takes the first item of the list that the held side gives, or answers `None` where that is empty, and
 /// leaves the rest of it.
@@ -31,13 +31,13 @@ pub fn law_inner_len<T: DoubleEndedIterator + ExactSizeIterator>()
 /// `next` of the walk in the held variant takes the first item of the list that the held side gives, or answers `None` where that
 /// is empty, and leaves the rest of it.
 pub fn law_held_swap_next<L: Iterator, R: Iterator>()
-    ensures { SwapNextTakesFirst L.next_gives R.next_gives }
+    ensures { HeldSwapNextTakesFirst L.next_gives R.next_gives }
 {}
 
 /// `next_back` of the walk in the held variant takes the last item of the list that the held side has still to come, or answers
 /// `None` where there is none, and leaves the rest.
 pub fn law_held_swap_next_back<L: DoubleEndedIterator, R: DoubleEndedIterator>()
-    ensures { SwapBackTakesLast L.DoubleEndedIterator R.DoubleEndedIterator }
+    ensures { HeldSwapBackTakesLast L.DoubleEndedIterator R.DoubleEndedIterator }
 {}
 
 /// Where the held side has a list still to come, the walk in the held variant has the same in that variant, however its ends are

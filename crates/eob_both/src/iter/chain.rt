@@ -88,4 +88,5 @@ impl<T: DoubleEndedIterator> DoubleEndedIterator for ChainedIterEitherOrBoth<T> 
     }
 }
 
+// The bound is the original crate's. The chain is fused over any sides: it gives up one that has ended.
 impl<T: FusedIterator> FusedIterator for ChainedIterEitherOrBoth<T> {}

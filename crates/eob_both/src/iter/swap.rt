@@ -120,4 +120,5 @@ impl<L: ExactSizeIterator, R: ExactSizeIterator> ExactSizeIterator for SwapIterE
     }
 }
 
+// The bound on both sides is the original crate's. The walk is fused over any sides: it gives up one that has ended.
 impl<L: FusedIterator, R: FusedIterator> FusedIterator for SwapIterEitherOrBoth<L, R> {}
