@@ -1,5 +1,5 @@
 -- The lists of std's iterators and of the walks, as the impls of the traits cite them.
-use Rattle.std.specs.Prelude.{refl, ◌≡◌, ℕ, ◌-◌, List, [], ◌++◌, map, reverse, Option, Some, None}
+use Rattle.std.specs.Prelude.{refl, ◌≡◌, ℕ, ◌+◌, ◌-◌, ◌≤◌, List, [], ◌++◌, length, map, reverse, Option, Some, None}
 use Rattle.std.specs.Option.{option_to_list}
 use Rattle.std.specs.List.{range_with_len}
 use Rattle.std.specs.Borrow.{Bor}
@@ -30,6 +30,10 @@ use Rattle.eob_both.proofs.ChainLemmas.{chain_to_come}
 use Rattle.eob_both.proofs.StdEnds.{vec_ends, vec_to_come, slice_ends, slice_to_come, range_ends, range_to_come, once_ends, once_to_come, deque_ends, deque_to_come, rev_ends, rev_to_come, ref_to}
 use Rattle.eob_both.proofs.EndsLemmas.{to_come_over, to_come_same, to_come_uncounted}
 use Rattle.either_or_both.proofs.ShownLemmas.{shown_ends, shown_to_come}
+
+-- half of some items came from the front and half from the back, the odd one from the front
+abbrev pub AreTakenInTurn : {A : Type 0} → List A → List A → Type 0
+AreTakenInTurn fronts backs = (length backs ≤ length fronts) × (length fronts ≤ length backs + 1)
 
 -- the list of a place, which is empty where the place is absent
 abbrev pub listed_at : {X A : Type 0} → (X → List A) → Option X → List A
