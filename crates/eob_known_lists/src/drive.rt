@@ -5,15 +5,19 @@ ghost use Rattle.eob_both.specs.Aligned.{aligned};
 ghost use Rattle.eob_both.specs.Places.{left_place, right_place, map_places};
 ghost use Rattle.eob_both.specs.Ends.{CountedToCome};
 ghost use Rattle.either_or_both.specs.Answers.{answers, left_over, Listed};
-ghost use Rattle.eob_known_lists.specs.Listed.{listed_at};
+ghost use Rattle.eob_known_lists.specs.Listed.{AreTakenInTurn, listed_at};
 
 use crate::listing::{CountedListing, Listing, OwnListing};
 use either_or_both::EitherOrBoth;
 use either_or_both::laws::{Driven, End, drive_chain, drive_swap};
 use std::alloc::{AllocError, Global};
 
-/// Drives the paired walk of two such values: [`drive_swap`] with nothing to show. `AllocError` where a request for memory was
-/// refused.
+/// Calls the ends of the paired walk of two such values in turn: [`drive_swap`] with nothing to prove. The answers hold the items as
+/// the walk gives them, such as the references of slices; the contract reads those by what they point to.
+///
+/// # Errors
+///
+/// `AllocError` where a request for memory was refused: then the pair is dropped.
 pub fn drive_swap_listed<L, R>(
     alloc: Global,
     pair: EitherOrBoth<L, R>,
@@ -27,13 +31,28 @@ where
     L::Item: Drop,
     R::Item: Drop,
     ensures answers { IfOk result (λ d. map (option_map (map_places L.view R.view)) d.answers.items
-        ≡ answers (aligned (listed_at L.listed (left_place pair)) (listed_at R.listed (right_place pair))) ends.now) }
-    ensures rest { IfOk result (λ d. d.rest ≡ left_over (aligned (listed_at L.listed (left_place pair)) (listed_at R.listed (right_place pair))) ends.now) }
+        ≡ answers
+        (aligned (listed_at L.listed (left_place pair)) (listed_at R.listed (right_place pair))) ends.now) }
+    ensures rest { IfOk result (λ d. d.rest
+        ≡ left_over
+        (aligned (listed_at L.listed (left_place pair)) (listed_at R.listed (right_place pair))) ends.now) }
 {
     drive_swap(alloc, pair, ends)
 }
 
-/// The same of two values that are walked by value: the answers are the items themselves.
+/// [`drive_swap_listed`] of two values that are walked by value: the answers are the items themselves.
+///
+/// ```
+/// let pair = EitherOrBoth::Both([1, 2, 3], ['a']);
+/// let driven = drive_swap_owned(alloc, pair, &[End::Back, End::Front])?;
+/// let answers = vec![in alloc; Some(EitherOrBoth::Left(3)), Some(EitherOrBoth::Both(1, 'a'))]?;
+/// assert_eq!(rt; driven.answers, answers);
+/// assert_eq!(rt; driven.rest, 1);
+/// ```
+///
+/// # Errors
+///
+/// `AllocError` where a request for memory was refused: then the pair is dropped.
 pub fn drive_swap_owned<L, R>(
     alloc: Global,
     pair: EitherOrBoth<L, R>,
@@ -46,13 +65,21 @@ where
     R::IntoIter: DoubleEndedIterator + ExactSizeIterator,
     L::Item: Drop,
     R::Item: Drop,
-    ensures answers { IfOk result (λ d. d.answers.items ≡ answers (aligned (listed_at L.listed (left_place pair)) (listed_at R.listed (right_place pair))) ends.now) }
-    ensures rest { IfOk result (λ d. d.rest ≡ left_over (aligned (listed_at L.listed (left_place pair)) (listed_at R.listed (right_place pair))) ends.now) }
+    ensures answers { IfOk result (λ d. d.answers.items
+        ≡ answers
+        (aligned (listed_at L.listed (left_place pair)) (listed_at R.listed (right_place pair))) ends.now) }
+    ensures rest { IfOk result (λ d. d.rest
+        ≡ left_over
+        (aligned (listed_at L.listed (left_place pair)) (listed_at R.listed (right_place pair))) ends.now) }
 {
     drive_swap_listed(alloc, pair, ends)
 }
 
-/// Drives the chain of two such values: [`drive_chain`] with nothing to show. `AllocError` where a request for memory was refused.
+/// Calls the ends of the chain of two such values in turn: [`drive_chain`] with nothing to prove.
+///
+/// # Errors
+///
+/// `AllocError` where a request for memory was refused: then the pair is dropped.
 pub fn drive_chain_listed<T>(
     alloc: Global,
     pair: EitherOrBoth<T, T>,
@@ -62,12 +89,23 @@ where
     T: Listing,
     T::IntoIter: DoubleEndedIterator,
     T::Item: Drop,
-    ensures { IfOk result (λ v. map (option_map T.view) v.items ≡ answers (listed_at T.listed (left_place pair) ++ listed_at T.listed (right_place pair)) ends.now) }
+    ensures { IfOk result (λ v. map (option_map T.view) v.items
+        ≡ answers (listed_at T.listed (left_place pair) ++ listed_at T.listed (right_place pair)) ends.now) }
 {
     drive_chain(alloc, pair, ends)
 }
 
-/// The same of two values that are walked by value: the answers are the items themselves.
+/// [`drive_chain_listed`] of two values that are walked by value: the answers are the items themselves.
+///
+/// ```
+/// let pair = EitherOrBoth::Both([1, 2], [3, 4]);
+/// let answers = drive_chain_owned(alloc, pair, &[End::Back, End::Front])?;
+/// assert_eq!(rt; answers, vec![in alloc; Some(4), Some(1)]?);
+/// ```
+///
+/// # Errors
+///
+/// `AllocError` where a request for memory was refused: then the pair is dropped.
 pub fn drive_chain_owned<T>(
     alloc: Global,
     pair: EitherOrBoth<T, T>,
@@ -77,7 +115,8 @@ where
     T: OwnListing,
     T::IntoIter: DoubleEndedIterator,
     T::Item: Drop,
-    ensures { IfOk result (λ v. v.items ≡ answers (listed_at T.listed (left_place pair) ++ listed_at T.listed (right_place pair)) ends.now) }
+    ensures { IfOk result (λ v. v.items
+        ≡ answers (listed_at T.listed (left_place pair) ++ listed_at T.listed (right_place pair)) ends.now) }
 {
     drive_chain_listed(alloc, pair, ends)
 }
@@ -90,8 +129,9 @@ fn take_in_turn<I: DoubleEndedIterator + ExactSizeIterator>(
 where
     I::Item: Drop,
     requires { (list : Listed I.Item) × CountedToCome I.DoubleEndedIterator list.view list.items walk }
-    ensures { (list : Listed I.Item) → CountedToCome I.DoubleEndedIterator list.view list.items walk
+    ensures list { (list : Listed I.Item) → CountedToCome I.DoubleEndedIterator list.view list.items walk
         → IfOk result (λ r. map list.view r.0.items ++ reverse (map list.view r.1.items) ≡ list.items) }
+    ensures turns { IfOk result (λ r. AreTakenInTurn r.0.items r.1.items) }
 {
     let mut fronts = Vec::new(alloc);
     let mut backs = Vec::new(alloc);
@@ -105,9 +145,20 @@ where
     Ok((fronts, backs))
 }
 
-/// Takes the paired walk of two such values from its front and its back in turn until they meet: the items from the front, and
-/// those from the back in the order in which they came. Together they are the aligned list, cut in two. `AllocError` where a
-/// request for memory was refused.
+/// Takes the paired walk of two such values from its front and its back in turn until they meet: returns the items from the front,
+/// and those from the back in the order in which they came. Together they are the aligned list, cut in two: half of the items came
+/// from each end, and where their number is odd one more from the front.
+///
+/// ```
+/// let pair = EitherOrBoth::Both(vec![in alloc; 1, 2, 3]?, vec![in alloc; 'a']?);
+/// let (fronts, backs) = take_swap_in_turn(alloc, pair)?;
+/// assert_eq!(rt; fronts, vec![in alloc; EitherOrBoth::Both(1, 'a'), EitherOrBoth::Left(2)]?);
+/// assert_eq!(rt; backs, vec![in alloc; EitherOrBoth::Left(3)]?);
+/// ```
+///
+/// # Errors
+///
+/// `AllocError` where a request for memory was refused: then the pair is dropped.
 pub fn take_swap_in_turn<L, R>(
     alloc: Global,
     pair: EitherOrBoth<L, R>,
@@ -125,7 +176,9 @@ where
     R::IntoIter: DoubleEndedIterator + ExactSizeIterator,
     L::Item: Drop,
     R::Item: Drop,
-    ensures { IfOk result (λ r. r.0.items ++ reverse r.1.items ≡ aligned (listed_at L.listed (left_place pair)) (listed_at R.listed (right_place pair))) }
+    ensures list { IfOk result (λ r. r.0.items ++ reverse r.1.items
+        ≡ aligned (listed_at L.listed (left_place pair)) (listed_at R.listed (right_place pair))) }
+    ensures turns { IfOk result (λ r. AreTakenInTurn r.0.items r.1.items) }
 {
     take_in_turn(alloc, pair.into_iter_swap())
 }

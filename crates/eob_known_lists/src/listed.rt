@@ -1,5 +1,6 @@
 //! Iterators that have a known list still to come, whatever was called before.
-ghost use Rattle.std.specs.Prelude.{refl, ◌≡◌, ◌++◌, List, map, reverse, length, true};
+ghost use Rattle.std.specs.Prelude.{refl, ◌≡◌, ℕ, ◌++◌, List, map, reverse, length, slice_get, true};
+ghost use Rattle.std.specs.Array.Iter.{array_into_iter_items};
 ghost use Rattle.std.specs.Iterator.Adapters.{once_item, rev_source, rev_steps};
 ghost use Rattle.std.specs.Iterator.Runs.{EachRunFrom};
 ghost use Rattle.std.specs.Option.{option_to_list};
@@ -13,11 +14,13 @@ ghost use Rattle.eob_both.specs.Places.{map_places};
 ghost use Rattle.eob_both.specs.Swap.{swap_left, swap_right};
 ghost use Rattle.eob_both.specs.Values.{values_left};
 ghost use Rattle.eob_both.proofs.StdEnds.{once_to_come, range_rest, range_to_come, ref_to, vec_to_come};
-ghost use Rattle.eob_known_lists.specs.Listed.{chain_comes, deque_to_come_by_ref, listed_at, place_as_is, rev_comes, rev_counts, same_ref, slice_to_come_by_ref, uncounted, walk_comes};
+ghost use Rattle.eob_known_lists.specs.Arrays.{array_to_come};
+ghost use Rattle.eob_known_lists.specs.Listed.{IsNthRun, chain_comes, deque_to_come_by_ref, listed_at, place_as_is, rev_comes, rev_counts, same_ref, slice_to_come_by_ref, uncounted, walk_comes};
 ghost use Rattle.either_or_both.proofs.ShownLemmas.{shown_to_come};
 
 use either_or_both::iter::{ChainedIterEitherOrBoth, IntoIterEitherOrBoth, SwapIterEitherOrBoth};
 use std::alloc::Allocator;
+use std::array;
 use std::collections::vec_deque;
 use std::iter::{Once, Rev};
 use std::ops::Range;
@@ -27,179 +30,204 @@ use std::vec::IntoIter;
 /// An iterator that has a known list still to come, from either end.
 pub trait ListedIter: DoubleEndedIterator {
     // How items are read as elements of the list: references are read by what they point to.
-    ghost reads: { Self.Item → Self.Item };
+    ghost view: { Self.Item → Self.Item };
 
     // The list.
-    ghost rest: { Self → List Self.Item };
+    ghost listed: { Self → List Self.Item };
 
-    ghost has_rest: { (s : Self) → StillToCome Self.DoubleEndedIterator reads (rest s) s };
+    ghost comes: { (s : Self) → StillToCome Self.DoubleEndedIterator view (listed s) s };
 }
 
 /// One that counts its list too.
 pub trait CountedIter: ListedIter + ExactSizeIterator {
-    ghost counts_rest: { (s : Self) → CountedToCome Self.DoubleEndedIterator Self.reads (Self.rest s) s };
+    ghost counts: { (s : Self) → CountedToCome Self.DoubleEndedIterator Self.view (Self.listed s) s };
 }
 
 /// One whose items are the list's own.
 pub trait OwnIter: ListedIter {
-    ghost own: { (x : Self.Item) → Self.reads x ≡ x };
+    ghost as_is: { (x : Self.Item) → Self.view x ≡ x };
 }
 
 impl<T: Drop, A: Allocator> ListedIter for IntoIter<T, A> {
-    ghost reads = { λ x. x };
+    ghost view = { λ x. x };
 
-    ghost rest = { into_iter_items };
+    ghost listed = { into_iter_items };
 
-    ghost has_rest = { uncounted _ (λ x. x) into_iter_items vec_to_come };
+    ghost comes = { uncounted _ (λ x. x) into_iter_items vec_to_come };
 }
 
 impl<T: Drop, A: Allocator> CountedIter for IntoIter<T, A> {
-    ghost counts_rest = { vec_to_come };
+    ghost counts = { vec_to_come };
 }
 
 impl<T: Drop, A: Allocator> OwnIter for IntoIter<T, A> {
-    ghost own = { λ x. refl };
+    ghost as_is = { λ x. refl };
+}
+
+impl<T: Drop, const N: usize> ListedIter for array::IntoIter<T, N> {
+    ghost view = { λ x. x };
+
+    ghost listed = { array_into_iter_items };
+
+    ghost comes = { uncounted _ (λ x. x) array_into_iter_items array_to_come };
+}
+
+impl<T: Drop, const N: usize> CountedIter for array::IntoIter<T, N> {
+    ghost counts = { array_to_come };
+}
+
+impl<T: Drop, const N: usize> OwnIter for array::IntoIter<T, N> {
+    ghost as_is = { λ x. refl };
 }
 
 impl ListedIter for Range<u32> {
-    ghost reads = { λ x. x };
+    ghost view = { λ x. x };
 
-    ghost rest = { range_rest };
+    ghost listed = { range_rest };
 
-    ghost has_rest = { uncounted _ (λ x. x) range_rest range_to_come };
+    ghost comes = { uncounted _ (λ x. x) range_rest range_to_come };
 }
 
 impl CountedIter for Range<u32> {
-    ghost counts_rest = { range_to_come };
+    ghost counts = { range_to_come };
 }
 
 impl OwnIter for Range<u32> {
-    ghost own = { λ x. refl };
+    ghost as_is = { λ x. refl };
 }
 
 impl ListedIter for Range<usize> {
-    ghost reads = { λ x. x };
+    ghost view = { λ x. x };
 
-    ghost rest = { range_rest };
+    ghost listed = { range_rest };
 
-    ghost has_rest = { uncounted _ (λ x. x) range_rest range_to_come };
+    ghost comes = { uncounted _ (λ x. x) range_rest range_to_come };
 }
 
 impl CountedIter for Range<usize> {
-    ghost counts_rest = { range_to_come };
+    ghost counts = { range_to_come };
 }
 
 impl OwnIter for Range<usize> {
-    ghost own = { λ x. refl };
+    ghost as_is = { λ x. refl };
 }
 
 impl<'a, T> ListedIter for Iter<'a, T> {
-    ghost reads = { same_ref };
+    ghost view = { same_ref };
 
-    ghost rest = { λ s. map ref_to (iter_rest s) };
+    ghost listed = { λ s. map ref_to (iter_rest s) };
 
-    ghost has_rest = { uncounted _ same_ref (λ s. map ref_to (iter_rest s)) slice_to_come_by_ref };
+    ghost comes = { uncounted _ same_ref (λ s. map ref_to (iter_rest s)) slice_to_come_by_ref };
 }
 
 impl<'a, T> CountedIter for Iter<'a, T> {
-    ghost counts_rest = { slice_to_come_by_ref };
+    ghost counts = { slice_to_come_by_ref };
 }
 
 impl<'a, T> ListedIter for vec_deque::Iter<'a, T> {
-    ghost reads = { same_ref };
+    ghost view = { same_ref };
 
-    ghost rest = { λ s. map ref_to (deque_iter_rest s) };
+    ghost listed = { λ s. map ref_to (deque_iter_rest s) };
 
-    ghost has_rest = { uncounted _ same_ref (λ s. map ref_to (deque_iter_rest s)) deque_to_come_by_ref };
+    ghost comes = { uncounted _ same_ref (λ s. map ref_to (deque_iter_rest s)) deque_to_come_by_ref };
 }
 
 impl<'a, T> CountedIter for vec_deque::Iter<'a, T> {
-    ghost counts_rest = { deque_to_come_by_ref };
+    ghost counts = { deque_to_come_by_ref };
 }
 
 impl<T: Drop> ListedIter for Once<T> {
-    ghost reads = { λ x. x };
+    ghost view = { λ x. x };
 
-    ghost rest = { λ s. option_to_list (once_item s) };
+    ghost listed = { λ s. option_to_list (once_item s) };
 
-    ghost has_rest = { uncounted _ (λ x. x) (λ s. option_to_list (once_item s)) once_to_come };
+    ghost comes = { uncounted _ (λ x. x) (λ s. option_to_list (once_item s)) once_to_come };
 }
 
 impl<T: Drop> CountedIter for Once<T> {
-    ghost counts_rest = { once_to_come };
+    ghost counts = { once_to_come };
 }
 
 impl<T: Drop> OwnIter for Once<T> {
-    ghost own = { λ x. refl };
+    ghost as_is = { λ x. refl };
 }
 
 impl<I: ListedIter> ListedIter for Rev<I> {
-    ghost reads = { I.reads };
+    ghost view = { I.view };
 
-    ghost rest = { λ s. reverse (I.rest (rev_source s)) };
+    ghost listed = { λ s. reverse (I.listed (rev_source s)) };
 
-    ghost has_rest = { rev_comes I.DoubleEndedIterator I.reads I.rest I.has_rest };
+    ghost comes = { rev_comes I.DoubleEndedIterator I.view I.listed I.comes };
 }
 
 impl<I: CountedIter> CountedIter for Rev<I> {
-    ghost counts_rest = { rev_counts I.DoubleEndedIterator I.reads I.rest I.counts_rest };
+    ghost counts = { rev_counts I.DoubleEndedIterator I.view I.listed I.counts };
 }
 
 impl<I: OwnIter> OwnIter for Rev<I> {
-    ghost own = { I.own };
+    ghost as_is = { I.as_is };
 }
 
 impl<T: Drop> ListedIter for IntoIterEitherOrBoth<T> {
-    ghost reads = { λ x. x };
+    ghost view = { λ x. x };
 
-    ghost rest = { values_left };
+    ghost listed = { values_left };
 
-    ghost has_rest = { uncounted _ (λ x. x) values_left (shown_to_come values_left) };
+    ghost comes = { uncounted _ (λ x. x) values_left (shown_to_come values_left) };
 }
 
 impl<T: Drop> CountedIter for IntoIterEitherOrBoth<T> {
-    ghost counts_rest = { shown_to_come values_left };
+    ghost counts = { shown_to_come values_left };
 }
 
 impl<T: Drop> OwnIter for IntoIterEitherOrBoth<T> {
-    ghost own = { λ x. refl };
+    ghost as_is = { λ x. refl };
 }
 
 impl<S: CountedIter, T: CountedIter> ListedIter for SwapIterEitherOrBoth<S, T> {
-    ghost reads = { map_places S.reads T.reads };
+    ghost view = { map_places S.view T.view };
 
-    ghost rest = { λ s. aligned (listed_at S.rest (swap_left s)) (listed_at T.rest (swap_right s)) };
+    ghost listed = { λ s. aligned (listed_at S.listed (swap_left s)) (listed_at T.listed (swap_right s)) };
 
-    ghost has_rest = { uncounted _ (map_places S.reads T.reads) (λ s. aligned (listed_at S.rest (swap_left s)) (listed_at T.rest (swap_right s)))
-        (walk_comes S.DoubleEndedIterator T.DoubleEndedIterator S.reads T.reads S.rest T.rest S.counts_rest T.counts_rest) };
+    ghost comes = { uncounted _ (map_places S.view T.view) (λ s. aligned (listed_at S.listed (swap_left s)) (listed_at T.listed (swap_right s)))
+        (walk_comes S.DoubleEndedIterator T.DoubleEndedIterator S.view T.view S.listed T.listed S.counts T.counts) };
 }
 
 impl<S: CountedIter, T: CountedIter> CountedIter for SwapIterEitherOrBoth<S, T> {
-    ghost counts_rest = { walk_comes S.DoubleEndedIterator T.DoubleEndedIterator S.reads T.reads S.rest T.rest S.counts_rest T.counts_rest };
+    ghost counts = { walk_comes S.DoubleEndedIterator T.DoubleEndedIterator S.view T.view S.listed T.listed S.counts T.counts };
 }
 
 impl<S: CountedIter + OwnIter, T: CountedIter + OwnIter> OwnIter for SwapIterEitherOrBoth<S, T> {
-    ghost own = { place_as_is S.reads T.reads S.own T.own };
+    ghost as_is = { place_as_is S.view T.view S.as_is T.as_is };
 }
 
 impl<S: ListedIter> ListedIter for ChainedIterEitherOrBoth<S> {
-    ghost reads = { S.reads };
+    ghost view = { S.view };
 
-    ghost rest = { λ s. listed_at S.rest (chain_left s) ++ listed_at S.rest (chain_right s) };
+    ghost listed = { λ s. listed_at S.listed (chain_left s) ++ listed_at S.listed (chain_right s) };
 
-    ghost has_rest = { chain_comes S.DoubleEndedIterator S.reads S.rest S.has_rest };
+    ghost comes = { chain_comes S.DoubleEndedIterator S.view S.listed S.comes };
 }
 
 impl<S: OwnIter> OwnIter for ChainedIterEitherOrBoth<S> {
-    ghost own = { S.own };
+    ghost as_is = { S.as_is };
 }
 
 /// A walk that is taken from its end gives its list, last first.
 pub fn law_rev<I: OwnIter>(_walk: &Rev<I>)
-    ensures { EachRunFrom (rev_steps I.next_back_gives) _walk.now (λ p. p.whole ≡ true → p.items ≡ reverse (I.rest (rev_source _walk.now))) }
+    ensures { EachRunFrom (rev_steps I.next_back_gives) _walk.now
+        (λ p. p.whole ≡ true → p.items ≡ reverse (I.listed (rev_source _walk.now))) }
 {}
 
 /// A walk that is taken from its front gives its list.
 pub fn law_forward<I: OwnIter>(_walk: &I)
-    ensures { EachRunFrom I.next_gives _walk.now (λ p. (p.whole ≡ true → p.items ≡ I.rest _walk.now) × (p.whole ≡ true → p.len ≡ length (I.rest _walk.now))) }
+    ensures { EachRunFrom I.next_gives _walk.now
+        (λ p. (p.whole ≡ true → p.items ≡ I.listed _walk.now)
+        × (p.whole ≡ true → p.len ≡ length (I.listed _walk.now))) }
+{}
+
+/// The item that `nth(n)` answers is the one at place `n` of the list, or `None` where the list ends before it. Called before `nth`,
+/// on the iterator.
+pub fn law_nth<I: OwnIter>(_walk: &I)
+    ensures { (n : ℕ) (r : _) → IsNthRun I.next_gives _walk.now n r → r ≡ slice_get (I.listed _walk.now) n }
 {}

@@ -10,6 +10,7 @@ ghost use Rattle.eob_both.specs.Places.{map_places};
 ghost use Rattle.eob_both.specs.Swap.{swap_left, swap_right};
 ghost use Rattle.eob_both.specs.Values.{values_of};
 ghost use Rattle.eob_both.proofs.StdEnds.{ref_to};
+ghost use Rattle.eob_known_lists.specs.Arrays.{array_comes};
 ghost use Rattle.eob_known_lists.specs.Listed.{at_same, chain_comes, deque_comes, listed_at, once_comes, place_as_is, range_comes, rev_comes, rev_counts, same_ref, slice_comes, uncounted_walk, values_come, vec_comes, walk_comes};
 
 use crate::listed::{CountedIter, ListedIter, OwnIter};
@@ -31,7 +32,8 @@ where
     // The list.
     ghost listed: { Self → List Self.Item };
 
-    ghost comes: { (x : Self) (s : Self.IntoIter) → Self.into_iter_gives x s → StillToCome Self.IntoIter.DoubleEndedIterator view (listed x) s };
+    ghost comes: { (x : Self) (s : Self.IntoIter) → Self.into_iter_gives x s
+        → StillToCome Self.IntoIter.DoubleEndedIterator view (listed x) s };
 }
 
 /// What counts its list too, as the sides of a paired walk do for its back end.
@@ -39,7 +41,8 @@ pub trait CountedListing: Listing
 where
     Self::IntoIter: DoubleEndedIterator + ExactSizeIterator,
 {
-    ghost counts: { (x : Self) (s : Self.IntoIter) → Self.into_iter_gives x s → CountedToCome Self.IntoIter.DoubleEndedIterator Self.view (Self.listed x) s };
+    ghost counts: { (x : Self) (s : Self.IntoIter) → Self.into_iter_gives x s
+        → CountedToCome Self.IntoIter.DoubleEndedIterator Self.view (Self.listed x) s };
 }
 
 /// What is walked by value: its items are the list's own.
@@ -63,6 +66,22 @@ impl<T: Drop, A: Allocator> CountedListing for Vec<T, A> {
 }
 
 impl<T: Drop, A: Allocator> OwnListing for Vec<T, A> {
+    ghost as_is = { λ x. refl };
+}
+
+impl<T: Drop, const N: usize> Listing for [T; N] {
+    ghost view = { λ x. x };
+
+    ghost listed = { λ xs. xs };
+
+    ghost comes = { uncounted_walk _ _ (λ x. x) (λ xs. xs) (λ x s e. array_comes x s e.0) };
+}
+
+impl<T: Drop, const N: usize> CountedListing for [T; N] {
+    ghost counts = { λ x s e. array_comes x s e.0 };
+}
+
+impl<T: Drop, const N: usize> OwnListing for [T; N] {
     ghost as_is = { λ x. refl };
 }
 
@@ -183,46 +202,46 @@ impl<T: Drop> OwnListing for EitherOrBoth<T, T> {
 }
 
 impl<S: CountedIter, T: CountedIter> Listing for SwapIterEitherOrBoth<S, T> {
-    ghost view = { map_places S.reads T.reads };
+    ghost view = { map_places S.view T.view };
 
-    ghost listed = { λ s. aligned (listed_at S.rest (swap_left s)) (listed_at T.rest (swap_right s)) };
+    ghost listed = { λ s. aligned (listed_at S.listed (swap_left s)) (listed_at T.listed (swap_right s)) };
 
-    ghost comes = { uncounted_walk _ _ (map_places S.reads T.reads) (λ s. aligned (listed_at S.rest (swap_left s)) (listed_at T.rest (swap_right s)))
-        (at_same _ _ (map_places S.reads T.reads) _ (walk_comes S.DoubleEndedIterator T.DoubleEndedIterator S.reads T.reads S.rest T.rest S.counts_rest T.counts_rest)) };
+    ghost comes = { uncounted_walk _ _ (map_places S.view T.view) (λ s. aligned (listed_at S.listed (swap_left s)) (listed_at T.listed (swap_right s)))
+        (at_same _ _ (map_places S.view T.view) _ (walk_comes S.DoubleEndedIterator T.DoubleEndedIterator S.view T.view S.listed T.listed S.counts T.counts)) };
 }
 
 impl<S: CountedIter, T: CountedIter> CountedListing for SwapIterEitherOrBoth<S, T> {
-    ghost counts = { at_same _ _ (map_places S.reads T.reads) _ (walk_comes S.DoubleEndedIterator T.DoubleEndedIterator S.reads T.reads S.rest T.rest S.counts_rest T.counts_rest) };
+    ghost counts = { at_same _ _ (map_places S.view T.view) _ (walk_comes S.DoubleEndedIterator T.DoubleEndedIterator S.view T.view S.listed T.listed S.counts T.counts) };
 }
 
 impl<S: CountedIter + OwnIter, T: CountedIter + OwnIter> OwnListing for SwapIterEitherOrBoth<S, T> {
-    ghost as_is = { place_as_is S.reads T.reads S.own T.own };
+    ghost as_is = { place_as_is S.view T.view S.as_is T.as_is };
 }
 
 impl<S: ListedIter> Listing for ChainedIterEitherOrBoth<S> {
-    ghost view = { S.reads };
+    ghost view = { S.view };
 
-    ghost listed = { λ s. listed_at S.rest (chain_left s) ++ listed_at S.rest (chain_right s) };
+    ghost listed = { λ s. listed_at S.listed (chain_left s) ++ listed_at S.listed (chain_right s) };
 
-    ghost comes = { at_same _ _ S.reads _ (chain_comes S.DoubleEndedIterator S.reads S.rest S.has_rest) };
+    ghost comes = { at_same _ _ S.view _ (chain_comes S.DoubleEndedIterator S.view S.listed S.comes) };
 }
 
 impl<S: OwnIter> OwnListing for ChainedIterEitherOrBoth<S> {
-    ghost as_is = { S.own };
+    ghost as_is = { S.as_is };
 }
 
 impl<I: ListedIter> Listing for Rev<I> {
-    ghost view = { I.reads };
+    ghost view = { I.view };
 
-    ghost listed = { λ s. reverse (I.rest (rev_source s)) };
+    ghost listed = { λ s. reverse (I.listed (rev_source s)) };
 
-    ghost comes = { at_same _ _ I.reads _ (rev_comes I.DoubleEndedIterator I.reads I.rest I.has_rest) };
+    ghost comes = { at_same _ _ I.view _ (rev_comes I.DoubleEndedIterator I.view I.listed I.comes) };
 }
 
 impl<I: CountedIter> CountedListing for Rev<I> {
-    ghost counts = { at_same _ _ I.reads _ (rev_counts I.DoubleEndedIterator I.reads I.rest I.counts_rest) };
+    ghost counts = { at_same _ _ I.view _ (rev_counts I.DoubleEndedIterator I.view I.listed I.counts) };
 }
 
 impl<I: OwnIter> OwnListing for Rev<I> {
-    ghost as_is = { I.own };
+    ghost as_is = { I.as_is };
 }
