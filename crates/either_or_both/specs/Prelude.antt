@@ -1,10 +1,11 @@
 -- The words that clauses over these libraries cite, passed on from one place, the standard library's among them. Declares nothing.
+-- Operators, such as ◌≡◌, are not passed on: the gate takes them from the standard library's Prelude alone, so that a reader knows them.
 -- The words of `Either` that have the same names as those of `EitherOrBoth` stay in `Either`, as do those of its text and order.
-pub use Rattle.std.specs.Prelude.{◌≡◌, ℕ, zero, suc, pred, ◌+◌, ◌-◌, ◌*◌, ◌/◌, ◌%◌, ◌^◌, ◌<◌, ◌≤◌, min, max, Bool, true, false, cond, not, ◌&&◌, ◌||◌}
-pub use Rattle.std.specs.Prelude.{T, eqb, ltb, leb, ◌≢◌, ◌⊎◌, ◌↔◌, List, [], ◌∷◌, ◌++◌, map, reverse, length, get_or, take, drop, set, replicate, ℤ}
-pub use Rattle.std.specs.Prelude.{pos, negsuc, ◌+ℤ◌, ◌-ℤ◌, ◌*ℤ◌, neg_ℤ, nat_abs, ◌≤ℤ◌, ◌<ℤ◌, is_some, is_none, SomeIff, OkIff, IsSomeAnd, IfSome}
-pub use Rattle.std.specs.Prelude.{IfNone, is_ok, is_err, IsOkAnd, IsErrAnd, IfOk, IfErr, if◌then◌else◌, OnSome, OnOk, OnErr, IsOkUnless, IsSome}
-pub use Rattle.std.specs.Prelude.{IsNone, IsOk, IsErr, IsTrue, IsFalse, nat_eq, nat_lt, nat_le, ◌==◌, slice_get, slice_index, slice_index_or}
+pub use Rattle.std.specs.Prelude.{ℕ, zero, suc, pred, min, max, Bool, true, false, cond, not}
+pub use Rattle.std.specs.Prelude.{T, eqb, ltb, leb, List, [], map, reverse, length, get_or, take, drop, set, replicate, ℤ}
+pub use Rattle.std.specs.Prelude.{pos, negsuc, neg_ℤ, nat_abs, is_some, is_none, SomeIff, OkIff, IsSomeAnd, IfSome}
+pub use Rattle.std.specs.Prelude.{IfNone, is_ok, is_err, IsOkAnd, IsErrAnd, IfOk, IfErr, OnSome, OnOk, OnErr, IsOkUnless, IsSome}
+pub use Rattle.std.specs.Prelude.{IsNone, IsOk, IsErr, IsTrue, IsFalse, nat_eq, nat_lt, nat_le, slice_get, slice_index, slice_index_or}
 pub use Rattle.std.specs.Prelude.{slice_set, slice_range, EachIndex, SomeIndex, bit_and, bit_or, bit_xor, count_ones, unsigned_abs, int_lt, int_le}
 pub use Rattle.std.specs.Prelude.{int_div, int_rem, FitsSigned, is_nan, to_bits, from_bits, MatchOption, MatchResult, ⊤, Some, None, Ok, Err, Option}
 pub use Rattle.std.specs.Prelude.{Result, Vec, String, Box, vec_items, vec_len, string_bytes, string_len, string_eq, string_cmp, box_value, codes}
