@@ -1,10 +1,10 @@
 -- The chain has the lists of its sides still to come, the left one first.
-use Rattle.std.proofs.Common.{◌≡◌, ℕ, zero, suc, ◌+◌, List, [], ◌∷◌, ◌++◌, length, Option, Some, None, MatchOption, IsSomeAnd, refl, sym, ap, ap₂, subst, ◌∙◌, append_assoc, append-nil, rules}
+use Rattle.std.proofs.Common.{◌≡◌, ℕ, zero, suc, ◌+◌, List, [], ◌∷◌, ◌++◌, length, Option, Some, None, MatchOption, refl, sym, ap, ap₂, subst, ◌∙◌, append_assoc, append-nil, rules}
 use Rattle.std.proofs.lemmas.List.{length-append}
 use Rattle.std.specs.Iterator.{Count, at_most, count_add, AlwaysYields}
 use Rattle.eob_both.specs.declared.iter.chain.ChainedIterEitherOrBoth.{ChainedIterEitherOrBoth}
-use Rattle.eob_both.specs.Side.{side_steps}
-use Rattle.eob_both.specs.Ends.{Ends, FirstTaken, LastTaken, HasBound, IsExactly, HoldsFor, ToCome, StillToCome, CountedToCome, SideToCome, PlaceToCome, SideYields}
+use Rattle.eob_both.specs.Side.{side_steps, IsSideOf}
+use Rattle.eob_both.specs.Ends.{Ends, FirstTaken, LastTaken, HasBound, HoldsFor, ToCome, StillToCome, SideToCome, PlaceToCome, SideYields}
 use Rattle.eob_both.specs.Chain.{chain_left, chain_right, chain_steps, chain_steps_back, chain_ends, ChainYields, ChainToCome}
 use Rattle.eob_both.proofs.EndsLemmas.{side_of_place}
 use Rattle.eob_both.proofs.StepLemmas.{TakesFront, TakesBack, SideHolds, side_fewer, side_counted, side_callable, side_callable_back, side_front, side_back, side_of_all, side_to_come_back, side_yields_front}
@@ -62,27 +62,16 @@ module _ {S A B : Type 0} (C : Count → ℕ → Type 0) (none : C (at_most 0) 0
 finite_adds : (c d : Count) (n m : ℕ) → HasBound c n → HasBound d m → HasBound (count_add c d) (n + m)
 finite_adds c d n m a b = search rules
 
-exact_adds : (c d : Count) (n m : ℕ) → IsExactly c n → IsExactly d m → IsExactly (count_add c d) (n + m)
-exact_adds c d n m a b = ap₂ count_add a b
-
 module _ {S A B : Type 0} (it : Ends S A) (v : A → B) where
   -- where the sides have p and q still to come, the chain has p and then q
   pub chain_to_come : (p q : List B) (s : ChainedIterEitherOrBoth S) → SideToCome HasBound it v p (chain_left s) → SideToCome HasBound it v q (chain_right s) → StillToCome (chain_ends it) v (p ++ q) s
   chain_to_come = chain_of_sides HasBound tt finite_adds it v
 
-  -- and counts them exactly where the sides do
-  pub chain_counted : (p q : List B) (s : ChainedIterEitherOrBoth S) → SideToCome IsExactly it v p (chain_left s) → SideToCome IsExactly it v q (chain_right s) → CountedToCome (chain_ends it) v (p ++ q) s
-  chain_counted = chain_of_sides IsExactly refl exact_adds it v
-
 -- where the places of a pair are to give p and q, the chain that is made of them has p and then q still to come
 pub chain_of_places : {X S A B : Type 0} (gives : X → S → Type 0) (it : Ends S A) (v : A → B) (p q : List B) (place other : Option X) (s : ChainedIterEitherOrBoth S) → PlaceToCome gives HasBound it v p place → PlaceToCome gives HasBound it v q other
-    → MatchOption place (chain_left s ≡ None) (λ x. IsSomeAnd (chain_left s) (gives x)) → MatchOption other (chain_right s ≡ None) (λ y. IsSomeAnd (chain_right s) (gives y))
+    → IsSideOf gives place (chain_left s) → IsSideOf gives other (chain_right s)
     → StillToCome (chain_ends it) v (p ++ q) s
 chain_of_places gives it v p q place other s a b made made' = chain_to_come it v p q s (side_of_place gives HasBound it v p place (chain_left s) a made) (side_of_place gives HasBound it v q other (chain_right s) b made')
-
--- the same of a chain over two sides
-pub chain_both : {S A B : Type 0} {it : Ends S A} {v : A → B} {p q : List B} (z : ChainedIterEitherOrBoth S) {s t : S} → chain_left z ≡ Some s → chain_right z ≡ Some t → StillToCome it v p s → StillToCome it v q t → StillToCome (chain_ends it) v (p ++ q) z
-chain_both {it = it} {v = v} {p = p} {q = q} z l r a b = chain_to_come it v p q z (subst (SideToCome HasBound it v p) (sym l) a) (subst (SideToCome HasBound it v q) (sym r) b)
 
 head_same : {B : Type 0} {x y : B} {xs ys : List B} → x ∷ xs ≡ y ∷ ys → x ≡ y
 head_same e = cc

@@ -2,7 +2,7 @@
 use Rattle.std.proofs.Common.{◌≡◌, Bool, true, false, List, [], ◌∷◌, ◌++◌, map, length, slice_get, Option, Some, None, MatchOption, IsSomeAnd, refl, sym, ap, ap₂, subst, ◌∙◌, append-nil, arith}
 use Rattle.std.proofs.lemmas.List.{length-append}
 use Rattle.std.specs.Iterator.{DrainsIf}
-use Rattle.std.specs.Iterator.Runs.{Run, SomeRun, WholeRun, EachRunFrom}
+use Rattle.std.specs.Iterator.Runs.{Run, SomeRun, EachRunFrom}
 use Rattle.std.specs.Option.{option_to_list}
 use Rattle.std.proofs.lemmas.Iterator.{YieldsList, items_from_drains}
 use Rattle.std.proofs.iter.runs.Made.{run, took, at-is}
@@ -11,12 +11,12 @@ use Rattle.eob_both.specs.declared.either_or_both.EitherOrBoth.TheVariants.{Left
 use Rattle.eob_both.specs.declared.iter.swap.SwapIterEitherOrBoth.{SwapIterEitherOrBoth}
 use Rattle.eob_both.specs.declared.iter.chain.ChainedIterEitherOrBoth.{ChainedIterEitherOrBoth}
 use Rattle.eob_both.specs.Places.{left_place, right_place, item_left, item_right, map_places}
-use Rattle.eob_both.specs.Side.{side_steps}
+use Rattle.eob_both.specs.Side.{side_steps, IsSideOf}
 use Rattle.eob_both.specs.Swap.{swap_left, swap_right, swap_steps}
 use Rattle.eob_both.specs.Chain.{chain_left, chain_right, chain_steps}
 use Rattle.eob_both.specs.Aligned.{aligned}
 use Rattle.eob_both.specs.Runs.{IsSwapRun, IsLeftRun, IsRightRun, SwapsRuns, IsInTurnRun, IsLoneRun, ChainsRuns}
-use Rattle.eob_both.proofs.AlignedLemmas.{left_at, right_at, aligned-nil, length-aligned, aligned-map, places_as_they_are}
+use Rattle.eob_both.proofs.AlignedLemmas.{left_at, right_at, aligned-nil, length-aligned}
 
 never : false ≡ true → ⊥
 never e = cc
@@ -128,7 +128,7 @@ module _ {S T A B : Type 0} (firsts : S → Option A → S → Type 0) (seconds 
     made' None y h = elim h [ ]
 
     -- what `into_iter_swap` promises of the sides says what the runs of its walk are
-    pub swap_runs : (v : EitherOrBoth X Y) (z : Walk) → MatchOption (left_place v) (swap_left z ≡ None) (λ x. IsSomeAnd (swap_left z) (gives x)) → MatchOption (right_place v) (swap_right z ≡ None) (λ y. IsSomeAnd (swap_right z) (others y))
+    pub swap_runs : (v : EitherOrBoth X Y) (z : Walk) → IsSideOf gives (left_place v) (swap_left z) → IsSideOf others (right_place v) (swap_right z)
         → SwapsRuns gives others firsts seconds v z
     swap_runs (Left x) z l r = let a = made (swap_left z) x l in (a.0, a.1, a.2, r, left_runs z a.0 a.2 r)
     swap_runs (Both x y) z l r =
@@ -137,36 +137,11 @@ module _ {S T A B : Type 0} (firsts : S → Option A → S → Type 0) (seconds 
         (a.0, b.0, a.1, b.1, a.2, b.2, both_runs z a.0 b.0 a.2 b.2)
     swap_runs (Right y) z l r = let b = made' (swap_right z) y r in (b.0, b.1, l, b.2, right_runs z b.0 l b.2)
 
--- a whole run of the walk over two iterators: whole runs of both, side by side
-pub whole_of_swap : {S T A B : Type 0} (firsts : S → Option A → S → Type 0) (seconds : T → Option B → T → Type 0) (s : S) (t : T) (z : SwapIterEitherOrBoth S T) (Q : List (EitherOrBoth A B) → Type 0)
-    → SwapsRuns (λ x y. y ≡ x) (λ x y. y ≡ x) firsts seconds (Both s t) z → WholeRun (swap_steps firsts seconds) z (λ p. Q p.items)
-    → WholeRun firsts s (λ a. WholeRun seconds t (λ b. Q (aligned a.items b.items)))
-whole_of_swap firsts seconds s t z Q h e =
-    let k = h.6 e.0 e.0.seen e.1 in
-    let ends = k.2.2.2 e.2 in
-    (k.0, k.1 ∙ h.2, ends.0, (k.2.0, k.2.1 ∙ h.3, ends.1, subst Q k.2.2.1 e.3))
-
 -- the items of a whole run, where each run gives the list xs
 pub whole_items : {S A B : Type 0} {steps : S → Option A → S → Type 0} {v : A → B} {s : S} {xs : List B} (p : Run steps) → p.from ≡ s → p.whole ≡ true → YieldsList steps v s xs → map v p.items ≡ xs
 whole_items {steps = steps} p from w h =
     let d = subst (λ u. DrainsIf steps (p.whole ≡ true) u p.items) from (took p) in
     items_from_drains p.items (d.0, d.1, λ _. d.2 w) h
-
--- what a whole run of the walk gave, where the sides give the lists xs and ys
-module _ {S T A B C D : Type 0} {firsts : S → Option A → S → Type 0} {seconds : T → Option B → T → Type 0} {s : S} {t : T} where
-  pub swap_listed : {v : A → C} {w : B → D} {xs : List C} {ys : List D} (z : SwapIterEitherOrBoth S T) (l : List (EitherOrBoth A B)) → YieldsList firsts v s xs → YieldsList seconds w t ys
-      → EachRunFrom (swap_steps firsts seconds) z (λ p. SomeRun firsts s (λ a. SomeRun seconds t (λ b. IsSwapRun p a b)))
-      → WholeRun (swap_steps firsts seconds) z (λ p. l ≡ p.items) → map (map_places v w) l ≡ aligned xs ys
-  swap_listed {v = v} {w = w} z l f g each e =
-      let k = each e.0 e.0.seen e.1 in
-      let ends = k.2.2.2 e.2 in
-      ap (map (map_places v w)) (e.3 ∙ k.2.2.1) ∙ aligned-map v w k.0.items k.2.0.items ∙ ap₂ aligned (whole_items k.0 k.1 ends.0 f) (whole_items k.2.0 k.2.1 ends.1 g)
-
--- the same, where the items are the elements of the lists
-pub swap_items : {S T A B : Type 0} {firsts : S → Option A → S → Type 0} {seconds : T → Option B → T → Type 0} {s : S} {t : T} {xs : List A} {ys : List B} (z : SwapIterEitherOrBoth S T) (l : List (EitherOrBoth A B))
-    → YieldsList firsts (λ x. x) s xs → YieldsList seconds (λ y. y) t ys → EachRunFrom (swap_steps firsts seconds) z (λ p. SomeRun firsts s (λ a. SomeRun seconds t (λ b. IsSwapRun p a b)))
-    → WholeRun (swap_steps firsts seconds) z (λ p. l ≡ p.items) → l ≡ aligned xs ys
-swap_items z l f g each e = sym (places_as_they_are l) ∙ swap_listed z l f g each e
 
 module _ {S A : Type 0} (steps : S → Option A → S → Type 0) where
   abbrev Chained : Type 0
@@ -242,7 +217,7 @@ module _ {S A : Type 0} (steps : S → Option A → S → Type 0) where
     holder None x h = elim h [ ]
 
     -- what `into_iter_chain` promises of the sides says what the runs of its walk are
-    pub chain_runs : (v : EitherOrBoth X X) (z : Chained) → MatchOption (left_place v) (chain_left z ≡ None) (λ x. IsSomeAnd (chain_left z) (gives x)) → MatchOption (right_place v) (chain_right z ≡ None) (λ y. IsSomeAnd (chain_right z) (gives y))
+    pub chain_runs : (v : EitherOrBoth X X) (z : Chained) → IsSideOf gives (left_place v) (chain_left z) → IsSideOf gives (right_place v) (chain_right z)
         → ChainsRuns gives steps v z
     chain_runs (Left x) z l r = let a = holder (chain_left z) x l in (a.0, a.1, a.2, r, lone_left z a.0 a.2 r)
     chain_runs (Both x y) z l r =
@@ -253,23 +228,23 @@ module _ {S A : Type 0} (steps : S → Option A → S → Type 0) where
 
 -- a pair of references, and what stands behind them: what a place of references was made into is made from a reference to the value there
 module _ {P Q X Y S : Type 0} (now : P → X) (other : Q → Y) (gives : P → S → Type 0) where
-  left_of_ref : (r : EitherOrBoth P Q) (o : Option S) → MatchOption (left_place r) (o ≡ None) (λ p. IsSomeAnd o (gives p)) → MatchOption (left_place (map_places now other r)) (o ≡ None) (λ x. IsSomeAnd o (λ s. (p : P) × (now p ≡ x) × gives p s))
+  left_of_ref : (r : EitherOrBoth P Q) (o : Option S) → IsSideOf gives (left_place r) o → IsSideOf (λ x s. (p : P) × (now p ≡ x) × gives p s) (left_place (map_places now other r)) o
   left_of_ref (Left p) (Some s) h = (p, refl, h)
   left_of_ref (Left p) None h = elim h [ ]
   left_of_ref (Both p q) (Some s) h = (p, refl, h)
   left_of_ref (Both p q) None h = elim h [ ]
   left_of_ref (Right q) o h = h
 
-  pub left_behind : (r : EitherOrBoth P Q) (v : EitherOrBoth X Y) (o : Option S) → map_places now other r ≡ v → MatchOption (left_place r) (o ≡ None) (λ p. IsSomeAnd o (gives p)) → MatchOption (left_place v) (o ≡ None) (λ x. IsSomeAnd o (λ s. (p : P) × (now p ≡ x) × gives p s))
-  left_behind r v o e h = subst (λ w. MatchOption (left_place w) (o ≡ None) (λ x. IsSomeAnd o (λ s. (p : P) × (now p ≡ x) × gives p s))) e (left_of_ref r o h)
+  pub left_behind : (r : EitherOrBoth P Q) (v : EitherOrBoth X Y) (o : Option S) → map_places now other r ≡ v → IsSideOf gives (left_place r) o → IsSideOf (λ x s. (p : P) × (now p ≡ x) × gives p s) (left_place v) o
+  left_behind r v o e h = subst (λ w. IsSideOf (λ x s. (p : P) × (now p ≡ x) × gives p s) (left_place w) o) e (left_of_ref r o h)
 
 module _ {P Q X Y T : Type 0} (other : P → X) (now : Q → Y) (gives : Q → T → Type 0) where
-  right_of_ref : (r : EitherOrBoth P Q) (o : Option T) → MatchOption (right_place r) (o ≡ None) (λ q. IsSomeAnd o (gives q)) → MatchOption (right_place (map_places other now r)) (o ≡ None) (λ y. IsSomeAnd o (λ t. (q : Q) × (now q ≡ y) × gives q t))
+  right_of_ref : (r : EitherOrBoth P Q) (o : Option T) → IsSideOf gives (right_place r) o → IsSideOf (λ y t. (q : Q) × (now q ≡ y) × gives q t) (right_place (map_places other now r)) o
   right_of_ref (Left p) o h = h
   right_of_ref (Both p q) (Some t) h = (q, refl, h)
   right_of_ref (Both p q) None h = elim h [ ]
   right_of_ref (Right q) (Some t) h = (q, refl, h)
   right_of_ref (Right q) None h = elim h [ ]
 
-  pub right_behind : (r : EitherOrBoth P Q) (v : EitherOrBoth X Y) (o : Option T) → map_places other now r ≡ v → MatchOption (right_place r) (o ≡ None) (λ q. IsSomeAnd o (gives q)) → MatchOption (right_place v) (o ≡ None) (λ y. IsSomeAnd o (λ t. (q : Q) × (now q ≡ y) × gives q t))
-  right_behind r v o e h = subst (λ w. MatchOption (right_place w) (o ≡ None) (λ y. IsSomeAnd o (λ t. (q : Q) × (now q ≡ y) × gives q t))) e (right_of_ref r o h)
+  pub right_behind : (r : EitherOrBoth P Q) (v : EitherOrBoth X Y) (o : Option T) → map_places other now r ≡ v → IsSideOf gives (right_place r) o → IsSideOf (λ y t. (q : Q) × (now q ≡ y) × gives q t) (right_place v) o
+  right_behind r v o e h = subst (λ w. IsSideOf (λ y t. (q : Q) × (now q ≡ y) × gives q t) (right_place w) o) e (right_of_ref r o h)

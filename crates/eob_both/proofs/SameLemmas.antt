@@ -1,5 +1,5 @@
 -- Contents with no key twice, collected again: they are the same.
-use Rattle.std.proofs.Common.{◌≡◌, Bool, true, false, not, cond, filter, length, List, [], ◌∷◌, Option, Some, None, is_some, unwrap_or, refl, sym, ap, subst, ◌∙◌}
+use Rattle.std.proofs.Common.{◌≡◌, Bool, true, false, not, cond, filter, List, [], ◌∷◌, Option, Some, None, is_some, unwrap_or, refl, ap, subst, ◌∙◌}
 use Rattle.std.proofs.lemmas.List.{length-map}
 use Rattle.std.proofs.lemmas.Cmp.{eq_by_cmp_equiv}
 use Rattle.std.proofs.lemmas.Map.Keys.{IsDistinct-from_sorted, IsDistinct-head, IsDistinct-tail}
@@ -18,10 +18,6 @@ use Rattle.eob_both.specs.Places.{left_place, right_place, map_places}
 use Rattle.eob_both.specs.Sides.{lefts, rights, pair_of}
 use Rattle.eob_both.specs.Contents.{first_items, first_list, last_value, AreFirstItems, AreMembers, AreRisingMembers, AreSameMembers, AreSameRisingMembers, IsFirstList, IsLastMap, IsRisingMap, IsSameMap, IsSameRisingMap}
 use Rattle.eob_both.proofs.ContentLemmas.{last_value-cons}
-
-pub IsDistinct-nil : {K : Type 0} (eq : K → K → Bool) → IsDistinct eq []
-unfolding IsDistinct
-IsDistinct-nil eq = tt
 
 module _ {K : Type 0} (eq : K → K → Bool) (laws : IsEquivalence eq) where
   all_pass : (x : K) (xs : List K) → AllByRecursion (λ y. eq x y ≡ false) xs → filter (λ y. not (eq x y)) xs ≡ xs

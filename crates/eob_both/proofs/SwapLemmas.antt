@@ -1,5 +1,5 @@
 -- The paired walk has the aligned list of its sides still to come.
-use Rattle.std.proofs.Common.{◌≡◌, ℕ, zero, suc, ◌+◌, List, [], ◌∷◌, ◌++◌, map, length, Option, Some, None, MatchOption, IsSomeAnd, refl, sym, ap, ap₂, subst, inl, inr, ◌∙◌, arith}
+use Rattle.std.proofs.Common.{◌≡◌, ℕ, zero, suc, ◌+◌, List, [], ◌∷◌, ◌++◌, map, length, Option, Some, None, refl, sym, ap, ap₂, subst, inl, inr, ◌∙◌, arith}
 use Rattle.std.proofs.lemmas.Bool.{cases_lt}
 use Rattle.std.proofs.lemmas.List.{length-append}
 use Rattle.std.specs.Iterator.{Count, at_most, AlwaysYields}
@@ -8,7 +8,7 @@ use Rattle.eob_both.specs.declared.either_or_both.EitherOrBoth.TheVariants.{Left
 use Rattle.eob_both.specs.declared.iter.swap.SwapIterEitherOrBoth.{SwapIterEitherOrBoth}
 use Rattle.eob_both.specs.Places.{map_places}
 use Rattle.eob_both.specs.Aligned.{aligned}
-use Rattle.eob_both.specs.Side.{count_max}
+use Rattle.eob_both.specs.Side.{count_max, IsSideOf}
 use Rattle.eob_both.specs.Ends.{Ends, FirstTaken, LastTaken, IsExactly, HoldsFor, CountedToCome, SideToCome, PlaceToCome, SideYields}
 use Rattle.eob_both.specs.Swap.{swap_left, swap_right, swap_steps, swap_steps_back, swap_ends, SwapYields, SwapToCome}
 use Rattle.eob_both.proofs.EndsLemmas.{side_of_place}
@@ -137,15 +137,10 @@ module _ {S T A B C D : Type 0} (it : Ends S A) (jt : Ends T B) (v : A → C) (w
 -- where the places of a pair are to give p and q, the walk that is made of them has the two aligned still to come
 pub swap_of_places : {X Y S T A B C D : Type 0} (gives : X → S → Type 0) (others : Y → T → Type 0) (it : Ends S A) (jt : Ends T B) (v : A → C) (w : B → D) (p : List C) (q : List D) (place : Option X) (other : Option Y) (s : SwapIterEitherOrBoth S T)
     → PlaceToCome gives IsExactly it v p place → PlaceToCome others IsExactly jt w q other
-    → MatchOption place (swap_left s ≡ None) (λ x. IsSomeAnd (swap_left s) (gives x)) → MatchOption other (swap_right s ≡ None) (λ y. IsSomeAnd (swap_right s) (others y))
+    → IsSideOf gives place (swap_left s) → IsSideOf others other (swap_right s)
     → CountedToCome (swap_ends it jt) (map_places v w) (aligned p q) s
 swap_of_places gives others it jt v w p q place other s a b made made' =
     swap_to_come it jt v w p q s (side_of_place gives IsExactly it v p place (swap_left s) a made) (side_of_place others IsExactly jt w q other (swap_right s) b made')
-
--- the same of a walk over two sides
-pub swap_both : {S T A B C D : Type 0} {it : Ends S A} {jt : Ends T B} {v : A → C} {w : B → D} {p : List C} {q : List D} (z : SwapIterEitherOrBoth S T) {s : S} {t : T} → swap_left z ≡ Some s → swap_right z ≡ Some t
-    → CountedToCome it v p s → CountedToCome jt w q t → CountedToCome (swap_ends it jt) (map_places v w) (aligned p q) z
-swap_both {it = it} {jt = jt} {v = v} {w = w} {p = p} {q = q} z l r a b = swap_to_come it jt v w p q z (subst (SideToCome IsExactly it v p) (sym l) a) (subst (SideToCome IsExactly jt w q) (sym r) b)
 
 module _ {S T A B C D : Type 0} (firsts : S → Option A → S → Type 0) (seconds : T → Option B → T → Type 0) (v : A → C) (w : B → D) where
   abbrev Gives : List (EitherOrBoth C D) → SwapIterEitherOrBoth S T → Type 0

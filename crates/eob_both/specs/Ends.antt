@@ -1,6 +1,9 @@
 -- The list that an iterator has still to come, taken from either end.
-use Rattle.std.specs.Prelude.{◌≡◌, ℕ, zero, suc, List, [], ◌∷◌, ◌++◌, map, reverse, length, Option, Some, None, MatchOption, ⊤}
+use Rattle.std.specs.Prelude.{◌≡◌, ℕ, zero, suc, ◌-◌, List, [], ◌∷◌, ◌++◌, map, reverse, length, Option, Some, None, MatchOption, ⊤}
+use Rattle.std.specs.Borrow.{Bor}
 use Rattle.std.specs.Iterator.{Count, IsFinite, at_most, AlwaysYields}
+use Rattle.std.specs.List.{range_with_len}
+use Rattle.std.specs.declared.ops.Range.{Range}
 
 -- the words of an iterator with both ends, as a bound `I: DoubleEndedIterator` gives them by `I.DoubleEndedIterator`
 abbrev pub Ends : Type 0 → Type 0 → Type 1
@@ -73,3 +76,11 @@ pub record TakenApart {S A B : Type 0} (C : Count → ℕ → Type 0) (it : Ends
 abbrev pub SideYields : {S A B : Type 0} → (S → Option A → S → Type 0) → (A → B) → List B → Option S → Type 0
 SideYields steps view xs None = xs ≡ []
 SideYields steps view xs (Some s) = AlwaysYields steps view s xs
+
+-- a range of unsigned numbers has those from its start up to its end
+abbrev pub range_rest : Range ℕ → List ℕ
+range_rest s = range_with_len s.start (s.end - s.start)
+
+-- a reference to a value, as a view of references takes each to
+abbrev pub ref_to : {X : Type 0} → X → Bor X
+ref_to x = record { ref_ptr = (0, 0); now = x }

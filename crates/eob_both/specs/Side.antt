@@ -1,6 +1,10 @@
 -- A side of a walk: an iterator that is given up once it has answered `None`.
-use Rattle.std.specs.Prelude.{◌≡◌, ℕ, max, false, if◌then◌else◌, Option, Some, None, MatchOption}
+use Rattle.std.specs.Prelude.{◌≡◌, ℕ, max, false, if◌then◌else◌, Option, Some, None, MatchOption, IsSomeAnd}
 use Rattle.std.specs.Iterator.{Count, at_most, size}
+
+-- a side is absent where the place is, and else it is what the value of the place was made into
+abbrev pub IsSideOf : {X S : Type 0} → (X → S → Type 0) → Option X → Option S → Type 0
+IsSideOf gives place side = MatchOption place (side ≡ None) (λ x. IsSomeAnd side (gives x))
 
 -- a call of a side: one that is there takes the step, and is given up where that gives `None`
 abbrev pub side_steps : {S A : Type 0} → (S → Option A → S → Type 0) → Option S → Option A → Option S → Type 0

@@ -1,9 +1,9 @@
 use Rattle.std.proofs.Common.{refl, sym, ◌∙◌}
 use Rattle.std.proofs.lemmas.List.{map-id}
-use Rattle.eob_both.specs.Ends.{IsExactly}
+use Rattle.eob_both.specs.Ends.{IsExactly, range_rest}
 use Rattle.eob_both.proofs.EndsLemmas.{to_come_forward}
 use Rattle.eob_both.proofs.RunLemmas.{whole_items}
-use Rattle.eob_both.proofs.StdEnds.{range_ends, range_rest, range_to_come}
+use Rattle.eob_both.proofs.StdEnds.{range_ends, range_to_come}
 use Rattle.eob_both.proofs.laws.walks.law_range.Goals as goal
 
 pub returns : goal.returns
