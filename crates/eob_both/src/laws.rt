@@ -1,5 +1,5 @@
-//! What holds of all lists and of all walks: each law is a public function that does nothing, and whose contract says it. A caller
-//! calls one to learn it.
+//! What holds of all lists and of all iterators of this crate. Each law is a public function that does nothing, and whose contract
+//! says it: a caller calls it so that its own proof knows it. A call costs nothing when the program runs.
 
 mod contents;
 mod walks;

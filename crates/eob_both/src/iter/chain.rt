@@ -1,6 +1,6 @@
-//! The chain: the left side, and then the right one.
+//! The iterator over the left side, and then over the right one.
 //!
-//! It holds two optional sides of one type. `next` asks the left one first, and `next_back` the right one.
+//! It holds two optional sides of one type. `next` polls the left one first, and `next_back` the right one.
 ghost use Rattle.std.specs.Prelude.{◌≡◌, None, IfSome, IsSomeAnd};
 ghost use Rattle.std.specs.Iterator.{UpTo};
 ghost use Rattle.std.specs.Iterator.SizeHint.{IsWithinCount};
@@ -9,9 +9,19 @@ ghost use Rattle.eob_both.specs.Chain.{chain_left, chain_right, chain_can, chain
 use super::side::{hint_of, next_back_of, next_of, sum_hint};
 use std::iter::FusedIterator;
 
-/// The items of the left iterator, and then those of the right one.
+/// An iterator over the items of one iterator, and then over those of another: of the left side and of the right one, of which one
+/// may be absent. From the back it takes the right side's items first.
 ///
-/// An iterator that has answered `None` is given up and asked no more.
+/// An inner iterator that has returned `None` is dropped and not polled again. See
+/// [`into_iter_chain`](crate::EitherOrBoth::into_iter_chain).
+///
+/// # Examples
+///
+/// ```
+/// let items = EitherOrBoth::Both([1, 2], [3, 4]).into_iter_chain();
+/// assert!(rt; items.eq([1, 2, 3, 4]));
+/// ```
+#[must_use = "iterators are lazy and do nothing unless consumed"]
 #[derive(Debug, Clone, PartialEq, Eq, Drop)]
 pub struct ChainedIterEitherOrBoth<T> {
     left: Option<T>,
@@ -27,10 +37,17 @@ impl<T> ChainedIterEitherOrBoth<T> {
     }
 }
 
-/// The walk over the default of the inner iterator, as of a left side alone.
 impl<T: Default> Default for ChainedIterEitherOrBoth<T> {
     ghost is_default = { λ s. IsSomeAnd (chain_left s) T.is_default × (chain_right s ≡ None) };
 
+    /// Returns a chain of the default of the inner iterator, as its left side, and no right side.
+    ///
+    /// # Examples
+    ///
+    /// ```
+    /// let mut items = ChainedIterEitherOrBoth::<std::slice::Iter<u8>>::default();
+    /// assert_eq!(rt; items.next(), None);
+    /// ```
     fn default() -> Self {
         ChainedIterEitherOrBoth::new(Some(T::default()), None)
     }
@@ -45,6 +62,14 @@ impl<T: Iterator> Iterator for ChainedIterEitherOrBoth<T> {
 
     ghost remaining = { chain_remaining T.remaining };
 
+    /// Returns the next item of the left side, or of the right one once the left one has none left.
+    ///
+    /// # Examples
+    ///
+    /// ```
+    /// let mut items = EitherOrBoth::Both([1], [2]).into_iter_chain();
+    /// assert_eq!(rt; (items.next(), items.next(), items.next()), (Some(1), Some(2), None));
+    /// ```
     #[inline(always)]
     fn next(&mut self) -> Option<Self::Item> {
         match &mut self.left {
@@ -59,6 +84,14 @@ impl<T: Iterator> Iterator for ChainedIterEitherOrBoth<T> {
         }
     }
 
+    /// Returns the sums of the two sides' bounds: the lower one at most `usize::MAX`, the upper one if both sides have one and
+    /// their sum fits.
+    ///
+    /// # Examples
+    ///
+    /// ```
+    /// assert_eq!(rt; EitherOrBoth::Both([1, 2], [3, 4]).into_iter_chain().size_hint(), (4, Some(4)));
+    /// ```
     fn size_hint(&self) -> (usize, Option<usize>)
         ensures lower { IsWithinCount result.0 (chain_remaining T.remaining self.now) }
         ensures upper { IfSome result.1 (UpTo (chain_remaining T.remaining self.now)) }
@@ -73,6 +106,14 @@ impl<T: DoubleEndedIterator> DoubleEndedIterator for ChainedIterEitherOrBoth<T> 
 
     ghost next_back_gives = { chain_steps_back T.next_back_gives };
 
+    /// Returns the last item of the right side, or of the left one once the right one has none left.
+    ///
+    /// # Examples
+    ///
+    /// ```
+    /// let mut items = EitherOrBoth::Both([1], [2]).into_iter_chain();
+    /// assert_eq!(rt; (items.next_back(), items.next_back(), items.next_back()), (Some(2), Some(1), None));
+    /// ```
     #[inline(always)]
     fn next_back(&mut self) -> Option<Self::Item> {
         match &mut self.right {

@@ -1,8 +1,8 @@
-//! What a walk asks of a side: its next item from either end, the number of its items, and its hint; and the hints of two sides
-//! taken together.
+//! What an iterator over two sides needs of one: its next item from either end, the number of its items, and its size hint; and the
+//! size hints of two sides taken together.
 //!
-//! A side is an optional iterator. One that has answered `None` is given up, that is dropped, and asked no more: nothing is known
-//! of an iterator after its `None`.
+//! A side is an optional iterator. One that has returned `None` is dropped and not polled again: nothing is known of an iterator
+//! after its `None`.
 ghost use Rattle.std.specs.Prelude.{◌≡◌, IfSome};
 ghost use Rattle.std.specs.Iterator.{MakesProgress, IsFinite, UpTo};
 ghost use Rattle.std.specs.Iterator.SizeHint.{IsWithinCount};
@@ -14,7 +14,8 @@ ghost use Rattle.eob_both.specs.Hints.{hint_max, hint_sum};
 pub(crate) fn next_of<I: Iterator>(side: &mut Option<I>) -> Option<I::Item>
     requires { IfSome side.old I.can_next }
     ensures steps { side_steps I.next_gives side.old result side.new }
-    ensures goes { MakesProgress (λ o. IfSome o I.can_next) (side_remaining I.remaining) side.old result side.new }
+    ensures goes { MakesProgress (λ o. IfSome o I.can_next) (side_remaining I.remaining) side.old result
+        side.new }
 {
     match side {
         Some(iter) => match iter.next() {
@@ -33,7 +34,8 @@ pub(crate) fn next_of<I: Iterator>(side: &mut Option<I>) -> Option<I::Item>
 pub(crate) fn next_back_of<I: DoubleEndedIterator>(side: &mut Option<I>) -> Option<I::Item>
     requires { IfSome side.old I.can_next_back }
     ensures steps { side_steps I.next_back_gives side.old result side.new }
-    ensures goes { MakesProgress (λ o. IfSome o I.can_next_back) (side_remaining I.remaining) side.old result side.new }
+    ensures goes { MakesProgress (λ o. IfSome o I.can_next_back) (side_remaining I.remaining) side.old result
+        side.new }
 {
     match side {
         Some(iter) => match iter.next_back() {
@@ -59,7 +61,7 @@ pub(crate) fn len_of<I: ExactSizeIterator>(side: &Option<I>) -> usize
     }
 }
 
-// The hint of a side: exactly no items where it is absent.
+// The size hint of a side: exactly no items where it is absent.
 pub(crate) fn hint_of<I: Iterator>(side: &Option<I>) -> (usize, Option<usize>)
     ensures lower { IsWithinCount result.0 (side_remaining I.remaining side.now) }
     ensures upper { IfSome result.1 (UpTo (side_remaining I.remaining side.now)) }
@@ -71,7 +73,7 @@ pub(crate) fn hint_of<I: Iterator>(side: &Option<I>) -> (usize, Option<usize>)
     }
 }
 
-// The hint of two sides that are walked side by side.
+// The size hint of two sides that are iterated at once.
 pub(crate) fn max_hint(
     left: (usize, Option<usize>),
     right: (usize, Option<usize>),
@@ -85,7 +87,7 @@ pub(crate) fn max_hint(
     (left.0.max(right.0), upper)
 }
 
-// The hint of two sides that are walked in turn.
+// The size hint of two sides that are iterated one after the other.
 pub(crate) fn sum_hint(
     left: (usize, Option<usize>),
     right: (usize, Option<usize>),

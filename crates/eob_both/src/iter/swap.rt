@@ -1,4 +1,4 @@
-//! The paired walk: both sides side by side, until both have ended.
+//! The iterator over both sides at once, until both have ended.
 //!
 //! It holds two optional sides. Its back end works on the same list as its front end: the exact lengths that are left decide at
 //! each call which side gives the last item, so the longer side gives its tail alone before the two are taken together.
@@ -13,10 +13,20 @@ use crate::EitherOrBoth;
 use std::cmp::Ordering;
 use std::iter::FusedIterator;
 
-/// The items of two iterators side by side, until both have ended: the item at each index has in its left place the left
-/// iterator's item there, in its right place the right one's, and each is absent past its end.
+/// An iterator over two iterators side by side, until both have ended: the item at each index holds in its left place the left
+/// iterator's item at that index, and in its right place the right one's. Past the end of one of them its place is absent.
 ///
-/// An iterator that has answered `None` is given up and asked no more.
+/// An inner iterator that has returned `None` is dropped and not polled again. See
+/// [`into_iter_swap`](crate::EitherOrBoth::into_iter_swap).
+///
+/// # Examples
+///
+/// ```
+/// let mut rows = EitherOrBoth::Both([1, 2], ['a']).into_iter_swap();
+/// assert_eq!(rt; rows.next_back(), Some(EitherOrBoth::Left(2)));
+/// assert_eq!(rt; rows.next_back(), Some(EitherOrBoth::Both(1, 'a')));
+/// ```
+#[must_use = "iterators are lazy and do nothing unless consumed"]
 #[derive(Debug, Clone, PartialEq, Eq, Drop)]
 pub struct SwapIterEitherOrBoth<L, R> {
     left: Option<L>,
@@ -41,6 +51,15 @@ impl<L: Iterator, R: Iterator> Iterator for SwapIterEitherOrBoth<L, R> {
 
     ghost remaining = { swap_remaining L.remaining R.remaining };
 
+    /// Returns the next items of both sides, or the one of the side that has one left.
+    ///
+    /// # Examples
+    ///
+    /// ```
+    /// let mut rows = EitherOrBoth::Both([1, 2], ['a']).into_iter_swap();
+    /// assert_eq!(rt; rows.next(), Some(EitherOrBoth::Both(1, 'a')));
+    /// assert_eq!(rt; rows.next(), Some(EitherOrBoth::Left(2)));
+    /// ```
     // Each case returns its own value, which is twice as fast as two options that are put together.
     #[inline(always)]
     fn next(&mut self) -> Option<Self::Item> {
@@ -56,6 +75,13 @@ impl<L: Iterator, R: Iterator> Iterator for SwapIterEitherOrBoth<L, R> {
         }
     }
 
+    /// Returns the greater lower bound of the two sides, and the greater upper one if both sides have one.
+    ///
+    /// # Examples
+    ///
+    /// ```
+    /// assert_eq!(rt; EitherOrBoth::Both([1, 2], ['a']).into_iter_swap().size_hint(), (2, Some(2)));
+    /// ```
     fn size_hint(&self) -> (usize, Option<usize>)
         ensures lower { IsWithinCount result.0 (swap_remaining L.remaining R.remaining self.now) }
         ensures upper { IfSome result.1 (UpTo (swap_remaining L.remaining R.remaining self.now)) }
@@ -74,6 +100,18 @@ where
 
     ghost next_back_gives = { swap_steps_back L.next_back_gives R.next_back_gives L.remaining R.remaining };
 
+    /// Returns the last item of the list that [`next`](Iterator::next) goes through: the last one of the longer side alone, or of both
+    /// sides where they have equally many left.
+    ///
+    /// Each call takes the length of both sides, so that it costs two calls of `len` more than a call of `next`.
+    ///
+    /// # Examples
+    ///
+    /// ```
+    /// let mut rows = EitherOrBoth::Both([1, 2], ['a']).into_iter_swap();
+    /// assert_eq!(rt; rows.next_back(), Some(EitherOrBoth::Left(2)));
+    /// assert_eq!(rt; rows.next_back(), Some(EitherOrBoth::Both(1, 'a')));
+    /// ```
     #[inline(always)]
     fn next_back(&mut self) -> Option<Self::Item> {
         let order = match (&self.left, &self.right) {
@@ -114,6 +152,13 @@ fn both_or_one<L, R>(left: Option<L>, right: Option<R>) -> Option<EitherOrBoth<L
 }
 
 impl<L: ExactSizeIterator, R: ExactSizeIterator> ExactSizeIterator for SwapIterEitherOrBoth<L, R> {
+    /// Returns the number of items of the longer side.
+    ///
+    /// # Examples
+    ///
+    /// ```
+    /// assert_eq!(rt; EitherOrBoth::Both([1, 2], ['a']).into_iter_swap().len(), 2);
+    /// ```
     #[inline(always)]
     fn len(&self) -> usize {
         len_of(&self.left).max(len_of(&self.right))

@@ -8,14 +8,19 @@ ghost use Rattle.eob_both.specs.Contents.{first_items, first_list, last_value, I
 /// The value that collecting gives a key: it is v exactly where some place holds the key with v and no later place holds the key, and
 /// there is none exactly where no place holds the key.
 pub fn law_last_value<K: Eq, V>()
-    ensures some { (kvs : List (K × V)) (k : K) (v : V) → (last_value K.eq kvs k ≡ Some v) ↔ IsLastValue K.eq kvs k v }
-    ensures none { (kvs : List (K × V)) (k : K) → (last_value K.eq kvs k ≡ None) ↔ (is_member K.eq (keys_of kvs) k ≡ false) }
+    ensures some { (kvs : List (K × V)) (k : K) (v : V) → (last_value K.eq kvs k ≡ Some v)
+        ↔ IsLastValue K.eq kvs k v }
+    ensures none { (kvs : List (K × V)) (k : K) → (last_value K.eq kvs k ≡ None)
+        ↔ (is_member K.eq (keys_of kvs) k ≡ false) }
 {}
 
-/// The same of keys that count as one by their order.
+/// The value that collecting gives a key, where two keys count as one if their order says that they are equal: it is v exactly where
+/// some place holds the key with v and no later place holds the key, and there is none exactly where no place holds the key.
 pub fn law_last_value_by_order<K: Ord, V>()
-    ensures some { (kvs : List (K × V)) (k : K) (v : V) → (last_value (eq_by_cmp K.cmp) kvs k ≡ Some v) ↔ IsLastValue (eq_by_cmp K.cmp) kvs k v }
-    ensures none { (kvs : List (K × V)) (k : K) → (last_value (eq_by_cmp K.cmp) kvs k ≡ None) ↔ (is_member (eq_by_cmp K.cmp) (keys_of kvs) k ≡ false) }
+    ensures some { (kvs : List (K × V)) (k : K) (v : V) → (last_value (eq_by_cmp K.cmp) kvs k ≡ Some v)
+        ↔ IsLastValue (eq_by_cmp K.cmp) kvs k v }
+    ensures none { (kvs : List (K × V)) (k : K) → (last_value (eq_by_cmp K.cmp) kvs k ≡ None)
+        ↔ (is_member (eq_by_cmp K.cmp) (keys_of kvs) k ≡ false) }
 {}
 
 /// The distinct items of a list, in the order of their first places: of two of them, the one that stands before the other has its
@@ -29,5 +34,6 @@ pub fn law_first_items<K: Eq>()
 /// value of its last place.
 pub fn law_first_list<K: Eq, V>()
     ensures keys { (kvs : List (K × V)) → keys_of (first_list K.eq kvs) ≡ first_items K.eq (keys_of kvs) }
-    ensures last { (kvs : List (K × V)) (k : K) → lookup (K.eq k) (first_list K.eq kvs) ≡ last_value K.eq kvs k }
+    ensures last { (kvs : List (K × V)) (k : K) → lookup (K.eq k) (first_list K.eq kvs)
+        ≡ last_value K.eq kvs k }
 {}

@@ -1,28 +1,28 @@
-//! Laws of the paired walk and of the chain, over any iterators as their sides: which item of which list each call takes. A
-//! caller's proof that holds a walk in its hands, and not only a chain of iterators over it, calls the law that it needs. None
-//! of these functions does anything.
+//! Laws of the iterator over both sides at once and of the chain of both, over any iterators as their sides: which item of which
+//! list each call returns. A caller that polls one of them itself, and does not only adapt or collect it, calls the law that its
+//! proof needs. None of these functions does anything.
 //!
-//! `next_gives` and `next_back_gives` of the walks say what a call asks of which side. What this means for the lists that the
-//! sides have still to come stands here, since a further clause on `next` would be read by every loop over a walk.
+//! `next_gives` and `next_back_gives` of the iterators say which side a call polls, and from which end. What this means for the
+//! lists that the sides have left stands here, since a further clause on `next` would be read by every loop over such an iterator.
 ghost use Rattle.std.specs.Prelude.{◌≡◌, ◌+◌, ◌-◌, true, List, [], map};
 ghost use Rattle.std.specs.Iterator.Runs.{EveryRun};
-ghost use Rattle.std.specs.List.{range_with_len};
 ghost use Rattle.std.specs.Range.{range_steps};
 ghost use Rattle.std.specs.Borrow.{Bor};
 ghost use Rattle.std.specs.Map.Iter.{deref};
 ghost use Rattle.eob_both.specs.Places.{map_places};
 ghost use Rattle.eob_both.specs.Aligned.{aligned, AlignedByIndex};
+ghost use Rattle.eob_both.specs.Ends.{range_rest};
 ghost use Rattle.eob_both.specs.Swap.{SwapNextTakesFirst, SwapBackTakesLast, SwapHasAligned};
 ghost use Rattle.eob_both.specs.Chain.{ChainNextTakesFirst, ChainBackTakesLast, ChainHasBoth};
 
-/// `next` of the paired walk takes the first item of the aligned list of what its sides give, or answers `None` where that is
-/// empty, and leaves the rest of it.
+/// `next` of [`SwapIterEitherOrBoth`](crate::iter::SwapIterEitherOrBoth) returns the first item of the aligned list of what its
+/// sides give, or `None` where that is empty, and leaves the rest of it.
 pub fn law_swap_next<L: Iterator, R: Iterator>()
     ensures { SwapNextTakesFirst L.next_gives R.next_gives }
 {}
 
-/// `next_back` of the paired walk takes the last item, where the sides have lists still to come and count them, or answers `None`
-/// where there is none, and leaves the rest.
+/// `next_back` of [`SwapIterEitherOrBoth`](crate::iter::SwapIterEitherOrBoth) returns the last item of the aligned list of what its
+/// sides have left, where they have lists left and count them, or `None` where that is empty, and leaves the rest.
 pub fn law_swap_next_back<L, R>()
 where
     L: DoubleEndedIterator + ExactSizeIterator,
@@ -30,8 +30,8 @@ where
     ensures { SwapBackTakesLast L.DoubleEndedIterator R.DoubleEndedIterator }
 {}
 
-/// Where the sides have lists still to come and count them, the paired walk has the aligned list still to come, however its ends
-/// are called, and counts it.
+/// Where the sides of a [`SwapIterEitherOrBoth`](crate::iter::SwapIterEitherOrBoth) have lists left and count them, it has the
+/// aligned list of the two left, however its two ends are called, and counts it.
 pub fn law_swap_to_come<L, R>()
 where
     L: DoubleEndedIterator + ExactSizeIterator,
@@ -39,20 +39,20 @@ where
     ensures { SwapHasAligned L.DoubleEndedIterator R.DoubleEndedIterator }
 {}
 
-/// `next` of the chain takes the first item of the left list followed by the right one, or answers `None` where both are empty,
-/// and leaves the rest.
+/// `next` of [`ChainedIterEitherOrBoth`](crate::iter::ChainedIterEitherOrBoth) returns the first item of the left side's list
+/// followed by the right side's, or `None` where both are empty, and leaves the rest.
 pub fn law_chain_next<T: Iterator>()
     ensures { ChainNextTakesFirst T.next_gives }
 {}
 
-/// `next_back` of the chain takes the last item, where the sides have lists still to come, or answers `None` where there is none,
-/// and leaves the rest.
+/// `next_back` of [`ChainedIterEitherOrBoth`](crate::iter::ChainedIterEitherOrBoth) returns the last item of the left side's list
+/// followed by the right side's, where the sides have lists left, or `None` where both are empty, and leaves the rest.
 pub fn law_chain_next_back<T: DoubleEndedIterator>()
     ensures { ChainBackTakesLast T.DoubleEndedIterator }
 {}
 
-/// Where the sides have lists still to come, the chain has the left one followed by the right one still to come, however its ends
-/// are called.
+/// Where the sides of a [`ChainedIterEitherOrBoth`](crate::iter::ChainedIterEitherOrBoth) have lists left, it has the left one
+/// followed by the right one left, however its two ends are called.
 pub fn law_chain_to_come<T: DoubleEndedIterator>()
     ensures { ChainHasBoth T.DoubleEndedIterator }
 {}
@@ -65,18 +65,23 @@ pub fn law_aligned_by_index<L, R>()
 
 /// A function of each place, over an aligned list, gives the aligned list of what it gives of the two lists.
 pub fn law_aligned_map<L, R, T, U>()
-    ensures { (f : L → T) (g : R → U) (p : List L) (q : List R) → map (map_places f g) (aligned p q) ≡ aligned (map f p) (map g q) }
+    ensures { (f : L → T) (g : R → U) (p : List L) (q : List R) → map (map_places f g) (aligned p q)
+        ≡ aligned (map f p) (map g q) }
 {}
 
 /// An aligned list of references, read by what they point to, is the aligned list of what the references of each side point to.
 pub fn law_aligned_refs<L, R>()
-    ensures both { (p : List (Bor L)) (q : List (Bor R)) → map (map_places deref deref) (aligned p q) ≡ aligned (map deref p) (map deref q) }
-    ensures left { (p : List (Bor L)) → map (map_places deref (deref {X = R})) (aligned p []) ≡ aligned (map deref p) [] }
-    ensures right { (q : List (Bor R)) → map (map_places (deref {X = L}) deref) (aligned [] q) ≡ aligned [] (map deref q) }
+    ensures both { (p : List (Bor L)) (q : List (Bor R)) → map (map_places deref deref) (aligned p q)
+        ≡ aligned (map deref p) (map deref q) }
+    ensures left { (p : List (Bor L)) → map (map_places deref (deref {X = R})) (aligned p [])
+        ≡ aligned (map deref p) [] }
+    ensures right { (q : List (Bor R)) → map (map_places (deref {X = L}) deref) (aligned [] q)
+        ≡ aligned [] (map deref q) }
 {}
 
 /// A range of unsigned numbers gives the numbers from its start up to its end. `std` has no such clause: a caller with a range as
 /// a side calls this law first.
 pub fn law_range()
-    ensures { EveryRun (range_steps (λ n m. m - n) (λ n m. m ≡ n + 1)) (λ p. p.whole ≡ true → p.items ≡ range_with_len p.from.start (p.from.end - p.from.start)) }
+    ensures { EveryRun (range_steps (λ n m. m - n) (λ n m. m ≡ n + 1))
+        (λ p. p.whole ≡ true → p.items ≡ range_rest p.from) }
 {}
