@@ -24,10 +24,12 @@ fn collect_places<L, R, C: FromIterator<EitherOrBoth<L, R>>, U: IntoIterator<Ite
     alloc: C::Alloc,
     iter: U,
 ) -> Result<C, AllocError>
-    requires source { (it : U.IntoIter) → U.into_iter_gives iter it → U.IntoIter.can_next it × IsFinite (U.IntoIter.remaining it) }
+    requires source { (it : U.IntoIter) → U.into_iter_gives iter it → U.IntoIter.can_next it
+        × IsFinite (U.IntoIter.remaining it) }
     requires any { (ys : List (EitherOrBoth L R)) → C.can_from_iter ys }
     requires whole { (v : C) → C.is_complete v }
-    ensures { IfOk result (λ v. (it : U.IntoIter) × (xs : List (Either L R)) × (ys : List (EitherOrBoth L R)) × U.into_iter_gives iter it × Drains U.IntoIter.next_gives it xs
+    ensures { IfOk result (λ v. (it : U.IntoIter) × (xs : List (Either L R)) × (ys : List (EitherOrBoth L R))
+        × U.into_iter_gives iter it × Drains U.IntoIter.next_gives it xs
         × (both.lefts ys ≡ lefts xs) × (both.rights ys ≡ rights xs) × C.from_iter_gives ys v) }
 {
     C::from_iter(alloc, iter.into_iter().map(EitherOrBoth::from))

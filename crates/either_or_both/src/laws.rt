@@ -1,6 +1,7 @@
-//! What holds of all lists, keys, values, pairs and walks. The functions named `law_*` have no body, and their contracts say it: a
-//! caller calls one to learn it. Those of `EitherOrBoth` alone are passed on from `eob_both`. The other functions do what the laws
-//! speak of: they regroup a list, drive a walk from both ends, and collect a pair of containers again.
+//! What holds of all lists, keys, values, pairs and iterators. The functions named `law_*` have an empty body, and their contracts
+//! say it: a caller calls one so that its own proof knows it, and the call costs nothing when the program runs. Those of
+//! `EitherOrBoth` alone are passed on from `eob_both`. The other functions do what the laws speak of: they regroup a list, poll an
+//! iterator from both ends, and collect a pair of containers again.
 
 mod drive;
 mod normal;

@@ -13,11 +13,25 @@ impl<K1: Ord + Drop, V1: Drop, K2: Ord + Drop, V2: Drop, A: Allocator + Copy> Fr
 > for EitherOrBoth<BTreeMap<K1, V1, A>, BTreeMap<K2, V2, A>> {
     type Alloc = A;
 
-    ghost from_iter_gives = { λ xs v. Collects (λ l. l.entries) (λ r. r.entries) (IsRisingMap K1.cmp) (IsRisingMap K2.cmp) (lefts xs) (rights xs) v };
+    ghost from_iter_gives = { λ xs v. Collects (λ l. l.entries) (λ r. r.entries)
+        (IsRisingMap K1.cmp) (IsRisingMap K2.cmp) (lefts xs) (rights xs) v };
 
-    /// Collects the left entries into one map and the right entries into another, where a key has the value of its last place. The
-    /// answer is Both where both maps are empty or neither is, else the one that is not empty. Takes a finite source. `AllocError`
-    /// where a request for memory was refused: then the values that came are dropped, and the source is asked no more.
+    /// Collects the left entries into one map and the right entries into another, in the order of their keys. A key that comes more
+    /// than once has the value that came last. The result is `Both` if both maps are empty or neither is, and otherwise the map
+    /// that is not empty alone. The source must be finite. Each entry takes one insert, with no capacity reserved in advance.
+    ///
+    /// # Errors
+    ///
+    /// Returns `AllocError` if a request for memory was refused. What was collected so far is then dropped, and the source is not
+    /// polled again.
+    ///
+    /// # Examples
+    ///
+    /// ```
+    /// let entries: [Either<(u8, char), (u8, char)>; 2] = [Either::Left((2, 'b')), Either::Left((2, 'c'))];
+    /// let pair: EitherOrBoth<BTreeMap<u8, char>, BTreeMap<u8, char>> = entries.into_iter().collect(alloc)?;
+    /// assert_eq!(rt; pair.only_left().unwrap().get(&2), Some(&'c'));
+    /// ```
     fn from_iter<U: IntoIterator<Item = Either<(K1, V1), (K2, V2)>>>(
         alloc: A,
         iter: U,

@@ -12,11 +12,19 @@ impl<L: Drop, R: Drop, A: Allocator + Copy> FromIterator<Either<L, R>>
     for EitherOrBoth<Vec<L, A>, Vec<R, A>> {
     type Alloc = A;
 
-    ghost from_iter_gives = { λ xs v. map_places (λ l. l.items) (λ r. r.items) v ≡ pair_of (lefts xs) (rights xs) };
+    ghost from_iter_gives = { λ xs v. map_places (λ l. l.items) (λ r. r.items) v
+        ≡ pair_of (lefts xs) (rights xs) };
 
-    /// Collects the left values into one vector and the right values into another, in order, and answers Both where both
-    /// vectors are empty or neither is, else the one that is not empty. Takes a finite source. `AllocError` where a request for
-    /// memory was refused: then the values that came are dropped, and the source is asked no more.
+    /// Collects the left values into one vector and the right values into another, in order. The result is `Both` if both vectors
+    /// are empty or neither is, and otherwise the vector that is not empty alone. The source must be finite. Each value takes one
+    /// push, with no capacity reserved in advance.
+    ///
+    /// # Errors
+    ///
+    /// Returns `AllocError` if a request for memory was refused. What was collected so far is then dropped, and the source is not
+    /// polled again.
+    ///
+    /// # Examples
     ///
     /// ```
     /// let values = [Either::Left(2), Either::Left(1)];

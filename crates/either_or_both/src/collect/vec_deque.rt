@@ -13,11 +13,25 @@ impl<L: Drop, R: Drop, A: Allocator + Copy> FromIterator<Either<L, R>>
     for EitherOrBoth<VecDeque<L, A>, VecDeque<R, A>> {
     type Alloc = A;
 
-    ghost from_iter_gives = { λ xs v. map_places (λ l. l.items) (λ r. r.items) v ≡ pair_of (lefts xs) (rights xs) };
+    ghost from_iter_gives = { λ xs v. map_places (λ l. l.items) (λ r. r.items) v
+        ≡ pair_of (lefts xs) (rights xs) };
 
-    /// Collects the left values into one queue and the right values into another, in order, and answers Both where both
-    /// queues are empty or neither is, else the one that is not empty. Takes a finite source. `AllocError` where a request for
-    /// memory was refused: then the values that came are dropped, and the source is asked no more.
+    /// Collects the left values into one queue and the right values into another, in order. The result is `Both` if both queues are
+    /// empty or neither is, and otherwise the queue that is not empty alone. The source must be finite. Each value takes one push,
+    /// with no capacity reserved in advance.
+    ///
+    /// # Errors
+    ///
+    /// Returns `AllocError` if a request for memory was refused. What was collected so far is then dropped, and the source is not
+    /// polled again.
+    ///
+    /// # Examples
+    ///
+    /// ```
+    /// let values: [Either<u8, char>; 2] = [Either::Left(1), Either::Left(2)];
+    /// let pair: EitherOrBoth<VecDeque<u8>, VecDeque<char>> = values.into_iter().collect(alloc)?;
+    /// assert_eq!(rt; pair.only_left().unwrap().pop_front(), Some(1));
+    /// ```
     fn from_iter<U: IntoIterator<Item = Either<L, R>>>(
         alloc: A,
         iter: U,

@@ -11,10 +11,17 @@ use std::ops::{Deref, DerefMut};
 impl<A, T: Extend<A>> Extend<A> for Either<T, T> {
     ghost can_extend = { λ v xs. HoldsOfHeld (λ l. T.can_extend l xs) (λ r. T.can_extend r xs) v };
 
-    ghost extend_gives = { λ v xs w. HeldBecomes (λ l m. T.extend_gives l xs m) (λ r s. T.extend_gives r xs s) v w };
+    ghost extend_gives = { λ v xs w. HeldBecomes (λ l m. T.extend_gives l xs m) (λ r s. T.extend_gives r xs s)
+        v w };
 
-    /// Adds the items to the container that is held. `AllocError` where that container was refused memory: the variant stays, and
-    /// the container stands as its own `extend` says.
+    /// Adds the items to the container that is present.
+    ///
+    /// # Errors
+    ///
+    /// Returns `AllocError` if that container was refused memory. The variant stays, and the container is as its own `extend`
+    /// leaves it.
+    ///
+    /// # Examples
     ///
     /// ```
     /// let mut row = Either::<Vec<u32>>::Right(vec![in alloc; 1]?);
@@ -34,7 +41,14 @@ impl<L: Deref<Target = R::Target>, R: Deref> Deref for Either<L, R> {
 
     ghost deref_gives = { λ v t. HoldsOfHeld (λ l. L.deref_gives l t) (λ r. R.deref_gives r t) v };
 
-    /// The target of the pointer that is held.
+    /// Returns a reference to the target of the pointer that is present.
+    ///
+    /// # Examples
+    ///
+    /// ```
+    /// let pointer: Either<Box<u8>, Box<u8>> = Either::Right(Box::new(alloc, 3)?);
+    /// assert_eq!(rt; *pointer, 3);
+    /// ```
     fn deref(&self) -> &R::Target {
         match self {
             Left(l) => l.deref(),
@@ -44,9 +58,18 @@ impl<L: Deref<Target = R::Target>, R: Deref> Deref for Either<L, R> {
 }
 
 impl<L: DerefMut<Target = R::Target>, R: DerefMut> DerefMut for Either<L, R> {
-    ghost deref_mut_gives = { λ v t. HoldsOfHeld (λ l. L.deref_mut_gives l t) (λ r. R.deref_mut_gives r t) v };
+    ghost deref_mut_gives = { λ v t. HoldsOfHeld (λ l. L.deref_mut_gives l t) (λ r. R.deref_mut_gives r t)
+        v };
 
-    /// The target of the pointer that is held, for writing.
+    /// Returns a mutable reference to the target of the pointer that is present.
+    ///
+    /// # Examples
+    ///
+    /// ```
+    /// let mut pointer: Either<Box<u8>, Box<u8>> = Either::Right(Box::new(alloc, 3)?);
+    /// *pointer = 4;
+    /// assert_eq!(rt; *pointer, 4);
+    /// ```
     fn deref_mut(&mut self) -> &mut R::Target {
         match self {
             Left(l) => l.deref_mut(),
