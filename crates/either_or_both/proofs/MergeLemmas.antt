@@ -1,5 +1,5 @@
 -- The list that the loop of a join makes, and that it is the join.
-use Rattle.std.proofs.Common.{◌≡◌, ◌∙◌, ◌⊎◌, ℕ, ◌+◌, ◌<◌, zero, suc, Bool, true, false, cond, List, [], ◌∷◌, length, get_or, map, All, Contains, Option, Some, None, arith, inl, inr, refl, sym, ap, subst, true≢false}
+use Rattle.std.proofs.Common.{◌≡◌, ◌∙◌, ◌⊎◌, ℕ, ◌+◌, ◌<◌, zero, suc, Bool, true, false, cond, List, [], ◌∷◌, ◌++◌, append_assoc, append-nil, length, get_or, map, All, Contains, Option, Some, None, arith, inl, inr, refl, sym, ap, subst, true≢false}
 use Rattle.std.specs.Prelude.{⊤}
 use Rattle.std.specs.Cmp.{IsTotalOrder, alike_right}
 use Rattle.std.specs.List.{IsAllAdjacentAnswer}
@@ -14,7 +14,7 @@ use Rattle.std.proofs.lemmas.List.{length-map}
 use Rattle.std.proofs.Math.ListN.{get_or-map}
 use Rattle.std.proofs.lemmas.List.Elements.{All-nil, All-cons, All-head, All-tail, Contains-get_or}
 use Rattle.eob_both.specs.Places.{from_places}
-use Rattle.either_or_both.specs.Join.{Rising, IsJoin, value_under}
+use Rattle.either_or_both.specs.Join.{Rising, IsJoin, JoinTakes, value_under}
 
 -- what is given where two values under one key meet
 left_step : {A B : Type 0} (t : Bool) (a : A) (z : Option (EitherOrBoth A B)) (m : Option A) (n : Option B)
@@ -46,6 +46,16 @@ pub by_order : {G : Type 0} (r : Ordering) → (r ≡ Less → G) → (r ≡ Equ
 by_order Less f g h = f refl
 by_order Equal f g h = g refl
 by_order Greater f g h = h refl
+
+none_some : {X : Type 0} {x : X} → None ≡ Some x → ⊥
+none_some e = cc
+
+not_some : {X : Type 0} (r : Option X) → ((x : X) → r ≡ Some x → ⊥) → r ≡ None
+not_some None never = refl
+not_some (Some x) never = absurd (never x refl)
+
+some_same : {X : Type 0} {x y : X} → Some x ≡ Some y → x ≡ y
+some_same e = cc
 
 module _ {K : Type 0} (cmp : K → K → Ordering) where
   module _ {A B : Type 0} where
@@ -180,6 +190,44 @@ module _ {K : Type 0} (cmp : K → K → Ordering) where
         values = λ k. merge_values k p q (up p g) (up q h);
         keys = merge_keys (λ k. Contains (keys_of p) k ⊎ Contains (keys_of q) k) p q (λ k d l. inl (own_key p k d l)) (λ k d l. inr (own_key q k d l));
       }
+
+      -- where a join takes nothing, the loop makes nothing more
+      pub takes_none : (xs : List (K × A)) (ys : List (K × B)) (p : List (K × A)) (q : List (K × B)) → JoinTakes cmp xs ys None p q → merge xs ys ≡ []
+      takes_none [] [] p q h = refl
+      takes_none (x ∷ xs) [] p q h = absurd (none_some h.0)
+      takes_none [] (y ∷ ys) p q h = absurd (none_some h.0)
+      takes_none (x ∷ xs) (y ∷ ys) p q h =
+          by_order (cmp x.0 y.0)
+          (λ e. let s = rw e at h in absurd (none_some s.0))
+          (λ e. let s = rw e at h in absurd (none_some s.0))
+          (λ e. let s = rw e at h in absurd (none_some s.0))
+
+      -- what it takes is the first item that the loop makes, and a pair of one list at least is gone
+      pub takes_some : (xs : List (K × A)) (ys : List (K × B)) (z : K × EitherOrBoth A B) (p : List (K × A)) (q : List (K × B)) → JoinTakes cmp xs ys (Some z) p q
+          → (merge xs ys ≡ z ∷ merge p q) × (length p + length q < length xs + length ys)
+      takes_some [] [] z p q h = absurd (none_some (sym h.0))
+      takes_some (x ∷ xs) [] z p q h = rw (h.1, h.2) (ap (λ k. k ∷ merge xs []) (sym (some_same h.0)), omega arith)
+      takes_some [] (y ∷ ys) z p q h = rw (h.1, h.2) (ap (λ k. k ∷ merge [] ys) (sym (some_same h.0)), omega arith)
+      takes_some (x ∷ xs) (y ∷ ys) z p q h =
+          by_order (cmp x.0 y.0)
+          (λ e. let s = rw e at h in rw (e, s.1, s.2) (ap (λ k. k ∷ merge xs (y ∷ ys)) (sym (some_same s.0)), omega arith))
+          (λ e. let s = rw e at h in rw (e, s.1, s.2) (ap (λ k. k ∷ merge xs ys) (sym (some_same s.0)), omega arith))
+          (λ e. let s = rw e at h in rw (e, s.1, s.2) (ap (λ k. k ∷ merge (x ∷ xs) ys) (sym (some_same s.0)), omega arith))
+
+      -- what is made and what is still to be made stay one list
+      pub join_grows : (made later whole : List (K × EitherOrBoth A B)) (xs : List (K × A)) (ys : List (K × B)) (r : Option (K × EitherOrBoth A B)) (z : K × EitherOrBoth A B) (p : List (K × A)) (q : List (K × B))
+          → r ≡ Some z → JoinTakes cmp xs ys r p q → later ≡ made ++ z ∷ [] → made ++ merge xs ys ≡ whole → later ++ merge p q ≡ whole
+      join_grows made later whole xs ys r z p q is takes e h =
+          let one = takes_some xs ys z p q (subst (λ o. JoinTakes cmp xs ys o p q) is takes) in
+          ap (λ l. l ++ merge p q) e ∙ append_assoc made (z ∷ []) (merge p q) ∙ ap (λ l. made ++ l) (sym one.0) ∙ h
+
+      -- where nothing more is taken, what is made is the join
+      pub join_made : (p : List (K × A)) (q : List (K × B)) → Rising cmp p → Rising cmp q → (made : List (K × EitherOrBoth A B)) (xs : List (K × A)) (ys : List (K × B)) (r : Option (K × EitherOrBoth A B)) (m : List (K × A)) (n : List (K × B))
+          → ((z : K × EitherOrBoth A B) → r ≡ Some z → ⊥) → JoinTakes cmp xs ys r m n → made ++ merge xs ys ≡ merge p q → IsJoin cmp p q made
+      join_made p q g h made xs ys r m n never takes e =
+          let none = takes_none xs ys m n (subst (λ o. JoinTakes cmp xs ys o m n) (not_some r never) takes) in
+          let whole : made ≡ merge p q = sym (append-nil made) ∙ ap (λ l. made ++ l) (sym none) ∙ e in
+          subst (IsJoin cmp p q) (sym whole) (IsJoin-merge p q g h)
 
 is_Less : (r : Ordering) → true ≡ is_lt r → r ≡ Less
 is_Less Less h = refl

@@ -3,7 +3,7 @@
 //! Each key of either list stands once in the join, in order, with the values that the two lists have under it. What follows of
 //! every join stands in the functions `law_join_*`, which do nothing.
 ghost use Rattle.std.specs.Prelude.{IfOk, IsTrue, ◌↔◌};
-ghost use Rattle.either_or_both.specs.Join.{IsJoin, Rising, SameKeys};
+ghost use Rattle.either_or_both.specs.Join.{IsJoin, JoinTakes, Rising, SameKeys};
 ghost use Rattle.either_or_both.specs.JoinLaws.{AllBoth, HasJoinCounts};
 
 mod laws;
@@ -66,41 +66,48 @@ pub fn outer_join_in<K: Ord + Drop, A: Drop, B: Drop, M: Allocator>(
 ) -> Result<Vec<(K, EitherOrBoth<A, B>), M>, AllocError>
     requires left { Rising K.cmp left.items }
     requires right { Rising K.cmp right.items }
-    ensures { IfOk result (λ joined. IsJoin K.cmp left.items right.items joined.items) }
+    ensures join { IfOk result (λ joined. IsJoin K.cmp left.items right.items joined.items) }
+    ensures both { SameKeys K.cmp left.items right.items → IfOk result (λ joined. AllBoth joined.items) }
+    ensures counts { IfOk result (λ joined. HasJoinCounts K.cmp left.items right.items joined.items) }
 {
-    let mut joined = Vec::new(alloc);
+    // No key of the longer list is left out, so that many items there are at least.
+    let mut joined = Vec::with_capacity(alloc, left.len().max(right.len()))?;
     // As queues the lists take no more memory, and give their first pairs one by one.
     let mut left = VecDeque::from_vec(left);
     let mut right = VecDeque::from_vec(right);
-    'join: loop {
-        match left.front() {
-            Some(l) => match right.front() {
-                Some(r) => match l.0.cmp(&r.0) {
-                    Ordering::Less => match left.pop_front() {
-                        Some((key, a)) => joined.push((key, EitherOrBoth::Left(a)))?,
-                        None => unreachable!(),
-                    },
-                    Ordering::Equal => match left.pop_front() {
-                        Some((key, a)) => match right.pop_front() {
-                            Some((_other, b)) => joined.push((key, EitherOrBoth::Both(a, b)))?,
-                            None => unreachable!(),
-                        },
-                        None => unreachable!(),
-                    },
-                    Ordering::Greater => match right.pop_front() {
-                        Some((other, b)) => joined.push((other, EitherOrBoth::Right(b)))?,
-                        None => unreachable!(),
-                    },
-                },
-                None => match left.pop_front() {
-                    Some((key, rest)) => joined.push((key, EitherOrBoth::Left(rest)))?,
-                    None => unreachable!(),
-                },
-            },
-            None => match right.pop_front() {
-                Some((key, rest)) => joined.push((key, EitherOrBoth::Right(rest)))?,
-                None => return Ok(joined),
-            },
+    while let Some(item) = take_first(&mut left, &mut right) {
+        joined.push(item)?;
+    }
+    Ok(joined)
+}
+
+// Takes the first pair of the list whose first key is less, or both first pairs where their keys are equal.
+#[inline(always)]
+fn take_first<K: Ord + Drop, A: Drop, B: Drop, M: Allocator>(
+    left: &mut VecDeque<(K, A), M>,
+    right: &mut VecDeque<(K, B), M>,
+) -> Option<(K, EitherOrBoth<A, B>)>
+    ensures { JoinTakes K.cmp left.old.items right.old.items result left.new.items right.new.items }
+{
+    let order = match (left.front(), right.front()) {
+        (Some(l), Some(r)) => l.0.cmp(&r.0),
+        (Some(_), None) => Ordering::Less,
+        (None, Some(_)) => Ordering::Greater,
+        (None, None) => return None,
+    };
+    match order {
+        Ordering::Less => {
+            let (key, a) = left.pop_front()?;
+            Some((key, EitherOrBoth::Left(a)))
+        }
+        Ordering::Equal => {
+            let (key, a) = left.pop_front()?;
+            let (_other, b) = right.pop_front()?;
+            Some((key, EitherOrBoth::Both(a, b)))
+        }
+        Ordering::Greater => {
+            let (key, b) = right.pop_front()?;
+            Some((key, EitherOrBoth::Right(b)))
         }
     }
 }

@@ -7,6 +7,7 @@ ghost use Rattle.either_or_both.specs.OuterJoin.{IsBoundSum, JoinsRuns, held_rem
 use crate::EitherOrBoth;
 use std::cmp::Ordering;
 use std::iter::FusedIterator;
+use std::mem;
 
 /// The full outer join of two iterators of pairs whose keys rise, item by item. It holds the next pair of each side; a side that
 /// holds none has ended, and is asked no more. Made by [`outer_join_lazily`](super::outer_join_lazily).
@@ -76,37 +77,26 @@ where
 
     #[inline(always)]
     fn next(&mut self) -> Option<Self::Item> {
-        match self.left.take() {
-            Some((key, a)) => match self.right.take() {
-                Some((other, b)) => match key.cmp(&other) {
-                    Ordering::Less => {
-                        self.left = self.lefts.next();
-                        self.right = Some((other, b));
-                        Some((key, EitherOrBoth::Left(a)))
-                    }
-                    Ordering::Equal => {
-                        self.left = self.lefts.next();
-                        self.right = self.rights.next();
-                        Some((key, EitherOrBoth::Both(a, b)))
-                    }
-                    Ordering::Greater => {
-                        self.left = Some((key, a));
-                        self.right = self.rights.next();
-                        Some((other, EitherOrBoth::Right(b)))
-                    }
-                },
-                None => {
-                    self.left = self.lefts.next();
-                    Some((key, EitherOrBoth::Left(a)))
-                }
-            },
-            None => match self.right.take() {
-                Some((key, b)) => {
-                    self.right = self.rights.next();
-                    Some((key, EitherOrBoth::Right(b)))
-                }
-                None => None,
-            },
+        let order = match (&self.left, &self.right) {
+            (Some(l), Some(r)) => l.0.cmp(&r.0),
+            (Some(_), None) => Ordering::Less,
+            (None, Some(_)) => Ordering::Greater,
+            (None, None) => return None,
+        };
+        match order {
+            Ordering::Less => {
+                let (key, a) = mem::replace(&mut self.left, self.lefts.next())?;
+                Some((key, EitherOrBoth::Left(a)))
+            }
+            Ordering::Equal => {
+                let (key, a) = mem::replace(&mut self.left, self.lefts.next())?;
+                let (_other, b) = mem::replace(&mut self.right, self.rights.next())?;
+                Some((key, EitherOrBoth::Both(a, b)))
+            }
+            Ordering::Greater => {
+                let (key, b) = mem::replace(&mut self.right, self.rights.next())?;
+                Some((key, EitherOrBoth::Right(b)))
+            }
         }
     }
 

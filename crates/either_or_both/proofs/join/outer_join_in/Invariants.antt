@@ -2,8 +2,9 @@ use Rattle.std.proofs.Common.{◌≡◌, ◌+◌, ◌++◌, length}
 use Rattle.either_or_both.proofs.MergeLemmas.{merge}
 use Rattle.either_or_both.proofs.join.outer_join_in.Given as goal
 
-abbrev pub invariant-join : goal.invariant-join
-invariant-join g l = l.joined.items ++ merge g.K.Ord.cmp l.left.items l.right.items ≡ merge g.K.Ord.cmp l.fn.left.items l.fn.right.items
+-- what is joined and what the two lists have left make one list
+abbrev pub invariant-loop-item : goal.invariant-loop-item
+invariant-loop-item g l = l.joined.items ++ merge g.K.Ord.cmp l.left.items l.right.items ≡ merge g.K.Ord.cmp l.fn.left.items l.fn.right.items
 
-abbrev pub decreases-join : goal.decreases-join
-decreases-join g l = length l.left.items + length l.right.items
+abbrev pub decreases-loop-item : goal.decreases-loop-item
+decreases-loop-item g l = length l.left.items + length l.right.items
