@@ -8,7 +8,9 @@ mod recollect;
 mod results;
 mod walks;
 
-pub use drive::{Driven, End, drive_chain, drive_items, drive_swap, drive_swap_in, law_whole_walk};
+pub use drive::{
+    Driven, End, drive_chain, drive_items, drive_swap, drive_swap_in, drive_walk_in, law_whole_walk,
+};
 pub use eob_both::laws::{
     law_aligned_by_index, law_aligned_map, law_aligned_refs, law_chain_next, law_chain_next_back,
     law_chain_to_come, law_first_items, law_first_list, law_last_value, law_last_value_by_order,

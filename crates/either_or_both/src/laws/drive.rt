@@ -42,8 +42,17 @@ fn call_end<I: DoubleEndedIterator>(walk: &mut I, end: End) -> Option<I::Item>
     }
 }
 
-// The answers of a walk to calls of its ends, which need not know its length.
-fn call_ends<I: DoubleEndedIterator, A: Allocator>(
+/// Calls the ends of a walk in turn, with memory of any allocator: one answer for each call. The walk goes on after it, so that many
+/// calls can be made some at a time. Where the walk has a list still to come, the answers are those of calls of that list, and where
+/// the list is counted, so is what is left of it. `AllocError` where a request for memory was refused.
+///
+/// ```
+/// let mut walk = EitherOrBoth::Both([1, 2, 3], ['a']).into_iter_swap();
+/// let answers = drive_walk_in(alloc, &mut walk, &[End::Back])?;
+/// assert_eq!(rt; answers, vec![in alloc; Some(EitherOrBoth::Left(3))]?);
+/// assert_eq!(rt; walk.len(), 2);
+/// ```
+pub fn drive_walk_in<I: DoubleEndedIterator, A: Allocator>(
     alloc: A,
     walk: &mut I,
     ends: &[End],
@@ -56,7 +65,7 @@ where
     ensures rest { (list : Listed I.Item) → CountedToCome I.DoubleEndedIterator list.view list.items walk.old
         → IfOk result (λ _. (left : List I.Item) × CountedToCome I.DoubleEndedIterator list.view left walk.new × (length left ≡ left_over list.items ends.now)) }
 {
-    let mut answers = Vec::new(alloc);
+    let mut answers = Vec::with_capacity(alloc, ends.len())?;
     for end in ends {
         answers.push(call_end(walk, *end))?;
     }
@@ -77,7 +86,7 @@ where
     ensures rest { (list : Listed I.Item) → CountedToCome I.DoubleEndedIterator list.view list.items walk
         → IfOk result (λ d. d.1 ≡ left_over list.items ends.now) }
 {
-    let answers = call_ends(alloc, &mut walk, ends)?;
+    let answers = drive_walk_in(alloc, &mut walk, ends)?;
     let rest = walk.len();
     Ok((answers, rest))
 }
@@ -168,7 +177,7 @@ where
         → IfOk result (λ v. map (option_map view) v.items ≡ answers (p ++ q) ends.now) }
 {
     let mut walk = pair.into_iter_chain();
-    call_ends(alloc, &mut walk, ends)
+    drive_walk_in(alloc, &mut walk, ends)
 }
 
 /// Calls the ends of the walk over the one or two values of a value in turn. The answers are those of calls of the values, left

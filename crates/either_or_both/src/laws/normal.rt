@@ -35,18 +35,50 @@ pub fn regroup_in<L: Drop, R: Drop, A: Allocator + Copy>(
 ) -> Result<Vec<EitherOrBoth<L, R>, A>, AllocError>
     ensures { IfOk result (λ made. made.items ≡ aligned (lefts list.items) (rights list.items)) }
 {
-    line_up(alloc, list.into_iter().collect(alloc)?)
+    let (left, right) = split_sides(alloc, list)?;
+    line_up(alloc, left, right)
+}
+
+// The left values and the right values of a list. The vectors are made as long as they get, since growing them costs more than counting.
+fn split_sides<L: Drop, R: Drop, A: Allocator + Copy>(
+    alloc: A,
+    list: Vec<EitherOrBoth<L, R>, A>,
+) -> Result<(Vec<L, A>, Vec<R, A>), AllocError>
+    ensures { IfOk result (λ sides. (sides.0.items ≡ lefts list.items) × (sides.1.items ≡ rights list.items)) }
+{
+    let mut left = Vec::with_capacity(alloc, count_lefts(&list))?;
+    let mut right = Vec::with_capacity(alloc, count_rights(&list))?;
+    for value in list {
+        match value {
+            EitherOrBoth::Left(l) => left.push(l)?,
+            EitherOrBoth::Both(l, r) => {
+                left.push(l)?;
+                right.push(r)?;
+            }
+            EitherOrBoth::Right(r) => right.push(r)?,
+        }
+    }
+    Ok((left, right))
+}
+
+fn count_lefts<L, R>(list: &[EitherOrBoth<L, R>]) -> usize {
+    list.iter().filter(|value| value.has_left()).count()
+}
+
+fn count_rights<L, R>(list: &[EitherOrBoth<L, R>]) -> usize {
+    list.iter().filter(|value| value.has_right()).count()
 }
 
 // The values of both vectors side by side. Pushed one by one: std's collecting may take a refused request for the end.
 fn line_up<L: Drop, R: Drop, A: Allocator>(
     alloc: A,
-    pair: EitherOrBoth<Vec<L, A>, Vec<R, A>>,
+    left: Vec<L, A>,
+    right: Vec<R, A>,
 ) -> Result<Vec<EitherOrBoth<L, R>, A>, AllocError>
-    ensures { IfOk result (λ made. made.items ≡ aligned (contents_at (λ v. v.items) (left_place pair)) (contents_at (λ v. v.items) (right_place pair))) }
+    ensures { IfOk result (λ made. made.items ≡ aligned left.items right.items) }
 {
-    let mut lined_up = Vec::new(alloc);
-    for value in pair.into_iter_swap() {
+    let mut lined_up = Vec::with_capacity(alloc, left.len().max(right.len()))?;
+    for value in EitherOrBoth::Both(left, right).into_iter_swap() {
         lined_up.push(value)?;
     }
     Ok(lined_up)

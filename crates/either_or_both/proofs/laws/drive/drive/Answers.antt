@@ -3,8 +3,8 @@ use Rattle.std.specs.Iterator.{size}
 use Rattle.eob_both.proofs.EndsLemmas.{to_come_uncounted}
 use Rattle.either_or_both.proofs.laws.drive.drive.Goals as goal
 
-pub call_ends-requires : goal.call_ends-requires
-call_ends-requires g c = (c.requires.0, to_come_uncounted _ c.requires.0.view c.requires.0.items c.args.walk c.requires.1)
+pub drive_walk_in-requires : goal.drive_walk_in-requires
+drive_walk_in-requires g c = (c.requires.0, to_come_uncounted _ c.requires.0.view c.requires.0.items c.args.walk c.requires.1)
 
 pub returns-clause-answers : goal.returns-clause-answers
 returns-clause-answers g c = λ list h. c.in_ok-answers.ensures.answers list (to_come_uncounted _ list.view list.items c.args.walk h)

@@ -3,12 +3,12 @@ use Rattle.std.proofs.Math.ListN.{drop_of_length-le}
 use Rattle.std.specs.Option.{option_map}
 use Rattle.either_or_both.specs.Answers.{answers}
 use Rattle.either_or_both.proofs.DriveLemmas.{kept}
-use Rattle.either_or_both.proofs.laws.drive.call_ends.Goals as goal
+use Rattle.either_or_both.proofs.laws.drive.drive_walk_in.Goals as goal
 
 pub loop-end-init : goal.loop-end-init
 loop-end-init g c = record {
-  bounded = λ list h. (list.items, h, ap (λ l. map (option_map list.view) l ++ answers list.items c.args.ends.now) c.new-answers.ensures.items, omega arith);
-  counted = λ list h. (list.items, h, ap (λ l. map (option_map list.view) l ++ answers list.items c.args.ends.now) c.new-answers.ensures.items, omega arith);
+  bounded = λ list h. (list.items, h, ap (λ l. map (option_map list.view) l ++ answers list.items c.args.ends.now) c.in_ok-answers.ensures.items, omega arith);
+  counted = λ list h. (list.items, h, ap (λ l. map (option_map list.view) l ++ answers list.items c.args.ends.now) c.in_ok-answers.ensures.items, omega arith);
 }
 
 pub call_end-requires-clause-front : goal.call_end-requires-clause-front

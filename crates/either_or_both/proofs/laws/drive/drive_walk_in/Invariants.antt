@@ -1,7 +1,7 @@
 use Rattle.eob_both.specs.Ends.{both_ends, HasBound, IsExactly, StillToCome, CountedToCome}
 use Rattle.either_or_both.specs.Answers.{Listed}
 use Rattle.either_or_both.proofs.DriveLemmas.{Kept}
-use Rattle.either_or_both.proofs.laws.drive.call_ends.Given as goal
+use Rattle.either_or_both.proofs.laws.drive.drive_walk_in.Given as goal
 
 -- what was still to come is the answers so far and what is still to come now, for a list that is bounded and for one that is counted
 abbrev pub invariant-loop-end : goal.invariant-loop-end
