@@ -1,6 +1,6 @@
--- How the loops of a join of maps come closer to it.
-use Rattle.std.proofs.Common.{◌≡◌, ◌∙◌, Bool, true, false, cond, List, [], ◌∷◌, ◌++◌, map, filter, Option, Some, None, append-nil, append_assoc, refl, sym, ap, subst}
-use Rattle.std.specs.Prelude.{not, is_some}
+-- How the loops of a join of maps come closer to it; a map laid over another; and the join of parts of two maps.
+use Rattle.std.proofs.Common.{◌≡◌, ◌∙◌, Bool, true, false, cond, List, [], ◌∷◌, ◌++◌, map, filter, Option, Some, None, append-nil, append_assoc, refl, sym, ap, ap₂, subst, true≢false}
+use Rattle.std.specs.Prelude.{not, is_some, nat_eq}
 use Rattle.std.specs.Option.{option_map, option_or}
 use Rattle.std.specs.Cmp.{IsEquivalence}
 use Rattle.std.specs.Map.{keys_of, lookup}
@@ -8,12 +8,14 @@ use Rattle.std.specs.Set.{is_member}
 use Rattle.std.specs.List.{AllByRecursion, IsDistinct}
 use Rattle.std.proofs.lemmas.List.{map-append}
 use Rattle.std.proofs.lemmas.List.Elements.{filter-append}
+use Rattle.std.proofs.lemmas.Map.Entries.{lookup-filter-keys}
 use Rattle.std.proofs.lemmas.Map.Keys.{IsDistinct-head, IsDistinct-tail}
 use Rattle.std.proofs.lemmas.Map.Made.{is_some-lookup, lookup-map_values}
 use Rattle.eob_both.specs.declared.either_or_both.EitherOrBoth.{EitherOrBoth}
 use Rattle.eob_both.specs.declared.either_or_both.EitherOrBoth.TheVariants.{Left, Both, Right}
 use Rattle.eob_both.specs.Places.{from_places, left_place, right_place}
-use Rattle.eob_joins.specs.MapJoin.{IsMapJoin}
+use Rattle.indexmap.specs.IndexMap.{insert_all, insert_entry}
+use Rattle.eob_joins.specs.MapJoin.{IsMapJoin, IsMapOverlay, MapPartsLaw, part_of}
 
 -- the entries of the left map, each with its value as left place
 abbrev pub lefts_of : {K A B : Type 0} → List (K × A) → List (K × EitherOrBoth A B)
@@ -135,3 +137,79 @@ module _ {K : Type 0} {eq : K → K → Bool} (laws : IsEquivalence eq) where
   pub right_apart : {B : Type 0} (q ys its rest : List (K × B)) (k : K) (b : B) → IsDistinct eq (keys_of q) → ys ++ its ≡ q → its ≡ (k, b) ∷ rest → (lookup (eq k) ys ≡ None) × ((ys ++ (k, b) ∷ []) ++ rest ≡ q)
   right_apart q ys its rest k b d e f =
       (lookup_before ys k b rest (subst (λ l. IsDistinct eq (keys_of l)) (sym e ∙ ap (λ l. ys ++ l) f) d), append_assoc ys ((k, b) ∷ []) rest ∙ ap (λ l. ys ++ l) (sym f) ∙ e)
+
+  keys_insert_there : {V : Type 0} (es : List (K × V)) (k : K) (v : V) → is_some (lookup (eq k) es) ≡ true → keys_of (insert_entry eq es k v) ≡ keys_of es
+  keys_insert_there [] k v t = absurd (true≢false (sym t))
+  keys_insert_there (e ∷ es) k v t = by_test (eq k e.0) (λ s. rw s refl) (λ f. rw f (ap (λ ks. e.0 ∷ ks) (keys_insert_there es k v (rw f at t))))
+
+  keys_insert_new : {V : Type 0} (es : List (K × V)) (k : K) (v : V) → is_some (lookup (eq k) es) ≡ false → keys_of (insert_entry eq es k v) ≡ keys_of es ++ k ∷ []
+  keys_insert_new [] k v n = refl
+  keys_insert_new (e ∷ es) k v n = by_test (eq k e.0) (λ s. absurd (true≢false (rw s at n))) (λ f. rw f (ap (λ ks. e.0 ∷ ks) (keys_insert_new es k v (rw f at n))))
+
+  lookup_insert : {V : Type 0} (j : K) (es : List (K × V)) (k : K) (v : V) → lookup (eq j) (insert_entry eq es k v) ≡ cond (eq j k) (Some v) (lookup (eq j) es)
+  lookup_insert j [] k v = refl
+  lookup_insert j (e ∷ es) k v =
+      by_test (eq k e.0)
+      (λ s.
+      let same : eq j e.0 ≡ eq j k = laws.symm j e.0 ∙ sym (laws.congr k e.0 j s) ∙ laws.symm k j in
+      by_test (eq j k) (λ t. rw (s, same, t) refl) (λ f. rw (s, same, f) refl))
+      (λ f.
+      by_test (eq j e.0)
+      (λ t. let apart : eq j k ≡ false = laws.congr j e.0 k t ∙ laws.symm e.0 k ∙ f in rw (f, t, apart) refl)
+      (λ a. rw (f, a) (lookup_insert j es k v)))
+
+  -- one more entry is laid over a map
+  overlay_step : {V : Type 0} (p ys : List (K × V)) (k : K) (v : V) (es : List (K × V)) → IsMapOverlay eq p ys es → lookup (eq k) ys ≡ None → IsMapOverlay eq p (ys ++ (k, v) ∷ []) (insert_entry eq es k v)
+  overlay_step p ys k v es h none =
+      let lacks : K → Bool = λ j. not (is_member eq (keys_of p) j) in
+      let here : lookup (eq k) es ≡ lookup (eq k) p = h.values k ∙ ap (λ m. option_or m (lookup (eq k) p)) none in
+      let seen : is_some (lookup (eq k) es) ≡ is_member eq (keys_of p) k = ap is_some here ∙ is_some-lookup (eq k) p in
+      record {
+        order =
+            by_test (is_member eq (keys_of p) k)
+            (λ t. keys_insert_there es k v (seen ∙ t) ∙ h.order ∙ ap (λ ks. keys_of p ++ ks) (sym (more_keys p ys k v [] [] ∙ rw t (append-nil (filter lacks (keys_of ys))))))
+            (λ f.
+            keys_insert_new es k v (seen ∙ f) ∙ ap (λ ks. ks ++ k ∷ []) h.order ∙ append_assoc (keys_of p) (filter lacks (keys_of ys)) (k ∷ [])
+            ∙ ap (λ ks. keys_of p ++ ks) (sym (more_keys p ys k v [] [] ∙ rw f refl)));
+        values = λ j.
+            lookup_insert j es k v ∙
+            by_test (eq j k)
+            (λ t. let gone : lookup (eq j) ys ≡ None = lookup_alike j k t ys ∙ none in rw (lookup_push j ys k v, gone, t) refl)
+            (λ f. rw (lookup_push j ys k v, f, or_none (lookup (eq j) ys)) (h.values j));
+      }
+
+  overlay_more : {V : Type 0} (p ys xs es : List (K × V)) → IsMapOverlay eq p ys es → IsDistinct eq (keys_of (ys ++ xs)) → IsMapOverlay eq p (ys ++ xs) (insert_all eq es xs)
+  overlay_more p ys [] es h d = subst (λ l. IsMapOverlay eq p l es) (sym (append-nil ys)) h
+  overlay_more p ys (x ∷ xs) es h d =
+      let whole : (ys ++ x ∷ []) ++ xs ≡ ys ++ x ∷ xs = append_assoc ys (x ∷ []) xs in
+      subst (λ l. IsMapOverlay eq p l (insert_all eq (insert_entry eq es x.0 x.1) xs)) whole
+      (overlay_more p (ys ++ x ∷ []) xs (insert_entry eq es x.0 x.1) (overlay_step p ys x.0 x.1 es h (lookup_before ys x.0 x.1 xs d)) (subst (λ l. IsDistinct eq (keys_of l)) (sym whole) d))
+
+  overlay_none : {V : Type 0} (p : List (K × V)) → IsMapOverlay eq p [] p
+  overlay_none p = record { order = sym (append-nil (keys_of p)); values = λ k. refl }
+
+  insert_apart : {V : Type 0} (es : List (K × V)) (k : K) (v : V) → lookup (eq k) es ≡ None → insert_entry eq es k v ≡ es ++ (k, v) ∷ []
+  insert_apart [] k v n = refl
+  insert_apart (e ∷ es) k v n =
+      by_test (eq k e.0)
+      (λ s. let bad : Some e.1 ≡ None = rw s at n in absurd (cc))
+      (λ f. rw f (ap (λ l. e ∷ l) (insert_apart es k v (rw f at n))))
+
+  all_apart : {V : Type 0} (es xs : List (K × V)) → IsDistinct eq (keys_of (es ++ xs)) → insert_all eq es xs ≡ es ++ xs
+  all_apart es [] d = sym (append-nil es)
+  all_apart es (x ∷ xs) d =
+      let whole : (es ++ x ∷ []) ++ xs ≡ es ++ x ∷ xs = append_assoc es (x ∷ []) xs in
+      ap (λ l. insert_all eq l xs) (insert_apart es x.0 x.1 (lookup_before es x.0 x.1 xs d)) ∙ all_apart (es ++ x ∷ []) xs (subst (λ l. IsDistinct eq (keys_of l)) (sym whole) d) ∙ whole
+
+  -- a map that took the entries of two maps in turn is the second laid over the first
+  pub overlay_made : {V : Type 0} (p q es fs rows : List (K × V)) → IsDistinct eq (keys_of p) → IsDistinct eq (keys_of q) → es ≡ [] → fs ≡ insert_all eq es p → rows ≡ insert_all eq fs q → IsMapOverlay eq p q rows
+  overlay_made p q es fs rows d a e f h =
+      let first : fs ≡ p = f ∙ ap (λ l. insert_all eq l p) e ∙ all_apart [] p d in
+      subst (IsMapOverlay eq p q) (sym (h ∙ ap (λ l. insert_all eq l q) first)) (overlay_more p [] q p (overlay_none p) a)
+
+pub parts_law : {K : Type 0} (eq : K → K → Bool) (A B : Type 0) → MapPartsLaw eq A B
+parts_law {K = K} eq A B number agree n p q ws zs h j k =
+    let one : (i : K) → eq k i ≡ true → nat_eq n (number i) ≡ nat_eq n (number k) = λ i t. ap (λ m. nat_eq n m) (sym (agree k i t)) in
+    let left = lookup-filter-keys (eq k) (λ i. nat_eq n (number i)) (nat_eq n (number k)) one p in
+    let right = lookup-filter-keys (eq k) (λ i. nat_eq n (number i)) (nat_eq n (number k)) one q in
+    h.values k ∙ ap₂ from_places left right ∙ by_test (nat_eq n (number k)) (λ t. rw t (sym (j.values k))) (λ f. rw f refl)

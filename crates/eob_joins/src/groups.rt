@@ -1,4 +1,7 @@
-//! Tables whose keys repeat: the values of each key as one group, and the full outer join of two such tables.
+//! Tables whose keys repeat: the values of each key as one group, and the full outer join of two such tables by key.
+//!
+//! [`group_join_unordered`] takes tables in any order. [`group_join`] and [`group_by_key`] sort nothing: they ask that the keys are
+//! ordered, which [`is_ordered`] answers. Under a key the values stand in the order that they have in their table.
 ghost use Rattle.std.specs.Prelude.{◌≡◌, ◌∷◌, IsTrue, IfOk, OnOk, ◌↔◌, map};
 ghost use Rattle.either_or_both.specs.Join.{Rising};
 ghost use Rattle.eob_joins.specs.Groups.{AreGroups, HasGroupsOf, IsGroupJoin, Ordered, OrderedLaw, run_rest, run_values, shown_group, shown_row};
@@ -8,15 +11,132 @@ use either_or_both::join::outer_join_in;
 use std::alloc::{AllocError, Allocator, Global};
 use std::collections::VecDeque;
 
-/// Whether no key is less than the one before it, as [`group_by_key`] and [`group_join`] ask. Takes no memory.
-pub fn is_ordered<K: Ord, V>(list: &[(K, V)]) -> bool
-    ensures { IsTrue result ↔ Ordered K.cmp list.now }
+/// A row of a group join: a key, and the values that each table has under it.
+pub type GroupRow<K, A, B, M = Global> = (K, EitherOrBoth<Vec<A, M>, Vec<B, M>>);
+
+/// The full outer join of two tables in any order, whose keys may repeat: each key of either table once, in order, with all values
+/// that the left table has under it as left place and those of the right table as right place. Under a key the values stand in the
+/// order that they have in their table. Both tables are sorted by key first; of tables whose keys are ordered, [`group_join`] gives
+/// the same rows without.
+///
+/// # Errors
+///
+/// `AllocError` where a request for memory was refused: then both tables are dropped.
+///
+/// ```
+/// let left = vec![in alloc; (3, 'c'), (1, 'b'), (1, 'a')]?;
+/// let right = vec![in alloc; (2, 'y'), (1, 'x')]?;
+/// let rows = group_join_unordered(alloc, left, right)?;
+/// let text = format!(in alloc; "{rows:?}")?;
+/// assert_eq!(rt; text.as_str(), "[(1, Both(['b', 'a'], ['x'])), (2, Right(['y'])), (3, Left(['c']))]");
+/// ```
+pub fn group_join_unordered<K: Ord + Drop, A: Drop, B: Drop>(
+    alloc: Global,
+    left: Vec<(K, A)>,
+    right: Vec<(K, B)>,
+) -> Result<Vec<GroupRow<K, A, B>>, AllocError>
+    ensures { IfOk result (λ rows. IsGroupJoin K.cmp left.items right.items (map shown_row rows.items)) }
 {
-    list.is_sorted_by(|pair, next| !next.0.cmp(&pair.0).is_lt())
+    group_join_unordered_in(alloc, left, right)
 }
 
-/// The groups of a table whose keys do not fall: each key once, in order, with all its values in theirs.
-pub fn group_by_key<K: Ord + Drop, V: Drop, M: Allocator + Copy>(
+/// [`group_join_unordered`] with memory of any allocator.
+///
+/// # Errors
+///
+/// `AllocError` where a request for memory was refused: then both tables are dropped.
+pub fn group_join_unordered_in<K: Ord + Drop, A: Drop, B: Drop, M: Allocator + Copy>(
+    alloc: M,
+    left: Vec<(K, A), M>,
+    right: Vec<(K, B), M>,
+) -> Result<Vec<GroupRow<K, A, B, M>, M>, AllocError>
+    ensures { IfOk result (λ rows. IsGroupJoin K.cmp left.items right.items (map shown_row rows.items)) }
+{
+    let left = in_order(left)?;
+    let right = in_order(right)?;
+    let rows = group_join_in(alloc, left, right)?;
+    Ok(rows)
+}
+
+/// The full outer join of two tables whose keys are ordered and may repeat: each key of either table once, in order, with all values
+/// that the left table has under it as left place and those of the right table as right place. That the keys are ordered is asked
+/// and not tested: [`is_ordered`] tests it.
+///
+/// # Errors
+///
+/// `AllocError` where a request for memory was refused: then both tables are dropped.
+///
+/// ```
+/// let left = vec![in alloc; (1, 'a'), (1, 'b'), (3, 'c')]?;
+/// let right = vec![in alloc; (1, 'x'), (2, 'y')]?;
+/// assert!(rt; is_ordered(&left) && is_ordered(&right));
+/// let rows = group_join(alloc, left, right)?;
+/// let text = format!(in alloc; "{rows:?}")?;
+/// assert_eq!(rt; text.as_str(), "[(1, Both(['a', 'b'], ['x'])), (2, Right(['y'])), (3, Left(['c']))]");
+/// ```
+pub fn group_join<K: Ord + Drop, A: Drop, B: Drop>(
+    alloc: Global,
+    left: Vec<(K, A)>,
+    right: Vec<(K, B)>,
+) -> Result<Vec<GroupRow<K, A, B>>, AllocError>
+    requires left { Ordered K.cmp left.items }
+    requires right { Ordered K.cmp right.items }
+    ensures { IfOk result (λ rows. IsGroupJoin K.cmp left.items right.items (map shown_row rows.items)) }
+{
+    group_join_in(alloc, left, right)
+}
+
+/// [`group_join`] with memory of any allocator.
+///
+/// # Errors
+///
+/// `AllocError` where a request for memory was refused: then both tables are dropped.
+pub fn group_join_in<K: Ord + Drop, A: Drop, B: Drop, M: Allocator + Copy>(
+    alloc: M,
+    left: Vec<(K, A), M>,
+    right: Vec<(K, B), M>,
+) -> Result<Vec<GroupRow<K, A, B, M>, M>, AllocError>
+    requires left { Ordered K.cmp left.items }
+    requires right { Ordered K.cmp right.items }
+    ensures { IfOk result (λ rows. IsGroupJoin K.cmp left.items right.items (map shown_row rows.items)) }
+{
+    let left = group_by_key_in(alloc, left)?;
+    let right = group_by_key_in(alloc, right)?;
+    let rows = outer_join_in(alloc, left, right)?;
+    Ok(rows)
+}
+
+/// The groups of a table whose keys are ordered: each key once, in order, with all its values in theirs. That the keys are ordered is
+/// asked and not tested: [`is_ordered`] tests it.
+///
+/// # Errors
+///
+/// `AllocError` where a request for memory was refused: then the table is dropped.
+///
+/// ```
+/// let list = vec![in alloc; (1, 'a'), (1, 'b'), (3, 'c')]?;
+/// assert!(rt; is_ordered(&list));
+/// let groups = group_by_key(alloc, list)?;
+/// let text = format!(in alloc; "{groups:?}")?;
+/// assert_eq!(rt; text.as_str(), "[(1, ['a', 'b']), (3, ['c'])]");
+/// ```
+pub fn group_by_key<K: Ord + Drop, V: Drop>(
+    alloc: Global,
+    list: Vec<(K, V)>,
+) -> Result<Vec<(K, Vec<V>)>, AllocError>
+    requires { Ordered K.cmp list.items }
+    ensures groups { IfOk result (λ groups. AreGroups K.cmp list.items (map shown_group groups.items)) }
+    ensures rises { IfOk result (λ groups. Rising K.cmp groups.items) }
+{
+    group_by_key_in(alloc, list)
+}
+
+/// [`group_by_key`] with memory of any allocator.
+///
+/// # Errors
+///
+/// `AllocError` where a request for memory was refused: then the table is dropped.
+pub fn group_by_key_in<K: Ord + Drop, V: Drop, M: Allocator + Copy>(
     alloc: M,
     list: Vec<(K, V), M>,
 ) -> Result<Vec<(K, Vec<V, M>), M>, AllocError>
@@ -37,6 +157,23 @@ pub fn group_by_key<K: Ord + Drop, V: Drop, M: Allocator + Copy>(
         }
     }
 }
+
+/// Whether no key is less than the one before it, as [`group_join`] and [`group_by_key`] ask. Takes no memory.
+///
+/// ```
+/// assert!(rt; is_ordered(&[(1, 'a'), (1, 'b'), (2, 'c')]));
+/// assert!(rt; !is_ordered(&[(2, 'a'), (1, 'b')]));
+/// ```
+pub fn is_ordered<K: Ord, V>(list: &[(K, V)]) -> bool
+    ensures { IsTrue result ↔ Ordered K.cmp list.now }
+{
+    list.is_sorted_by(|pair, next| !next.0.cmp(&pair.0).is_lt())
+}
+
+/// A list whose keys rise is ordered.
+pub fn law_ordered_rises<K: Ord, V>()
+    ensures { OrderedLaw K.cmp V }
+{}
 
 // The value, and those of the pairs with the same key that come next, which leave the queue.
 fn take_group<K: Ord + Drop, V: Drop, M: Allocator + Copy>(
@@ -66,41 +203,6 @@ fn take_group<K: Ord + Drop, V: Drop, M: Allocator + Copy>(
     }
 }
 
-/// A row of a group join: a key, and the values that each table has under it.
-pub type GroupRow<K, A, B, M = Global> = (K, EitherOrBoth<Vec<A, M>, Vec<B, M>>);
-
-/// The full outer join of two tables whose keys do not fall: each key of either table once, in order, with all values that the left
-/// table has under it as left place, in their order, and those of the right table as right place.
-pub fn group_join<K: Ord + Drop, A: Drop, B: Drop, M: Allocator + Copy>(
-    alloc: M,
-    left: Vec<(K, A), M>,
-    right: Vec<(K, B), M>,
-) -> Result<Vec<GroupRow<K, A, B, M>, M>, AllocError>
-    requires left { Ordered K.cmp left.items }
-    requires right { Ordered K.cmp right.items }
-    ensures { IfOk result (λ rows. IsGroupJoin K.cmp left.items right.items (map shown_row rows.items)) }
-{
-    let left = group_by_key(alloc, left)?;
-    let right = group_by_key(alloc, right)?;
-    let rows = outer_join_in(alloc, left, right)?;
-    Ok(rows)
-}
-
-/// [`group_join`] of tables in any order, which are sorted first: under a key the values stand in the order that they have in the
-/// tables.
-pub fn group_join_unordered<K: Ord + Drop, A: Drop, B: Drop, M: Allocator + Copy>(
-    alloc: M,
-    left: Vec<(K, A), M>,
-    right: Vec<(K, B), M>,
-) -> Result<Vec<GroupRow<K, A, B, M>, M>, AllocError>
-    ensures { IfOk result (λ rows. IsGroupJoin K.cmp left.items right.items (map shown_row rows.items)) }
-{
-    let left = in_order(left)?;
-    let right = in_order(right)?;
-    let rows = group_join(alloc, left, right)?;
-    Ok(rows)
-}
-
 // The table sorted by key, with what it has under each key as it was.
 fn in_order<K: Ord + Drop, V: Drop, M: Allocator>(
     mut list: Vec<(K, V), M>,
@@ -111,8 +213,3 @@ fn in_order<K: Ord + Drop, V: Drop, M: Allocator>(
     list.sort_by(|pair, next| pair.0.cmp(&next.0))?;
     Ok(list)
 }
-
-/// A list that rises is ordered.
-pub fn law_ordered_rises<K: Ord, V>()
-    ensures { OrderedLaw K.cmp V }
-{}

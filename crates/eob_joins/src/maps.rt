@@ -1,19 +1,60 @@
-//! The full outer join of two tables that are maps, in the order of insertion or hashed.
+//! Tables as maps, whose keys are each there once: the full outer join of two maps, and a map laid over another, as the layers of a
+//! program's settings. Nothing is asked of the maps.
+//!
+//! What these calls give is an `IndexMap`, which is walked in the order of insertion: the keys of the left map in their order, then
+//! those that it lacks in the order of the right map.
 ghost use Rattle.std.specs.Prelude.{◌≡◌, ◌++◌, ◌∷◌, [], IfOk, List, None, OnOk, Some};
 ghost use Rattle.std.specs.HashMap.{IsEmpty, get};
-ghost use Rattle.std.specs.Map.{lookup};
 ghost use Rattle.either_or_both.specs.Places.{left_place, right_place};
-ghost use Rattle.eob_joins.specs.MapJoin.{IsMapJoin};
+ghost use Rattle.eob_joins.specs.MapJoin.{AddsRight, IsMapJoin, IsMapOverlay, MapPartsLaw};
 
 use either_or_both::EitherOrBoth;
 use indexmap::IndexMap;
-use std::alloc::{AllocError, Allocator};
+use std::alloc::{AllocError, Allocator, Global};
 use std::collections::HashMap;
 use std::hash::{BuildHasher, Hash};
 
 /// The full outer join of two maps in the order of insertion: the keys of the left map in their order, then those that it lacks in the
-/// order of the right map, each with what the two maps have under it.
+/// order of the right map, each with the left map's value as left place and the right map's as right place. It takes one look-up by
+/// hash for each entry of either map.
+///
+/// # Errors
+///
+/// `AllocError` where a request for memory was refused: then both maps are dropped.
+///
+/// ```
+/// let mut left = IndexMap::new(alloc);
+/// left.insert(3, 'c')?;
+/// left.insert(1, 'a')?;
+/// let mut right = IndexMap::new(alloc);
+/// right.insert(2, 'y')?;
+/// right.insert(1, 'x')?;
+/// let rows = outer_join_index_maps(alloc, left, right)?;
+/// let text = format!(in alloc; "{rows:?}")?;
+/// assert_eq!(rt; text.as_str(), "{3: Left('c'), 1: Both('a', 'x'), 2: Right('y')}");
+/// ```
 pub fn outer_join_index_maps<
+    K: Eq + Hash + Drop,
+    A: Drop,
+    B: Drop,
+    S: BuildHasher + Default + Drop,
+    T: BuildHasher + Drop,
+>(
+    alloc: Global,
+    left: IndexMap<K, A, S>,
+    right: IndexMap<K, B, T>,
+) -> Result<IndexMap<K, EitherOrBoth<A, B>, S>, AllocError>
+    ensures { IfOk result (λ rows. IsMapJoin K.eq left.entries right.entries rows.entries) }
+{
+    outer_join_index_maps_in(alloc, left, right)
+}
+
+/// [`outer_join_index_maps`] with memory of any allocator.
+///
+/// # Errors
+///
+/// `AllocError` where a request for memory was refused: then both maps are dropped.
+pub fn outer_join_index_maps_in<
     K: Eq + Hash + Drop,
     A: Drop,
     B: Drop,
@@ -35,9 +76,44 @@ pub fn outer_join_index_maps<
     Ok(rows)
 }
 
-/// The full outer join of two hashed maps, in the order of insertion: the left map's keys first, as that map is walked, and then those
-/// that it lacks, as the right map is walked.
+/// The full outer join of two hashed maps: the keys of the left map, in the order in which that map is walked, then those that it
+/// lacks, in the order in which the right map is walked, each with the left map's value as left place and the right map's as right
+/// place. It takes one look-up by hash for each entry of either map.
+///
+/// # Errors
+///
+/// `AllocError` where a request for memory was refused: then both maps are dropped.
+///
+/// ```
+/// let mut left = HashMap::new(alloc);
+/// left.insert(1, 'a')?;
+/// let mut right = HashMap::new(alloc);
+/// right.insert(1, 'x')?;
+/// let rows = outer_join_hash_maps(alloc, left, right)?;
+/// assert_eq!(rt; rows.get(&1), Some(&Both('a', 'x')));
+/// ```
 pub fn outer_join_hash_maps<
+    K: Eq + Hash + Drop,
+    A: Drop,
+    B: Drop,
+    S: BuildHasher + Default + Drop,
+    T: BuildHasher + Drop,
+>(
+    alloc: Global,
+    left: HashMap<K, A, S>,
+    right: HashMap<K, B, T>,
+) -> Result<IndexMap<K, EitherOrBoth<A, B>, S>, AllocError>
+    ensures { IfOk result (λ rows. IsMapJoin K.eq left.entries right.entries rows.entries) }
+{
+    outer_join_hash_maps_in(alloc, left, right)
+}
+
+/// [`outer_join_hash_maps`] with memory of any allocator.
+///
+/// # Errors
+///
+/// `AllocError` where a request for memory was refused: then both maps are dropped.
+pub fn outer_join_hash_maps_in<
     K: Eq + Hash + Drop,
     A: Drop,
     B: Drop,
@@ -58,6 +134,73 @@ pub fn outer_join_hash_maps<
     }
     Ok(rows)
 }
+
+/// A map laid over another, such as the user's settings over the site's: under each key the value of `over`, and where it has none
+/// that of `base`. The keys of `base` stand first, in their order, then those that it lacks in the order of `over`, as in
+/// [`outer_join_index_maps`]. Layers of any number are laid one over the other by as many calls.
+///
+/// # Errors
+///
+/// `AllocError` where a request for memory was refused: then both maps are dropped.
+///
+/// ```
+/// let mut site = IndexMap::new(alloc);
+/// site.insert("port", 80)?;
+/// site.insert("depth", 3)?;
+/// let mut user = IndexMap::new(alloc);
+/// user.insert("width", 72)?;
+/// user.insert("port", 8080)?;
+/// let settings = overlay_index_maps(alloc, site, user)?;
+/// let text = format!(in alloc; "{settings:?}")?;
+/// assert_eq!(rt; text.as_str(), "{\"port\": 8080, \"depth\": 3, \"width\": 72}");
+/// ```
+pub fn overlay_index_maps<
+    K: Eq + Hash + Drop,
+    V: Drop,
+    S: BuildHasher + Default + Drop,
+    T: BuildHasher + Drop,
+>(
+    alloc: Global,
+    base: IndexMap<K, V, S>,
+    over: IndexMap<K, V, T>,
+) -> Result<IndexMap<K, V, S>, AllocError>
+    ensures { IfOk result (λ rows. IsMapOverlay K.eq base.entries over.entries rows.entries) }
+{
+    overlay_index_maps_in(alloc, base, over)
+}
+
+/// [`overlay_index_maps`] with memory of any allocator.
+///
+/// # Errors
+///
+/// `AllocError` where a request for memory was refused: then both maps are dropped.
+pub fn overlay_index_maps_in<
+    K: Eq + Hash + Drop,
+    V: Drop,
+    S: BuildHasher + Default + Drop,
+    T: BuildHasher + Drop,
+    M: Allocator + Copy,
+>(
+    alloc: M,
+    mut base: IndexMap<K, V, S, M>,
+    mut over: IndexMap<K, V, T, M>,
+) -> Result<IndexMap<K, V, S, M>, AllocError>
+    ensures { IfOk result (λ rows. IsMapOverlay K.eq base.entries over.entries rows.entries) }
+{
+    // The rows are at least as many as the longer map has.
+    let len = base.len().max(over.len());
+    let mut rows = IndexMap::with_capacity_and_hasher(alloc, len, S::default())?;
+    rows.append(&mut base)?;
+    rows.append(&mut over)?;
+    Ok(rows)
+}
+
+/// Where the keys of two maps are dealt out to numbered parts by any function that gives equal keys one number, the join of two parts
+/// of a number has under each key of that number what the join of the whole maps has, and no other key. So maps may be joined part by
+/// part, such as on many machines, each with the keys of one hash.
+pub fn law_map_join_parts<K: Eq, A, B>()
+    ensures { MapPartsLaw K.eq A B }
+{}
 
 // The rows of the left map.
 fn put_hashed_lefts<
@@ -112,7 +255,7 @@ fn put_right<K: Eq + Hash + Drop, A: Drop, B: Drop, S: BuildHasher, M: Allocator
     key: K,
     b: B,
 ) -> Result<(), AllocError>
-    ensures { OnOk result ((p : _) (ys : _) → IsMapJoin K.eq p ys rows.old.entries → lookup (K.eq key) ys ≡ None → IsMapJoin K.eq p (ys ++ (key, b) ∷ []) rows.new.entries) }
+    ensures { OnOk result ((p : List (K × A)) → AddsRight K.eq p key b rows.old.entries rows.new.entries) }
 {
     match rows.get_mut(&key) {
         Some(row) => {

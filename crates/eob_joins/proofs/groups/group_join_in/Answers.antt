@@ -1,6 +1,6 @@
 use Rattle.std.proofs.Common.{Vec}
 use Rattle.eob_joins.proofs.GroupLemmas.{group_join_is}
-use Rattle.eob_joins.proofs.groups.group_join.Goals as goal
+use Rattle.eob_joins.proofs.groups.group_join_in.Goals as goal
 
 pub returns : goal.returns
 returns g c =

@@ -1,7 +1,7 @@
 use Rattle.std.proofs.Common.{◌≡◌, ◌++◌, length, map}
 use Rattle.eob_joins.specs.Groups.{shown_group}
 use Rattle.eob_joins.proofs.GroupLemmas.{groups}
-use Rattle.eob_joins.proofs.groups.group_by_key.Given as goal
+use Rattle.eob_joins.proofs.groups.group_by_key_in.Given as goal
 
 abbrev pub invariant-groups : goal.invariant-groups
 invariant-groups g l = map shown_group l.groups.items ++ groups g.K.Ord.cmp l.list.items ≡ groups g.K.Ord.cmp l.fn.list.items

@@ -1,7 +1,7 @@
 use Rattle.std.proofs.Common.{map}
 use Rattle.eob_joins.specs.Groups.{shown_row}
 use Rattle.eob_joins.proofs.GroupLemmas.{regrouped}
-use Rattle.eob_joins.proofs.groups.group_join_unordered.Goals as goal
+use Rattle.eob_joins.proofs.groups.group_join_unordered_in.Goals as goal
 
 pub returns : goal.returns
 returns g c =

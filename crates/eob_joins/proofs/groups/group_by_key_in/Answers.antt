@@ -3,7 +3,7 @@ use Rattle.std.proofs.lemmas.Grind.{common_steps}
 use Rattle.either_or_both.specs.Join.{Rising}
 use Rattle.eob_joins.specs.Groups.{AreGroups, shown_group}
 use Rattle.eob_joins.proofs.GroupLemmas.{AreGroups-groups, fewer_left, groups, more_groups, rises_raw}
-use Rattle.eob_joins.proofs.groups.group_by_key.Goals as goal
+use Rattle.eob_joins.proofs.groups.group_by_key_in.Goals as goal
 
 pub groups-smaller : goal.groups-smaller
 groups-smaller g c =

@@ -1,6 +1,6 @@
 use Rattle.std.proofs.Common.{[], ◌∷◌, ◌++◌}
 use Rattle.eob_joins.proofs.MapJoinLemmas.{right_apart}
-use Rattle.eob_joins.proofs.maps.outer_join_hash_maps.Goals as goal
+use Rattle.eob_joins.proofs.maps.outer_join_index_maps_in.Goals as goal
 
 pub loop-key-preserved : goal.loop-key-preserved
 loop-key-preserved g c =
