@@ -1,0 +1,16 @@
+//! Tests of the joins of real tables: what is read off a join, changes and versions of a table, groups of repeated keys, and maps.
+//!
+//! Answers are compared with a definition that is computed apart from the code, or written out; and each request for memory is refused
+//! in turn.
+#![tactic(auto)]
+
+#[cfg(test)]
+mod changes;
+#[cfg(test)]
+mod groups;
+#[cfg(test)]
+mod maps;
+#[cfg(test)]
+mod reads;
+#[cfg(test)]
+mod versions;
