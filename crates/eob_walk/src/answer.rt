@@ -1,27 +1,30 @@
-//! From a command, or from the number of a bad line, to its answer.
+//! From an answer, or from the number of a bad line, to its text.
 ghost use Rattle.eob_walk.specs.Growth.{Extends};
 
+mod ends;
 mod items;
 mod joins;
+mod parts;
 
-use crate::line::{Command, Sides};
+use crate::line::{Answer, Sides};
 use either_or_both::EitherOrBoth;
-use items::{append_answers, append_items};
+use ends::append_ends;
+use items::append_items;
 use joins::append_join;
+use parts::{append_part, append_parts};
 use std::alloc::{AllocError, Allocator};
 
-/// Appends the answer to a command.
+/// Appends an answer, and the byte that ends its line.
 #[tactic(auto, using(crate::proofs::GrowthLemmas::extends_trans))]
-pub fn append_answer<A: Allocator + Clone>(
+pub fn append_answer<A: Allocator + Copy>(
     alloc: A,
     output: &mut Vec<u8, A>,
-    command: &Command<A>,
+    answer: Answer<A>,
 ) -> Result<(), AllocError>
     ensures { Extends output.old.items output.new.items }
 {
-    append_text(alloc, output, command)?;
-    output.push(b'\n')?;
-    Ok(())
+    append_text(alloc, output, answer)?;
+    append_parts(output, &[b"\n"])
 }
 
 /// Appends the answer to a bad line.
@@ -33,24 +36,24 @@ pub fn append_bad_line<A: Allocator + Clone>(
     ensures { Extends output.old.items output.new.items }
 {
     let text = format!(in alloc; "line {number}: bad\n")?;
-    output.extend_from_slice(text.as_bytes())
+    append_part(output, text.as_bytes())
 }
 
-// Appends the answer to a command, without the byte that ends it.
-fn append_text<A: Allocator + Clone>(
+// Appends an answer, without the byte that ends its line.
+fn append_text<A: Allocator + Copy>(
     alloc: A,
     output: &mut Vec<u8, A>,
-    command: &Command<A>,
+    answer: Answer<A>,
 ) -> Result<(), AllocError>
     ensures { Extends output.old.items output.new.items }
 {
-    match command {
-        Command::Collect(sides) => append_sides(output, sides),
-        Command::Walk(items) => append_items(output, items),
-        Command::Normal(true) => output.extend_from_slice(b"yes"),
-        Command::Normal(false) => output.extend_from_slice(b"no"),
-        Command::Ends(answers, rest) => append_answers(alloc, output, answers, *rest),
-        Command::Join(joined) => append_join(output, joined),
+    match answer {
+        Answer::Collect(sides) => append_sides(output, &sides),
+        Answer::Walk(items) => append_items(output, &items),
+        Answer::Normal(true) => append_parts(output, &[b"yes"]),
+        Answer::Normal(false) => append_parts(output, &[b"no"]),
+        Answer::Ends(sides, ends) => append_ends(alloc, output, sides, &ends),
+        Answer::Join(joined) => append_join(output, &joined),
     }
 }
 
@@ -60,35 +63,32 @@ fn append_sides<A: Allocator>(output: &mut Vec<u8, A>, sides: &Sides<A>) -> Resu
     ensures { Extends output.old.items output.new.items }
 {
     match sides {
-        EitherOrBoth::Left(left) => {
-            output.extend_from_slice(b"Left ")?;
-            append_words(output, left)
-        }
+        EitherOrBoth::Left(left) => append_words(output, b"Left [", left),
         EitherOrBoth::Both(left, right) => {
-            output.extend_from_slice(b"Both ")?;
-            append_words(output, left)?;
-            output.push(b' ')?;
-            append_words(output, right)
+            append_words(output, b"Both [", left)?;
+            append_words(output, b" [", right)
         }
-        EitherOrBoth::Right(right) => {
-            output.extend_from_slice(b"Right ")?;
-            append_words(output, right)
-        }
+        EitherOrBoth::Right(right) => append_words(output, b"Right [", right),
     }
 }
 
-// Appends words in brackets, parted by one space.
+// Appends what opens a list, and its words, parted by one space, up to the bracket that closes it.
 #[tactic(auto, using(crate::proofs::GrowthLemmas::extends_trans))]
-fn append_words<A: Allocator>(output: &mut Vec<u8, A>, words: &[&[u8]]) -> Result<(), AllocError>
+fn append_words<A: Allocator>(
+    output: &mut Vec<u8, A>,
+    opening: &[u8],
+    words: &[&[u8]],
+) -> Result<(), AllocError>
     ensures { Extends output.old.items output.new.items }
 {
-    output.push(b'[')?;
-    for (place, word) in words.iter().enumerate() {
-        if place > 0 {
-            output.push(b' ')?;
+    match words {
+        [] => append_parts(output, &[opening])?,
+        [first, others @ ..] => {
+            append_parts(output, &[opening, first])?;
+            for word in others {
+                append_parts(output, &[b" ", word])?;
+            }
         }
-        output.extend_from_slice(word)?;
     }
-    output.push(b']')?;
-    Ok(())
+    append_parts(output, &[b"]"])
 }

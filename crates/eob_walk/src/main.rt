@@ -1,7 +1,7 @@
 //! `eob_walk`: answers each line of the standard input on the standard output.
 //!
-//! Here the process is handed to the run. The run over any reader and writer stands in `run`, what a line means in `line`, and
-//! what a command is answered in `answer`.
+//! Here the process is handed to the run. The run over any reader and writer stands in `run`, what a line is answered in `line`,
+//! and how an answer is written in `answer`.
 #![tactic(auto)]
 
 mod answer;

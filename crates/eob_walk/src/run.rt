@@ -3,7 +3,7 @@
 //! Each complete line is answered before the reader is asked for more, and the answers of one read are written together. Lines
 //! are answered where they stand in the buffer that was read, and only the bytes after the last of them are kept: so memory follows
 //! the longest line and its answer, and not the input.
-ghost use Rattle.std.specs.Prelude.{◌≡◌, ◌<◌, IfOk, OnOk, OnErr, vec_len};
+ghost use Rattle.std.specs.Prelude.{◌≡◌, ◌<◌, IfOk, IfSome, OnOk, OnErr, length, vec_len};
 ghost use Rattle.std.specs.Io.KnownBytes.{Appends, IsAtEnd};
 ghost use Rattle.eob_walk.specs.Growth.{Extends};
 
@@ -11,13 +11,16 @@ ghost use Rattle.eob_walk.specs.Growth.{Extends};
 mod tests;
 
 use crate::answer::{append_answer, append_bad_line};
-use crate::line::parse_line;
+use crate::line::answer_line;
 use std::alloc::{AllocError, Allocator, Global};
 use std::io;
 use std::io::{Read, Write};
 
 // The bytes that the reader is asked for at a time.
 const READ_SIZE: usize = 65536;
+
+// The bytes that are searched for the end of a line at a time.
+const BLOCK_SIZE: usize = 16;
 
 /// How a run ended.
 #[derive(Debug, Clone, Copy, PartialEq, Eq)]
@@ -131,8 +134,8 @@ impl<A: Allocator + Copy> Answers<A> {
     fn append(&mut self, line: &[u8]) -> Result<(), AllocError>
         ensures { Extends self.old.unwritten.items self.new.unwritten.items }
     {
-        match parse_line(self.alloc, line)? {
-            Some(command) => append_answer(self.alloc, &mut self.unwritten, &command),
+        match answer_line(self.alloc, line)? {
+            Some(answer) => append_answer(self.alloc, &mut self.unwritten, answer),
             None => {
                 self.any_bad = true;
                 append_bad_line(self.alloc, &mut self.unwritten, self.lines)
@@ -183,10 +186,8 @@ impl<A: Allocator + Copy> Session<A> {
 
     // Answers each line that the bytes complete, and keeps the bytes after the last of them.
     fn take_bytes(&mut self, bytes: &[u8]) -> Result<(), AllocError> {
-        let Some(last_end) = bytes.iter().rposition(|byte| *byte == b'\n') else {
-            return self.unfinished.extend_from_slice(bytes);
-        };
-        for line in bytes[..last_end].split(|byte| *byte == b'\n') {
+        let mut rest = bytes;
+        while let Some((line, after)) = split_line(rest) {
             if self.unfinished.is_empty() {
                 self.answers.add(line)?;
             } else {
@@ -194,8 +195,9 @@ impl<A: Allocator + Copy> Session<A> {
                 self.answers.add(&self.unfinished)?;
                 self.unfinished.clear();
             }
+            rest = after;
         }
-        self.unfinished.extend_from_slice(&bytes[last_end + 1..])
+        self.unfinished.extend_from_slice(rest)
     }
 
     fn write_answers<W: Write>(&mut self, writer: &mut W) -> Result<(), Stop> {
@@ -213,6 +215,25 @@ impl<A: Allocator + Copy> Session<A> {
         writer.flush()?;
         Ok(())
     }
+}
+
+// The bytes before the first end of a line, and those after it, or None.
+fn split_line(bytes: &[u8]) -> Option<(&[u8], &[u8])>
+    ensures { IfSome result (λ parts. length parts.1.now < length bytes.now) }
+{
+    // Blocks are passed over first, since the bytes of one are tested at once.
+    let blocks = bytes
+        .chunks_exact(BLOCK_SIZE)
+        .position(|block| has_line_end(block));
+    let start = blocks.unwrap_or(bytes.len() / BLOCK_SIZE) * BLOCK_SIZE;
+    let end = start + bytes[start..].iter().position(|byte| *byte == b'\n')?;
+    Some((&bytes[..end], &bytes[end + 1..]))
+}
+
+fn has_line_end(block: &[u8]) -> bool {
+    block
+        .iter()
+        .fold(false, |found, byte| found | (*byte == b'\n'))
 }
 
 // The memory that is read into.

@@ -1,6 +1,7 @@
-//! The answers that hold items: of `walk` and of `ends`.
+//! Items as text, and the answer to a `walk` line.
 ghost use Rattle.eob_walk.specs.Growth.{Extends};
 
+use super::parts::append_parts;
 use crate::line::Item;
 use either_or_both::EitherOrBoth;
 use std::alloc::{AllocError, Allocator};
@@ -10,62 +11,32 @@ use std::alloc::{AllocError, Allocator};
 pub fn append_items<A: Allocator>(output: &mut Vec<u8, A>, items: &[Item]) -> Result<(), AllocError>
     ensures { Extends output.old.items output.new.items }
 {
-    if items.is_empty() {
-        output.push(b'-')?;
-    }
-    for (place, item) in items.iter().enumerate() {
-        append_item(output, place > 0, item)?;
-    }
-    Ok(())
-}
-
-/// Appends each answer of a walk with a space after it, `.` where it had none, and how many items are left.
-#[tactic(auto, using(crate::proofs::GrowthLemmas::extends_trans))]
-pub fn append_answers<A: Allocator + Clone>(
-    alloc: A,
-    output: &mut Vec<u8, A>,
-    answers: &[Option<Item>],
-    rest: usize,
-) -> Result<(), AllocError>
-    ensures { Extends output.old.items output.new.items }
-{
-    for answer in answers {
-        match answer {
-            Some(item) => append_item(output, false, item)?,
-            None => output.push(b'.')?,
+    match items {
+        [] => append_parts(output, &[b"-"]),
+        [first, others @ ..] => {
+            append_item(output, b"", first)?;
+            for item in others {
+                append_item(output, b" ", item)?;
+            }
+            Ok(())
         }
-        output.push(b' ')?;
     }
-    let left = format!(in alloc; "left {rest}")?;
-    output.extend_from_slice(left.as_bytes())
 }
 
-/// Appends an item as the line has it, `l:W`, `r:W` or `b:W:W`, after a space where it is parted from another.
-#[tactic(auto, using(crate::proofs::GrowthLemmas::extends_trans))]
+/// Appends an item as a line has it, `l:W`, `r:W` or `b:W:W`, after the bytes that stand before it.
+#[inline(always)]
 pub(super) fn append_item<A: Allocator>(
     output: &mut Vec<u8, A>,
-    parted: bool,
+    before: &[u8],
     item: &Item,
 ) -> Result<(), AllocError>
     ensures { Extends output.old.items output.new.items }
 {
-    if parted {
-        output.push(b' ')?;
-    }
     match item {
-        EitherOrBoth::Left(left) => {
-            output.extend_from_slice(b"l:")?;
-            output.extend_from_slice(left)
-        }
+        EitherOrBoth::Left(left) => append_parts(output, &[before, b"l:", left]),
         EitherOrBoth::Both(left, right) => {
-            output.extend_from_slice(b"b:")?;
-            output.extend_from_slice(left)?;
-            output.push(b':')?;
-            output.extend_from_slice(right)
+            append_parts(output, &[before, b"b:", left, b":", right])
         }
-        EitherOrBoth::Right(right) => {
-            output.extend_from_slice(b"r:")?;
-            output.extend_from_slice(right)
-        }
+        EitherOrBoth::Right(right) => append_parts(output, &[before, b"r:", right]),
     }
 }

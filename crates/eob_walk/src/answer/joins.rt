@@ -2,6 +2,7 @@
 ghost use Rattle.eob_walk.specs.Growth.{Extends};
 
 use super::items::append_item;
+use super::parts::append_parts;
 use crate::line::Item;
 use std::alloc::{AllocError, Allocator};
 
@@ -13,29 +14,28 @@ pub fn append_join<A: Allocator>(
 ) -> Result<(), AllocError>
     ensures { Extends output.old.items output.new.items }
 {
-    if joined.is_empty() {
-        output.push(b'-')?;
+    match joined {
+        [] => append_parts(output, &[b"-"]),
+        [first, others @ ..] => {
+            append_entry(output, b"", first.0, &first.1)?;
+            for entry in others {
+                append_entry(output, b" ", entry.0, &entry.1)?;
+            }
+            Ok(())
+        }
     }
-    for (place, entry) in joined.iter().enumerate() {
-        append_entry(output, place > 0, entry.0, &entry.1)?;
-    }
-    Ok(())
 }
 
-// Appends a key and its values, as `K=l:V`, `K=r:V` or `K=b:V:V`, after a space where it is not the first.
+// Appends a key and its values, as `K=l:V`, `K=r:V` or `K=b:V:V`, after the bytes that stand before it.
 #[tactic(auto, using(crate::proofs::GrowthLemmas::extends_trans))]
 fn append_entry<A: Allocator>(
     output: &mut Vec<u8, A>,
-    parted: bool,
+    before: &[u8],
     key: &[u8],
     value: &Item,
 ) -> Result<(), AllocError>
     ensures { Extends output.old.items output.new.items }
 {
-    if parted {
-        output.push(b' ')?;
-    }
-    output.extend_from_slice(key)?;
-    output.push(b'=')?;
-    append_item(output, false, value)
+    append_parts(output, &[before, key])?;
+    append_item(output, b"=", value)
 }

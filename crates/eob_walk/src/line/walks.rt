@@ -1,21 +1,81 @@
-//! From the words of a line to a list of items, and to the answers of a walk over them.
-ghost use Rattle.std.specs.Iterator.{IsFinite};
+//! From the words of a line to its items, and to the calls of the ends of a walk over them.
+ghost use Rattle.std.specs.Prelude.{◌<◌, IfSome, length};
+ghost use Rattle.std.specs.Iterator.{at_most};
 
-use super::{Command, Items, Sides, parse_item};
-use either_or_both::laws::{End, drive_swap_in};
+use super::{
+    Answer, Item, Items, Sides, is_word_end, skip_spaces, split_name, split_names, split_word,
+};
+use either_or_both::EitherOrBoth;
+use either_or_both::laws::End;
 use std::alloc::{AllocError, Allocator};
 
-/// The items of a line, or None where a word is no item.
-pub fn parse_items<'a, A: Allocator, I: Iterator<Item = &'a [u8]>>(
-    alloc: A,
-    words: I,
-) -> Result<Option<Items<'a, A>>, AllocError>
-    requires can { I.can_next words }
-    requires finite { IsFinite (I.remaining words) }
+// The words of a line as items: the items in order, and None for the first word that is no item, which is the last.
+#[derive(Drop)]
+struct ItemWords<'a> {
+    rest: &'a [u8],
+}
+
+impl<'a> ItemWords<'a> {
+    fn new(bytes: &'a [u8]) -> Self {
+        ItemWords { rest: bytes }
+    }
+}
+
+impl<'a> Iterator for ItemWords<'a> {
+    type Item = Option<Item<'a>>;
+
+    ghost remaining = { λ words. at_most (length words.rest.now) };
+
+    #[inline(always)]
+    fn next(&mut self) -> Option<Option<Item<'a>>> {
+        let bytes = skip_spaces(self.rest);
+        if bytes.is_empty() {
+            return None;
+        }
+        match split_item(bytes) {
+            Some((item, rest)) if is_word_end(rest) => {
+                self.rest = rest;
+                Some(Some(item))
+            }
+            _ => {
+                self.rest = &[];
+                Some(None)
+            }
+        }
+    }
+}
+
+// The item that the bytes begin with, one of `l:W`, `r:W` and `b:W:W`, and the bytes after it, or None.
+#[inline(always)]
+fn split_item(bytes: &[u8]) -> Option<(Item<'_>, &[u8])>
+    ensures { IfSome result (λ parts. length parts.1.now < length bytes.now) }
 {
-    let mut items = Vec::new(alloc);
-    for word in words {
-        match parse_item(word) {
+    match bytes {
+        [b'l', b':', left @ ..] => {
+            let (left, rest) = split_name(left)?;
+            Some((EitherOrBoth::Left(left), rest))
+        }
+        [b'r', b':', right @ ..] => {
+            let (right, rest) = split_name(right)?;
+            Some((EitherOrBoth::Right(right), rest))
+        }
+        [b'b', b':', both @ ..] => {
+            let ((left, right), rest) = split_names(both, b':')?;
+            Some((EitherOrBoth::Both(left, right), rest))
+        }
+        _ => None,
+    }
+}
+
+/// The items of a line, or None where a word is no item.
+pub fn parse_items<'a, A: Allocator>(
+    alloc: A,
+    words: &'a [u8],
+) -> Result<Option<Items<'a, A>>, AllocError> {
+    // An item has three bytes at least, and all but the last have a space after them.
+    let mut items = Vec::with_capacity(alloc, words.len() / 4 + 1)?;
+    for item in ItemWords::new(words) {
+        match item {
             Some(item) => items.push(item)?,
             None => return Ok(None),
         }
@@ -23,16 +83,35 @@ pub fn parse_items<'a, A: Allocator, I: Iterator<Item = &'a [u8]>>(
     Ok(Some(items))
 }
 
-/// The answers to an `ends` line with these calls, or None where a word is bad.
-pub fn parse_ends<'a, A: Allocator + Copy, I: Iterator<Item = &'a [u8]>>(
+/// The items of a line, collected into vectors, or None where a word is no item.
+pub fn parse_sides<'a, A: Allocator + Copy>(
     alloc: A,
-    calls: &[u8],
-    words: I,
-) -> Result<Option<Command<'a, A>>, AllocError>
-    requires can { I.can_next words }
-    requires finite { IsFinite (I.remaining words) }
-{
-    let mut ends = Vec::new(alloc);
+    words: &'a [u8],
+) -> Result<Option<Sides<'a, A>>, AllocError> {
+    ItemWords::new(words).collect(alloc)
+}
+
+/// The answer to an `ends` line with these words, or None where one is bad.
+pub fn parse_ends<'a, A: Allocator + Copy>(
+    alloc: A,
+    words: &'a [u8],
+) -> Result<Option<Answer<'a, A>>, AllocError> {
+    let (calls, items) = split_word(words);
+    let Some(ends) = parse_calls(alloc, calls)? else {
+        return Ok(None);
+    };
+    match parse_sides(alloc, items)? {
+        Some(sides) => Ok(Some(Answer::Ends(sides, ends))),
+        None => Ok(None),
+    }
+}
+
+// The ends that one or more letters `f` and `b` call, or None where there is another letter, or none.
+fn parse_calls<A: Allocator>(alloc: A, calls: &[u8]) -> Result<Option<Vec<End, A>>, AllocError> {
+    if calls.is_empty() {
+        return Ok(None);
+    }
+    let mut ends = Vec::with_capacity(alloc, calls.len())?;
     for call in calls {
         match call {
             b'f' => ends.push(End::Front)?,
@@ -40,12 +119,5 @@ pub fn parse_ends<'a, A: Allocator + Copy, I: Iterator<Item = &'a [u8]>>(
             _ => return Ok(None),
         }
     }
-    let sides: Option<Sides<'a, A>> = words.map(parse_item).collect(alloc)?;
-    match sides {
-        Some(sides) => {
-            let (answers, rest) = drive_swap_in(alloc, sides, &ends)?;
-            Ok(Some(Command::Ends(answers, rest)))
-        }
-        None => Ok(None),
-    }
+    Ok(Some(ends))
 }

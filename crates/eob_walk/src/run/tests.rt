@@ -1,5 +1,6 @@
 //! What the program writes for its input, and how a run ends over streams that give little, take little or fail.
 
+mod ends;
 mod joins;
 
 use super::{Outcome, run, run_in};

@@ -1,0 +1,10 @@
+use Rattle.either_or_both.specs.Answers.{Listed}
+use Rattle.either_or_both.specs.Ends.{CountedToCome}
+use Rattle.either_or_both.specs.Swap.{swap_ends}
+use Rattle.either_or_both.proofs.StdEnds.{vec_ends}
+use Rattle.eob_walk.specs.Growth.{Extends}
+use Rattle.eob_walk.proofs.answer.ends.append_ends.Given as goal
+
+-- what was there stays, and the walk has some list still to come
+abbrev pub invariant-loop-some : goal.invariant-loop-some
+invariant-loop-some g l = Extends l.fn.output.items l.output.items × ((list : Listed _) × CountedToCome (swap_ends vec_ends vec_ends) list.view list.items l.walk)
