@@ -69,7 +69,7 @@ module _ {K A B : Type 0} where
   boths ((k, Right b) ∷ zs) = omega (arith, boths zs, sum_by-cons (λ z. cond (has_both z) 1 0) (k, Right b) zs)
 
 module _ {K : Type 0} (cmp : K → K → Ordering) where
-  up_map : {V W : Type 0} (f : V → W) (P : K → Type 0) (xs : List (K × V)) → Up cmp P xs → Up cmp P (map (λ x. (x.0, f x.1)) xs)
+  pub up_map : {V W : Type 0} (f : V → W) (P : K → Type 0) (xs : List (K × V)) → Up cmp P xs → Up cmp P (map (λ x. (x.0, f x.1)) xs)
   up_map f P [] h = tt
   up_map f P (x ∷ xs) h = (h.0, up_map f (λ k. cmp x.0 k ≡ Less) xs h.1)
 
@@ -77,7 +77,7 @@ module _ {K : Type 0} (cmp : K → K → Ordering) where
   if_map f true v o z e = refl
   if_map f false v o z e = e
 
-  value_map : {V W : Type 0} (f : V → W) (k : K) (xs : List (K × V)) → value_under cmp (map (λ x. (x.0, f x.1)) xs) k ≡ option_map f (value_under cmp xs k)
+  pub value_map : {V W : Type 0} (f : V → W) (k : K) (xs : List (K × V)) → value_under cmp (map (λ x. (x.0, f x.1)) xs) k ≡ option_map f (value_under cmp xs k)
   value_map f k [] = refl
   value_map f k (x ∷ xs) = if_map f (is_eq (cmp k x.0)) x.1 (value_under cmp xs k) _ (value_map f k xs)
 
@@ -104,11 +104,11 @@ module _ {K : Type 0} (cmp : K → K → Ordering) where
         All-cons (λ y. value_under cmp (x ∷ xs) y.0 ≡ Some y.1) x xs (rw (tied_itself o x.0) refl)
         (own_after x.0 x.1 xs h.1 xs (own (λ k. cmp x.0 k ≡ Less) xs h.1))
 
-    own_head : {V : Type 0} (x : K × V) (xs : List (K × V)) → value_under cmp (x ∷ xs) x.0 ≡ Some x.1
+    pub own_head : {V : Type 0} (x : K × V) (xs : List (K × V)) → value_under cmp (x ∷ xs) x.0 ≡ Some x.1
     own_head x xs = rw (tied_itself o x.0) refl
 
     -- what two lists with equal first keys have under a key, they have after those too
-    same_after : {V : Type 0} (x y : K × V) (xs ys : List (K × V)) → Up cmp (λ k. cmp x.0 k ≡ Less) xs → Up cmp (λ k. cmp y.0 k ≡ Less) ys → cmp x.0 y.0 ≡ Equal
+    pub same_after : {V : Type 0} (x y : K × V) (xs ys : List (K × V)) → Up cmp (λ k. cmp x.0 k ≡ Less) xs → Up cmp (λ k. cmp y.0 k ≡ Less) ys → cmp x.0 y.0 ≡ Equal
         → (k : K) → value_under cmp (x ∷ xs) k ≡ value_under cmp (y ∷ ys) k → value_under cmp xs k ≡ value_under cmp ys k
     same_after x y xs ys g h l k e =
         let alike : cmp k x.0 ≡ cmp k y.0 = alike_right o x.0 y.0 k l in
@@ -118,7 +118,7 @@ module _ {K : Type 0} (cmp : K → K → Ordering) where
         ]
 
     -- rising lists with the same values under each key have equal keys and the same values, place by place
-    same_values : {V : Type 0} (P Q : K → Type 0) (xs ys : List (K × V)) → Up cmp P xs → Up cmp Q ys
+    pub same_values : {V : Type 0} (P Q : K → Type 0) (xs ys : List (K × V)) → Up cmp P xs → Up cmp Q ys
         → ((k : K) → value_under cmp xs k ≡ value_under cmp ys k) → AllZip (λ x y. (cmp x.0 y.0 ≡ Equal) × (x.1 ≡ y.1)) xs ys
     same_values P Q [] [] g h e = tt
     same_values P Q [] (y ∷ ys) g h e = let c : None ≡ Some y.1 = e y.0 ∙ own_head y ys in absurd (cc)

@@ -3,12 +3,14 @@
 //! `EitherOrBoth` alone are passed on from `eob_both`. The other functions do what the laws speak of: they regroup a list, poll an
 //! iterator from both ends, and collect a pair of containers again.
 
+mod aligned;
 mod drive;
 mod normal;
 mod recollect;
 mod results;
 mod walks;
 
+pub use aligned::{law_aligned_flip, law_aligned_self, law_aligned_three, law_one_sided};
 pub use drive::{
     Driven, End, drive_chain, drive_items, drive_swap, drive_swap_in, drive_walk_in, law_whole_walk,
 };
