@@ -1,5 +1,5 @@
--- A key's value before and after.
-use Rattle.std.specs.Prelude.{Bool, true, false, not}
+-- What recipes say of the values of a row.
+use Rattle.either_or_both.specs.Prelude.{Bool, true, false, not, left_place, right_place, unwrap_or}
 use Rattle.either_or_both.specs.declared.EitherOrBoth.{EitherOrBoth}
 use Rattle.either_or_both.specs.declared.EitherOrBoth.TheVariants.{Left, Both, Right}
 
@@ -15,3 +15,7 @@ module _ {V : Type 0} (eq : V → V → Bool) where
   changes (Left old) = false
   changes (Both old new) = not (eq old new)
   changes (Right new) = false
+
+-- both values, with a filler for the one that is absent
+abbrev pub filled : {T : Type 0} → T → EitherOrBoth T T → T × T
+filled f v = (unwrap_or (left_place v) f, unwrap_or (right_place v) f)

@@ -1,7 +1,6 @@
 //! A report on two versions of a table: the versions joined by key, and the rows counted by what became of them.
-ghost use Rattle.std.specs.Prelude.{◌≡◌, IfOk, count_by, is_none};
-ghost use Rattle.either_or_both.specs.Join.{IsJoin};
-ghost use Rattle.either_or_both.specs.Places.{left_place, right_place};
+ghost use Rattle.std.specs.Prelude.{◌≡◌};
+ghost use Rattle.either_or_both.specs.Prelude.{IfOk, IsJoin, count_by, is_none, left_place, right_place};
 ghost use Rattle.examples.specs.Cells.{changes, stays};
 
 use either_or_both::EitherOrBoth;

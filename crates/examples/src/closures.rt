@@ -4,8 +4,7 @@
 //! may be called twice, and its second call is made on what the first one left: so it is asked that it may be called in every
 //! state. A test inside a closure stands in a function of its own, whose contract is then all that a proof needs of it.
 ghost use Rattle.std.specs.Prelude.{◌≡◌};
-ghost use Rattle.std.specs.Option.{ForSome};
-ghost use Rattle.either_or_both.specs.Places.{left_place, right_place, MapsPlace};
+ghost use Rattle.either_or_both.specs.Prelude.{ForSome, MapsPlace, left_place, right_place};
 
 use either_or_both::EitherOrBoth;
 

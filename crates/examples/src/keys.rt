@@ -1,9 +1,7 @@
 //! Values that carry both sides, sorted, and as the keys of a map.
-ghost use Rattle.std.specs.Prelude.{◌≡◌, Some, OnOk, unwrap_or};
+ghost use Rattle.std.specs.Prelude.{◌≡◌};
+ghost use Rattle.either_or_both.specs.Prelude.{IsSorted, OnOk, Some, nat_cmp, places_cmp, unwrap_or};
 ghost use Rattle.std.specs.BTreeMap.{get};
-ghost use Rattle.std.specs.List.Sorted.{IsSorted};
-ghost use Rattle.std.specs.Ordering.{nat_cmp};
-ghost use Rattle.either_or_both.specs.Order.{places_cmp};
 
 use either_or_both::EitherOrBoth;
 use std::alloc::AllocError;

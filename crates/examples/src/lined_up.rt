@@ -1,7 +1,7 @@
 //! Two lists lined up, with a filler beside the longer one's rest.
-ghost use Rattle.std.specs.Prelude.{◌≡◌, IfOk, map, reverse, unwrap_or};
-ghost use Rattle.either_or_both.specs.Aligned.{aligned};
-ghost use Rattle.either_or_both.specs.Places.{left_place, right_place};
+ghost use Rattle.std.specs.Prelude.{◌≡◌};
+ghost use Rattle.either_or_both.specs.Prelude.{IfOk, aligned, map, reverse};
+ghost use Rattle.examples.specs.Cells.{filled};
 
 use either_or_both::EitherOrBoth;
 use eob_known_lists::listed::law_rev;
@@ -14,7 +14,7 @@ pub fn lined_up(
     right: &[char],
     filler: char,
 ) -> Result<Vec<(char, char)>, AllocError>
-    ensures { IfOk result (λ v. v.items ≡ map (λ x. (unwrap_or (left_place x) filler, unwrap_or (right_place x) filler)) (aligned left.now right.now)) }
+    ensures { IfOk result (λ v. v.items ≡ map (filled filler) (aligned left.now right.now)) }
 {
     EitherOrBoth::Both(left.iter().copied(), right.iter().copied())
         .into_iter_swap()
@@ -29,7 +29,7 @@ pub fn lined_up_reversed(
     right: Vec<char>,
     filler: char,
 ) -> Result<Vec<(char, char)>, AllocError>
-    ensures { IfOk result (λ v. v.items ≡ map (λ x. (unwrap_or (left_place x) filler, unwrap_or (right_place x) filler)) (reverse (aligned left.items right.items))) }
+    ensures { IfOk result (λ v. v.items ≡ map (filled filler) (reverse (aligned left.items right.items))) }
 {
     let walk = EitherOrBoth::Both(left, right).into_iter_swap().rev();
     law_rev(&walk);
@@ -43,7 +43,7 @@ pub fn lined_up_at_ends(
     right: &[char],
     filler: char,
 ) -> Result<Vec<(char, char)>, AllocError>
-    ensures { IfOk result (λ v. v.items ≡ map (λ x. (unwrap_or (left_place x) filler, unwrap_or (right_place x) filler)) (aligned (reverse left.now) (reverse right.now))) }
+    ensures { IfOk result (λ v. v.items ≡ map (filled filler) (aligned (reverse left.now) (reverse right.now))) }
 {
     EitherOrBoth::Both(left.iter().rev().copied(), right.iter().rev().copied())
         .into_iter_swap()

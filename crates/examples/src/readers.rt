@@ -1,9 +1,9 @@
 //! One reader out of two, chosen at run time and read line by line. No box is made, and what a line was is known of either side.
-ghost use Rattle.std.specs.Prelude.{◌≡◌, ◌++◌, IfSome, OnOk, drop, option_map, unwrap_or};
+ghost use Rattle.std.specs.Prelude.{◌≡◌, ◌++◌};
+ghost use Rattle.either_or_both.specs.Prelude.{IfSome, OnOk, drop, of_held, option_map, unwrap_or};
 ghost use Rattle.std.specs.Io.BufRead.{take_through};
 ghost use Rattle.std.specs.Io.Cursor.{cursor_inner, cursor_position};
 ghost use Rattle.either_or_both.specs.Either.{left_place, right_place};
-ghost use Rattle.either_or_both.specs.EitherStreams.{of_held};
 
 use either_or_both::Either;
 use std::io;

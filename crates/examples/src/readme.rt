@@ -1,16 +1,25 @@
-//! The example of the README: a layered setting, a batch split in two, two lists side by side, and two tables joined.
-ghost use Rattle.std.specs.Prelude.{◌≡◌, ◌↔◌, IfOk, IfSome, IsSome, unwrap_or};
-ghost use Rattle.std.specs.List.{filter_map};
-ghost use Rattle.std.specs.Result.{result_err, result_ok};
-ghost use Rattle.either_or_both.specs.Aligned.{aligned};
-ghost use Rattle.either_or_both.specs.Join.{IsJoin, Rising};
-ghost use Rattle.either_or_both.specs.Places.{map_places};
-ghost use Rattle.either_or_both.specs.Sides.{pair_of};
+//! The example of the README: two tables joined, a layered setting, a batch split in two, and two lists side by side.
+ghost use Rattle.std.specs.Prelude.{◌≡◌, ◌↔◌};
+ghost use Rattle.either_or_both.specs.Prelude.{IfOk, IfSome, IsJoin, IsSome, Rising, aligned, filter_map, map_places, pair_of, result_err, result_ok, unwrap_or};
 
-use either_or_both::join::{is_rising, outer_join};
+use either_or_both::join::{is_rising, law_sorted_rises, outer_join, outer_join_lazily};
 use either_or_both::laws::law_results;
 use either_or_both::{Either, EitherOrBoth};
 use std::alloc::{AllocError, Global};
+use std::collections::BTreeMap;
+
+/// Two tables joined by key: each key of either table once, in order, with what each table has under it.
+pub fn full_outer_join<K: Ord + Drop, A: Drop, B: Drop>(
+    alloc: Global,
+    left: BTreeMap<K, A>,
+    right: BTreeMap<K, B>,
+) -> Result<Vec<(K, EitherOrBoth<A, B>)>, AllocError>
+    ensures { IfOk result (λ rows. IsJoin K.cmp left.entries right.entries rows.items) }
+{
+    law_sorted_rises::<K, A>();
+    law_sorted_rises::<K, B>();
+    outer_join_lazily(left, right).collect(alloc)
+}
 
 /// A port that the user may have set, over one that the site may have set.
 pub fn port(site: Option<u16>, user: Option<u16>) -> u16
@@ -27,7 +36,9 @@ pub fn split<T: Drop, E: Drop>(
     alloc: Global,
     batch: Vec<Result<T, E>>,
 ) -> Result<EitherOrBoth<Vec<E>, Vec<T>>, AllocError>
-    ensures { IfOk result (λ v. map_places (λ faults. faults.items) (λ good. good.items) v ≡ pair_of (filter_map result_err batch.items) (filter_map result_ok batch.items)) }
+    ensures { let faults = filter_map result_err batch.items in
+        let good = filter_map result_ok batch.items in
+        IfOk result (λ v. map_places (λ l. l.items) (λ r. r.items) v ≡ pair_of faults good) }
 {
     law_results(&batch);
     batch.into_iter().map(Either::from).collect(alloc)
@@ -46,8 +57,8 @@ pub fn side_by_side<T: Drop, U: Drop>(
         .collect(alloc)
 }
 
-/// Two lists joined by key: each key once, in order, with what each list has under it. None where the keys of one do not rise.
-pub fn joined<K: Ord + Drop, A: Drop, B: Drop>(
+/// The same of two lists that may come in any order: None where the keys of one do not rise.
+pub fn joined_if_rising<K: Ord + Drop, A: Drop, B: Drop>(
     alloc: Global,
     left: Vec<(K, A)>,
     right: Vec<(K, B)>,

@@ -1,5 +1,6 @@
 //! Values written as JSON and read again, by the derives of `serde`.
-ghost use Rattle.std.specs.Prelude.{◌≡◌, IfOk, string_bytes};
+ghost use Rattle.std.specs.Prelude.{◌≡◌};
+ghost use Rattle.either_or_both.specs.Prelude.{IfOk, string_bytes};
 ghost use Rattle.json.specs.Lex.{tokens};
 ghost use Rattle.json.specs.Print.{print};
 

@@ -1,5 +1,6 @@
 //! Settings in three layers, field by field: the user's where it is set, else the site's, else the default.
-ghost use Rattle.std.specs.Prelude.{◌≡◌, unwrap_or};
+ghost use Rattle.std.specs.Prelude.{◌≡◌};
+ghost use Rattle.either_or_both.specs.Prelude.{unwrap_or};
 
 use either_or_both::EitherOrBoth;
 

@@ -5,7 +5,7 @@ use crate::closures::{feed_both, map_left_by};
 use crate::keys::{number_of, put_number, sort};
 use crate::lined_up::{lined_up, lined_up_at_ends, lined_up_reversed};
 use crate::readers::{next_line, opened};
-use crate::readme::{joined, port, side_by_side, split};
+use crate::readme::{full_outer_join, joined_if_rising, port, side_by_side, split};
 use crate::report::{parse_table, render};
 use crate::serialized::{Row, from_json, to_json};
 use crate::settings::{Layer, Settings, resolve};
@@ -34,12 +34,24 @@ fn of_the_readme(rt: HostRuntime) -> Result<(), Fail> {
     let rows = side_by_side(alloc, vec![in alloc; 1, 2]?, vec![in alloc; 'a']?)?;
     assert_eq!(rt; rows, vec![in alloc; Both(1, 'a'), Left(2)]?);
 
+    let mut articles = BTreeMap::new(alloc);
+    articles.insert(1, "pen")?;
+    articles.insert(3, "ink")?;
+    let mut stock = BTreeMap::new(alloc);
+    stock.insert(2, 40)?;
+    stock.insert(3, 7)?;
+    let rows = vec![in alloc; (1, Left("pen")), (2, Right(40)), (3, Both("ink", 7))]?;
+    assert_eq!(rt; full_outer_join(alloc, articles, stock)?, rows);
+
     let left = vec![in alloc; (1, 'a'), (3, 'b')]?;
     let right = vec![in alloc; (2, 'x'), (3, 'y')]?;
     let rows = vec![in alloc; (1, Left('a')), (2, Right('x')), (3, Both('b', 'y'))]?;
-    assert_eq!(rt; joined(alloc, left, right)?, Some(rows));
+    assert_eq!(rt; joined_if_rising(alloc, left, right)?, Some(rows));
     let falling = vec![in alloc; (3, 'a'), (1, 'b')]?;
-    assert_eq!(rt; joined(alloc, falling, vec![in alloc; (1, 'c')]?)?, None);
+    assert_eq!(rt;
+        joined_if_rising(alloc, falling, vec![in alloc; (1, 'c')]?)?,
+        None
+    );
     Ok(())
 }
 

@@ -1,9 +1,7 @@
 //! A table whose rows have two sides, each of which may be absent: one side of a row set behind its key.
-ghost use Rattle.std.specs.Prelude.{◌≡◌, Some, OnOk};
+ghost use Rattle.std.specs.Prelude.{◌≡◌};
+ghost use Rattle.either_or_both.specs.Prelude.{OnOk, Some, left_place, nat_cmp, option_and_then, right_place};
 ghost use Rattle.std.specs.BTreeMap.{get};
-ghost use Rattle.std.specs.Option.{option_and_then};
-ghost use Rattle.std.specs.Ordering.{nat_cmp};
-ghost use Rattle.either_or_both.specs.Places.{left_place, right_place};
 
 use either_or_both::EitherOrBoth;
 use std::alloc::AllocError;

@@ -1,6 +1,6 @@
 //! A side written through a reference, and what is held afterwards known.
-ghost use Rattle.std.specs.Prelude.{◌≡◌, ◌+◌, ◌<◌, ◌^◌, IfSome, Some, option_map, unwrap_or};
-ghost use Rattle.either_or_both.specs.Places.{left_place, right_place};
+ghost use Rattle.std.specs.Prelude.{◌≡◌, ◌+◌, ◌<◌, ◌^◌};
+ghost use Rattle.either_or_both.specs.Prelude.{IfSome, Some, left_place, option_map, right_place, unwrap_or};
 
 use either_or_both::EitherOrBoth;
 
