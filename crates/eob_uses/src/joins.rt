@@ -1,13 +1,16 @@
 //! Uses of the full outer join: reports on two versions of a table, layered settings, and joins of many kinds of source.
-ghost use Rattle.std.specs.Prelude.{◌≡◌, ◌-◌, IfOk, count_by, false, is_none, is_some, map, option_map, unwrap_or};
+ghost use Rattle.std.specs.Prelude.{◌≡◌, ◌+◌, ◌-◌, ◌<◌, ◌^◌, IfOk, IfSome, count_by, length, false, is_none, is_some, map, option_map, unwrap_or};
+ghost use Rattle.std.specs.BTreeMap.{get};
 ghost use Rattle.std.specs.Option.{option_or, option_zip};
-ghost use Rattle.either_or_both.specs.Places.{left_place, right_place};
+ghost use Rattle.either_or_both.specs.Places.{from_places, left_place, right_place};
 ghost use Rattle.either_or_both.specs.Join.{IsJoin, Rising, value_under};
-ghost use Rattle.either_or_both.specs.JoinLaws.{deref_joined, overlaid};
+ghost use Rattle.either_or_both.specs.JoinLaws.{deref_joined, overlaid, shared_keys};
+ghost use Rattle.either_or_both.specs.OuterJoin.{ShowsPlaces};
 
 use either_or_both::EitherOrBoth;
 use either_or_both::join::{
-    law_join_overlaid, law_sorted_rises, outer_join, outer_join_lazily, outer_join_slices,
+    law_join_overlaid, law_rising_map, law_sorted_rises, outer_join, outer_join_lazily,
+    outer_join_slices,
 };
 use std::alloc::{AllocError, Global};
 use std::collections::BTreeMap;
@@ -51,6 +54,43 @@ pub fn walk_of_slices<'a, K: Ord, A, B>(
     outer_join_slices(left, right).collect(alloc)
 }
 
+/// How many rows the join of two slices has: those of both, less the keys that they share.
+pub fn count_rows<K: Ord, A, B>(left: &[(K, A)], right: &[(K, B)]) -> usize
+    requires left { Rising K.cmp left.now }
+    requires right { Rising K.cmp right.now }
+    requires fits { length left.now + length right.now < 2 ^ 64 }
+    ensures { result + shared_keys K.cmp left.now right.now ≡ length left.now + length right.now }
+{
+    outer_join_slices(left, right).count()
+}
+
+/// The first row whose key stands in both slices.
+pub fn first_shared<'a, K: Ord, A, B>(
+    left: &'a [(K, A)],
+    right: &'a [(K, B)],
+) -> Option<(&'a K, EitherOrBoth<&'a A, &'a B>)>
+    requires left { Rising K.cmp left.now }
+    requires right { Rising K.cmp right.now }
+    ensures { IfSome result (ShowsPlaces K.cmp left.now right.now) }
+{
+    outer_join_slices(left, right).find(|row| row.1.is_both())
+}
+
+/// The join of two lists as an ordered map, which has under each key what the two lists have there.
+pub fn map_of_join<K: Ord + Drop, A: Drop, B: Drop>(
+    alloc: Global,
+    left: Vec<(K, A)>,
+    right: Vec<(K, B)>,
+) -> Result<BTreeMap<K, EitherOrBoth<A, B>>, AllocError>
+    requires left { Rising K.cmp left.items }
+    requires right { Rising K.cmp right.items }
+    ensures { IfOk result (λ rows. (k : _) → get K.cmp rows k
+        ≡ from_places (value_under K.cmp left.items k) (value_under K.cmp right.items k)) }
+{
+    law_rising_map::<K, EitherOrBoth<A, B>>();
+    outer_join_lazily(left, right).collect(alloc)
+}
+
 /// How many keys of a table were added, removed, changed and left as they were.
 #[derive(Debug, Clone, Copy, PartialEq, Eq)]
 pub struct ChangeCounts {
@@ -76,21 +116,25 @@ pub fn count_removed<K, V>(joined: &[(K, EitherOrBoth<V, V>)]) -> usize
 
 /// How many keys stand in both lists.
 pub fn count_shared<K, V>(joined: &[(K, EitherOrBoth<V, V>)]) -> usize
-    ensures { result ≡ count_by (λ row. is_some (option_zip (left_place row.1) (right_place row.1))) joined.now }
+    ensures { result ≡ count_by
+        (λ row. is_some (option_zip (left_place row.1) (right_place row.1))) joined.now }
 {
     joined.iter().filter(|row| row.1.is_both()).count()
 }
 
 // Whether a key has the same value in both lists.
 fn is_same<V: Eq>(cells: &EitherOrBoth<V, V>) -> bool
-    ensures { result ≡ unwrap_or (option_map (λ v. V.eq v.0 v.1) (option_zip (left_place cells.now) (right_place cells.now))) false }
+    ensures { result
+        ≡ unwrap_or
+        (option_map (λ v. V.eq v.0 v.1) (option_zip (left_place cells.now) (right_place cells.now))) false }
 {
     cells.as_ref().is_both_and(|old, new| old == new)
 }
 
 /// How many keys have the same value in both lists.
 pub fn count_same<K, V: Eq>(joined: &[(K, EitherOrBoth<V, V>)]) -> usize
-    ensures { result ≡ count_by (λ row. unwrap_or (option_map (λ v. V.eq v.0 v.1) (option_zip (left_place row.1) (right_place row.1))) false) joined.now }
+    ensures { result ≡ count_by (λ row. unwrap_or
+        (option_map (λ v. V.eq v.0 v.1) (option_zip (left_place row.1) (right_place row.1))) false) joined.now }
 {
     joined.iter().filter(|row| is_same(&row.1)).count()
 }
@@ -99,7 +143,8 @@ pub fn count_same<K, V: Eq>(joined: &[(K, EitherOrBoth<V, V>)]) -> usize
 pub fn tally<K, V: Eq>(joined: &[(K, EitherOrBoth<V, V>)]) -> ChangeCounts
     ensures added { result.added ≡ count_by (λ row. is_none (left_place row.1)) joined.now }
     ensures removed { result.removed ≡ count_by (λ row. is_none (right_place row.1)) joined.now }
-    ensures changed { result.changed ≡ count_by (λ row. is_some (option_zip (left_place row.1) (right_place row.1))) joined.now - result.same }
+    ensures changed { result.changed ≡ count_by
+        (λ row. is_some (option_zip (left_place row.1) (right_place row.1))) joined.now - result.same }
 {
     let same = count_same(joined);
     ChangeCounts {
@@ -136,7 +181,8 @@ pub fn settings<K: Ord + Drop, V: Drop>(
 ) -> Result<Vec<(K, V)>, AllocError>
     requires site { Rising K.cmp site.items }
     requires user { Rising K.cmp user.items }
-    ensures { IfOk result (λ all. (k : _) → value_under K.cmp all.items k ≡ option_or (value_under K.cmp user.items k) (value_under K.cmp site.items k)) }
+    ensures { IfOk result (λ all. (k : _) → value_under K.cmp all.items k
+        ≡ option_or (value_under K.cmp user.items k) (value_under K.cmp site.items k)) }
 {
     let joined = outer_join(alloc, site, user)?;
     law_join_overlaid(&joined);
