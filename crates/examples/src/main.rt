@@ -4,9 +4,11 @@
 //! The program itself is one of them: it reads two versions of a table, parted by a line `--`, and prints what changed.
 #![tactic(auto)]
 
+mod accounts;
 mod changes;
 mod closures;
 mod keys;
+mod layers;
 mod lined_up;
 mod readers;
 mod readme;

@@ -1,8 +1,10 @@
 //! An answer of each recipe, as the recipe's user would work it out by hand.
 
+use crate::accounts::{accounts, count_unpaid};
 use crate::changes::{Counts, compare, count_changes};
 use crate::closures::{feed_both, map_left_by};
 use crate::keys::{number_of, put_number, sort};
+use crate::layers::settings;
 use crate::lined_up::{lined_up, lined_up_at_ends, lined_up_reversed};
 use crate::readers::{next_line, opened};
 use crate::readme::{full_outer_join, joined_if_rising, port, side_by_side, split};
@@ -13,6 +15,7 @@ use crate::upsert::set_right;
 use crate::writing::{count_right, raise_left};
 use either_or_both::EitherOrBoth;
 use either_or_both::EitherOrBoth::{Both, Left, Right};
+use indexmap::IndexMap;
 use std::alloc::{AllocError, Global};
 use std::collections::BTreeMap;
 use std::test::Fail;
@@ -240,4 +243,42 @@ fn of_closures(rt: HostRuntime) {
         |n: u32| sum = sum.wrapping_mul(10).wrapping_add(n),
     );
     assert_eq!(rt; sum, 123);
+}
+
+/// Layers of settings: the last one that has a key decides.
+#[test]
+fn of_layers(rt: HostRuntime) -> Result<(), Fail> {
+    let alloc = rt.alloc();
+    let mut default = IndexMap::new(alloc);
+    default.insert("host", 1)?;
+    default.insert("port", 80)?;
+    let mut site = IndexMap::new(alloc);
+    site.insert("depth", 3)?;
+    site.insert("port", 81)?;
+    let mut user = IndexMap::new(alloc);
+    user.insert("width", 72)?;
+    user.insert("host", 2)?;
+    let all = settings(alloc, default, site, user)?;
+    let text = format!(in alloc; "{all:?}")?;
+    assert_eq!(rt;
+        text.as_str(),
+        "{\"host\": 2, \"port\": 81, \"depth\": 3, \"width\": 72}"
+    );
+    Ok(())
+}
+
+/// Accounts: a customer with two orders and a payment, one with a payment alone, and one that has not paid.
+#[test]
+fn of_accounts(rt: HostRuntime) -> Result<(), Fail> {
+    let alloc = rt.alloc();
+    let orders = vec![in alloc; ("eve", 12), ("ann", 7), ("ann", 5)]?;
+    let payments = vec![in alloc; ("bob", 1), ("ann", 9)]?;
+    let rows = accounts(alloc, orders, payments)?;
+    let text = format!(in alloc; "{rows:?}")?;
+    assert_eq!(rt;
+        text.as_str(),
+        "[(\"ann\", Both([7, 5], [9])), (\"bob\", Right([1])), (\"eve\", Left([12]))]"
+    );
+    assert_eq!(rt; count_unpaid(&rows), 1);
+    Ok(())
 }
