@@ -1,7 +1,6 @@
 //! Settings in three layers that are maps: the user's over the site's over the defaults, in the order in which the layers bring them.
-ghost use Rattle.std.specs.Prelude.{◌≡◌};
-ghost use Rattle.either_or_both.specs.Prelude.{IfOk, option_or};
-ghost use Rattle.std.specs.HashMap.{get};
+ghost use Rattle.either_or_both.specs.Prelude.{IfOk};
+ghost use Rattle.eob_joins.specs.MapJoin.{IsMapOverlay};
 
 use eob_joins::overlay_index_maps;
 use indexmap::IndexMap;
@@ -15,8 +14,8 @@ pub fn settings<K: Eq + Hash + Drop, V: Drop>(
     site: IndexMap<K, V>,
     user: IndexMap<K, V>,
 ) -> Result<IndexMap<K, V>, AllocError>
-    ensures { IfOk result (λ m. (k : _) → get K.eq m k
-        ≡ option_or (get K.eq user k) (option_or (get K.eq site k) (get K.eq default k))) }
+    ensures { IfOk result (λ m. (below : _) × IsMapOverlay K.eq default.entries site.entries below
+        × IsMapOverlay K.eq below user.entries m.entries) }
 {
     let settings = overlay_index_maps(alloc, default, site)?;
     Ok(overlay_index_maps(alloc, settings, user)?)
