@@ -175,13 +175,14 @@ static DRIVEN: [(&[u8], &[char], &[End], Answers, usize); 5] = [
     (&[1, 2, 3], &['a'], &[End::Back], &[Some(Left(3))], 2),
 ];
 
+/// The drivers answer each call from the end that it names, also over a lone side, and tell how many items are left.
 #[test]
 fn driven_lists(rt: HostRuntime) -> Result<(), Fail> {
     let alloc = rt.alloc();
     for (l, r, ends, answers, rest) in DRIVEN.iter().copied() {
         let driven = drive_swap_owned(alloc, Both(l.to_vec(alloc)?, r.to_vec(alloc)?), ends)?;
-        assert_eq!(rt; driven.answers.as_slice(), answers);
-        assert_eq!(rt; driven.rest, rest);
+        assert_eq!(rt; driven.answers.as_slice(), answers, "{l:?} {r:?} {ends:?}");
+        assert_eq!(rt; driven.rest, rest, "{l:?} {r:?} {ends:?}");
     }
     let backs = [End::Back, End::Back, End::Back];
     let alone: EitherOrBoth<Vec<u8>, Vec<char>> = Right(vec![in alloc; 'c', 'm']?);

@@ -4,4 +4,6 @@
 #[cfg(test)]
 mod ends;
 #[cfg(test)]
+mod in_turn;
+#[cfg(test)]
 mod walks;

@@ -2,31 +2,30 @@
 
 pub mod sides;
 
-use either_or_both::EitherOrBoth;
 use either_or_both::EitherOrBoth::{Both, Left, Right};
 use either_or_both::iter::ChainedIterEitherOrBoth;
-use sides::{Asked, Counting, Hinted};
+use either_or_both::{Either, EitherOrBoth};
+use sides::{Asked, Counting, ENDLESS, Hinted};
 use std::alloc::AllocError;
 use std::iter::FusedIterator;
 
 type Hint = (usize, Option<usize>);
 
 /// Two lists, and what they give side by side.
+#[rattlefmt::skip]
 static SIDE_BY_SIDE: [(EitherOrBoth<&[u8], &[char]>, &[EitherOrBoth<u8, char>]); 11] = [
-    (Both(&[1, 2, 3], &['a']), &[Both(1, 'a'), Left(2), Left(3)]),
-    (Both(&[1], &['c', 'm']), &[Both(1, 'c'), Right('m')]),
-    (
-        Both(&[1, 2], &['a', 'b', 'c', 'd']),
-        &[Both(1, 'a'), Both(2, 'b'), Right('c'), Right('d')],
-    ),
-    (Both(&[1, 2], &['c', 'm']), &[Both(1, 'c'), Both(2, 'm')]),
-    (Both(&[], &['c']), &[Right('c')]),
-    (Both(&[1, 2], &[]), &[Left(1), Left(2)]),
-    (Both(&[], &[]), &[]),
-    (Left(&[1, 2]), &[Left(1), Left(2)]),
-    (Left(&[]), &[]),
-    (Right(&['c', 'm']), &[Right('c'), Right('m')]),
-    (Right(&[]), &[]),
+    // lists                                 side by side
+    (Both(&[1, 2, 3], &['a']),             &[Both(1, 'a'), Left(2), Left(3)]),
+    (Both(&[1], &['c', 'm']),              &[Both(1, 'c'), Right('m')]),
+    (Both(&[1, 2], &['a', 'b', 'c', 'd']), &[Both(1, 'a'), Both(2, 'b'), Right('c'), Right('d')]),
+    (Both(&[1, 2], &['c', 'm']),           &[Both(1, 'c'), Both(2, 'm')]),
+    (Both(&[], &['c']),                    &[Right('c')]),
+    (Both(&[1, 2], &[]),                   &[Left(1), Left(2)]),
+    (Both(&[], &[]),                       &[]),
+    (Left(&[1, 2]),                        &[Left(1), Left(2)]),
+    (Left(&[]),                            &[]),
+    (Right(&['c', 'm']),                   &[Right('c'), Right('m')]),
+    (Right(&[]),                           &[]),
 ];
 
 /// Two lists, and what they give in turn.
@@ -170,97 +169,56 @@ fn chain_back_once(rt: HostRuntime) {
     assert_eq!(rt; right.calls(), (0, 1));
 }
 
-/// Sides, how many items are taken at most, and the hints of the paired walk and of the chain over them then. A call takes an item of both
-/// sides of the paired walk, and of the first side of the chain that has one.
-fn hints() -> [(EitherOrBoth<Hinted>, usize, Hint, Hint); 17] {
+fn exact(left: usize) -> Hinted {
+    Hinted::exact(left)
+}
+
+fn vague(left: usize) -> Hinted {
+    Hinted::vague(left)
+}
+
+const MAX: usize = usize::MAX;
+
+/// Sides, how many items are taken at most, and the hints of the paired walk and of the chain over them then. A call takes an item of
+/// both sides of the paired walk, and of the first side of the chain that has one.
+#[rattlefmt::skip]
+fn hints() -> [(EitherOrBoth<Hinted>, usize, Hint, Hint); 29] {
     [
-        (
-            Both(sides::ENDLESS, Hinted::exact(1)),
-            0,
-            (usize::MAX, None),
-            (usize::MAX, None),
-        ),
-        (
-            Both(Hinted::exact(1), sides::ENDLESS),
-            0,
-            (usize::MAX, None),
-            (usize::MAX, None),
-        ),
-        (
-            Both(Hinted::vague(usize::MAX), Hinted::vague(1)),
-            0,
-            (0, Some(usize::MAX)),
-            (0, None),
-        ),
-        (
-            Both(Hinted::vague(usize::MAX), Hinted::vague(0)),
-            0,
-            (0, Some(usize::MAX)),
-            (0, Some(usize::MAX)),
-        ),
-        (
-            Both(Hinted::exact(usize::MAX), Hinted::exact(1)),
-            0,
-            (usize::MAX, Some(usize::MAX)),
-            (usize::MAX, None),
-        ),
-        (
-            Both(Hinted::exact(2), Hinted::exact(1)),
-            0,
-            (2, Some(2)),
-            (3, Some(3)),
-        ),
-        (
-            Both(Hinted::exact(1), Hinted::vague(3)),
-            0,
-            (1, Some(3)),
-            (1, Some(4)),
-        ),
-        (Left(Hinted::vague(3)), 0, (0, Some(3)), (0, Some(3))),
-        (
-            Left(sides::ENDLESS),
-            0,
-            (usize::MAX, None),
-            (usize::MAX, None),
-        ),
-        (Right(Hinted::exact(3)), 0, (3, Some(3)), (3, Some(3))),
-        (
-            Both(Hinted::exact(2), Hinted::exact(1)),
-            1,
-            (1, Some(1)),
-            (2, Some(2)),
-        ),
-        (
-            Both(sides::ENDLESS, Hinted::exact(1)),
-            1,
-            (usize::MAX, None),
-            (usize::MAX, None),
-        ),
-        (
-            Both(Hinted::exact(1), Hinted::vague(3)),
-            1,
-            (0, Some(2)),
-            (0, Some(3)),
-        ),
-        (Right(Hinted::exact(3)), 2, (1, Some(1)), (1, Some(1))),
-        (
-            Both(Hinted::exact(2), Hinted::exact(1)),
-            4,
-            (0, Some(0)),
-            (0, Some(0)),
-        ),
-        (
-            Both(Hinted::vague(1), Hinted::vague(1)),
-            4,
-            (0, Some(0)),
-            (0, Some(0)),
-        ),
-        (Left(Hinted::vague(1)), 4, (0, Some(0)), (0, Some(0))),
+        // sides                           taken  paired walk             chain
+        (Both(ENDLESS, exact(1)),              0, (MAX, None),            (MAX, None)),
+        (Both(exact(1), ENDLESS),              0, (MAX, None),            (MAX, None)),
+        (Both(vague(MAX), vague(1)),           0, (0, Some(MAX)),         (0, None)),
+        (Both(vague(MAX), vague(0)),           0, (0, Some(MAX)),         (0, Some(MAX))),
+        (Both(exact(MAX), exact(1)),           0, (MAX, Some(MAX)),       (MAX, None)),
+        (Both(exact(2), exact(1)),             0, (2, Some(2)),           (3, Some(3))),
+        (Both(exact(1), vague(3)),             0, (1, Some(3)),           (1, Some(4))),
+        (Left(vague(3)),                       0, (0, Some(3)),           (0, Some(3))),
+        (Left(ENDLESS),                        0, (MAX, None),            (MAX, None)),
+        (Right(ENDLESS),                       0, (MAX, None),            (MAX, None)),
+        (Right(exact(3)),                      0, (3, Some(3)),           (3, Some(3))),
+        (Both(exact(2), exact(1)),             1, (1, Some(1)),           (2, Some(2))),
+        (Both(ENDLESS, exact(1)),              1, (MAX, None),            (MAX, None)),
+        (Both(exact(1), vague(3)),             1, (0, Some(2)),           (0, Some(3))),
+        (Right(exact(3)),                      2, (1, Some(1)),           (1, Some(1))),
+        (Left(exact(3)),                       2, (1, Some(1)),           (1, Some(1))),
+        (Both(exact(2), exact(1)),             4, (0, Some(0)),           (0, Some(0))),
+        (Both(vague(1), vague(1)),             4, (0, Some(0)),           (0, Some(0))),
+        (Left(vague(1)),                       4, (0, Some(0)),           (0, Some(0))),
+        (Right(vague(1)),                      4, (0, Some(0)),           (0, Some(0))),
+        (Both(exact(1_000), exact(70_000)),    0, (70_000, Some(70_000)), (71_000, Some(71_000))),
+        (Both(exact(70_000), exact(1_000)),    0, (70_000, Some(70_000)), (71_000, Some(71_000))),
+        (Both(exact(1_000), vague(70_000)),    0, (1_000, Some(70_000)),  (1_000, Some(71_000))),
+        (Both(vague(70_000), exact(1_000)),    0, (1_000, Some(70_000)),  (1_000, Some(71_000))),
+        (Both(exact(1_000), exact(70_000)),  999, (69_001, Some(69_001)), (70_001, Some(70_001))),
+        (Left(exact(70_000)),                  0, (70_000, Some(70_000)), (70_000, Some(70_000))),
+        (Left(vague(70_000)),                  1, (0, Some(69_999)),      (0, Some(69_999))),
+        (Right(exact(70_000)),                 0, (70_000, Some(70_000)), (70_000, Some(70_000))),
+        (Right(vague(1_000)),                  1, (0, Some(999)),         (0, Some(999))),
     ]
 }
 
 /// A walk over both sides takes the greater bounds or the sums, one over a lone side takes that side's, and an ended one has none
-/// left.
+/// left; whatever the number of items.
 #[test]
 fn hints_of_walks(rt: HostRuntime) {
     for (sides, taken, paired_want, chain_want) in hints() {
@@ -279,6 +237,66 @@ fn hints_of_walks(rt: HostRuntime) {
             "chain, {taken} taken of {sides:?}"
         );
     }
+}
+
+/// The side that an `Either` holds, how many items are taken, and the hint then.
+#[rattlefmt::skip]
+fn held_hints() -> [(Either<Hinted>, usize, Hint); 14] {
+    [
+        (Either::Left(exact(0)),           0, (0, Some(0))),
+        (Either::Left(exact(3)),           0, (3, Some(3))),
+        (Either::Left(exact(3)),           1, (2, Some(2))),
+        (Either::Left(vague(3)),           0, (0, Some(3))),
+        (Either::Left(exact(1_000)),       0, (1_000, Some(1_000))),
+        (Either::Left(vague(70_000)),      1, (0, Some(69_999))),
+        (Either::Left(ENDLESS),            1, (MAX, None)),
+        (Either::Right(exact(0)),          0, (0, Some(0))),
+        (Either::Right(exact(3)),          0, (3, Some(3))),
+        (Either::Right(exact(3)),          1, (2, Some(2))),
+        (Either::Right(vague(3)),          0, (0, Some(3))),
+        (Either::Right(exact(1_000)),      0, (1_000, Some(1_000))),
+        (Either::Right(vague(70_000)),     1, (0, Some(69_999))),
+        (Either::Right(ENDLESS),           1, (MAX, None)),
+    ]
+}
+
+/// Both walks of an `Either` have the hint of the side that it holds, the left one as the right one.
+#[test]
+fn hints_of_held_side(rt: HostRuntime) {
+    for (side, taken, want) in held_hints() {
+        let mut inner = side.into_iter_inner();
+        let mut swap = side.into_iter_swap();
+        for _ in inner.by_ref().take(taken) {}
+        for _ in swap.by_ref().take(taken) {}
+        assert_eq!(rt; inner.size_hint(), want, "inner, {taken} taken of {side:?}");
+        assert_eq!(rt; swap.size_hint(), want, "swap, {taken} taken of {side:?}");
+    }
+}
+
+/// Where one call asks both sides of a paired walk, the left one is asked before the right one, from either end.
+#[test]
+fn left_is_asked_before_right(rt: HostRuntime) {
+    let asked = Asked::new();
+    let mut forward = Both(
+        Counting::named(&[1u8, 2], &asked, 1),
+        Counting::named(&['a'], &asked, 2),
+    )
+    .into_iter_swap();
+    for _ in 0..4 {
+        let _item = forward.next();
+    }
+    assert_eq!(rt; asked.order(), 12121, "left, right: twice; then left alone");
+
+    let asked = Asked::new();
+    let mut backward = Both(
+        Counting::named(&[1u8, 2], &asked, 1),
+        Counting::named(&['a'], &asked, 2),
+    )
+    .into_iter_swap();
+    for _ in 0..3 {
+        let _item = backward.next_back();
+    }
+    assert_eq!(rt; asked.order(), 11212, "left alone; then left, right: twice");
 }
 
 /// What both begun walks still give is what the clone gives, and taking from the clone leaves the walk as it was.

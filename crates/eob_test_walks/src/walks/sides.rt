@@ -4,11 +4,12 @@ use eob_known_lists::listing::{CountedListing, Listing, OwnListing};
 use std::cell::Cell;
 use std::iter::FusedIterator;
 
-/// How often a side was asked from its front, and from its back.
+/// How often a side was asked from its front, and from its back; and where two sides share it, in which order.
 #[derive(Drop)]
 pub struct Asked {
     next: Cell<usize>,
     next_back: Cell<usize>,
+    order: Cell<u64>,
 }
 
 impl Asked {
@@ -16,12 +17,23 @@ impl Asked {
         Asked {
             next: Cell::new(0),
             next_back: Cell::new(0),
+            order: Cell::new(0),
         }
     }
 
     /// The number of calls of `next`, and of `next_back`.
     pub fn calls(&self) -> (usize, usize) {
         (self.next.get(), self.next_back.get())
+    }
+
+    /// The names of the sides that were asked, in order, as the digits of a number.
+    pub fn order(&self) -> u64 {
+        self.order.get()
+    }
+
+    fn write_down(&self, name: u64) {
+        self.order
+            .set(self.order.get().saturating_mul(10).saturating_add(name));
     }
 }
 
@@ -34,11 +46,21 @@ fn count(number: &Cell<usize>) {
 pub struct Counting<'a, T> {
     rest: &'a [T],
     asked: &'a Asked,
+    name: u64,
 }
 
 impl<'a, T> Counting<'a, T> {
     pub fn new(items: &'a [T], asked: &'a Asked) -> Counting<'a, T> {
-        Counting { rest: items, asked }
+        Counting::named(items, asked, 0)
+    }
+
+    /// The same, which writes down this digit each time that it is asked.
+    pub fn named(items: &'a [T], asked: &'a Asked, name: u64) -> Counting<'a, T> {
+        Counting {
+            rest: items,
+            asked,
+            name,
+        }
     }
 }
 
@@ -53,6 +75,7 @@ impl<'a, T: Copy> Iterator for Counting<'a, T> {
 
     fn next(&mut self) -> Option<T> {
         count(&self.asked.next);
+        self.asked.write_down(self.name);
         let (first, rest) = self.rest.split_first()?;
         self.rest = rest;
         Some(*first)
@@ -70,6 +93,7 @@ impl<'a, T: Copy> DoubleEndedIterator for Counting<'a, T> {
 
     fn next_back(&mut self) -> Option<T> {
         count(&self.asked.next_back);
+        self.asked.write_down(self.name);
         let (last, rest) = self.rest.split_last()?;
         self.rest = rest;
         Some(*last)
