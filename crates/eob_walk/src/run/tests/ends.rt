@@ -6,7 +6,8 @@ use std::alloc::{AllocError, Global};
 use std::test::Fail;
 
 // A line of so many calls, of the front and of the back in turn, over five items more than that, and its answer.
-fn calls_in_turn(alloc: Global, count: usize) -> Result<(Vec<u8>, Vec<u8>), AllocError> {
+fn calls_in_turn(alloc: Global, count: u16) -> Result<(Vec<u8>, Vec<u8>), AllocError> {
+    let count = usize::from(count);
     let mut line = Vec::new(alloc);
     let mut answer = Vec::new(alloc);
     line.extend_from_slice(b"ends ")?;
@@ -32,7 +33,7 @@ fn calls_in_turn(alloc: Global, count: usize) -> Result<(Vec<u8>, Vec<u8>), Allo
 #[test]
 fn answers_many_calls(rt: HostRuntime) -> Result<(), Fail> {
     let alloc = rt.alloc();
-    for count in [1023, 1024, 1025, 2500] {
+    for count in [1023u16, 1024, 1025, 2500] {
         let (mut input, mut output) = calls_in_turn(alloc, count)?;
         input.extend_from_slice(b"\nends ")?;
         for _ in 0..count {
