@@ -5,8 +5,8 @@ use Rattle.std.specs.declared.cmp.Ordering.TheVariants.{Equal}
 use Rattle.eob_both.specs.declared.either_or_both.EitherOrBoth.{EitherOrBoth}
 use Rattle.eob_both.specs.declared.either_or_both.EitherOrBoth.TheVariants.{Left, Both, Right}
 use Rattle.eob_both.specs.Places.{right_place}
-use Rattle.either_or_both.specs.Join.{Rising, IsJoin}
-use Rattle.eob_joins.specs.Tables.{IsKeptOfJoin, kept}
+use Rattle.either_or_both.specs.Join.{Rising}
+use Rattle.eob_joins.specs.Tables.{IsKeptOfJoin}
 
 -- the two values, unless they are equal
 abbrev pub changed : {V : Type 0} → (V → V → Bool) → EitherOrBoth V V → Option (EitherOrBoth V V)
@@ -23,13 +23,6 @@ applied (Right c) = right_place c
 module _ {K : Type 0} (cmp : K → K → Ordering) where
   -- the changes from p to q, made to p, give q
   abbrev pub ApplyDiffLaw : {V : Type 0} → (V → V → Bool) → Type 0
-  ApplyDiffLaw {V} eq = ((j k : K) → cmp j k ≡ Equal → j ≡ k) → ((v w : V) → eq v w ≡ true → v ≡ w) → (p q rs : List (K × V)) (ds : List (K × EitherOrBoth V V)) → Rising cmp p → Rising cmp q
+  ApplyDiffLaw {V} eq = ((j k : K) → cmp j k ≡ Equal → j ≡ k) → ((v w : V) → eq v w ≡ true → v ≡ w)
+      → (p q rs : List (K × V)) (ds : List (K × EitherOrBoth V V)) → Rising cmp p → Rising cmp q
       → IsKeptOfJoin cmp (changed eq) p q ds → IsKeptOfJoin cmp applied p ds rs → rs ≡ q
-
-  -- what a join has on the right is the right list
-  abbrev pub RightLaw : Type 0 → Type 0 → Type 0
-  RightLaw A B = ((j k : K) → cmp j k ≡ Equal → j ≡ k) → (p : List (K × A)) (q : List (K × B)) (zs : List (K × EitherOrBoth A B)) → Rising cmp q → IsJoin cmp p q zs → kept right_place zs ≡ q
-
-  -- the join of a list with itself
-  abbrev pub SelfJoinLaw : Type 0 → Type 0
-  SelfJoinLaw V = ((j k : K) → cmp j k ≡ Equal → j ≡ k) → (p : List (K × V)) (zs : List (K × EitherOrBoth V V)) → Rising cmp p → IsJoin cmp p p zs → zs ≡ kept (λ v. Some (Both v v)) p

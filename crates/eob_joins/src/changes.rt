@@ -1,9 +1,8 @@
 //! Two versions of a table: what changed between them, and the new version made again of the old one and the changes.
 ghost use Rattle.std.specs.Prelude.{◌≡◌, IfOk, option_map};
 ghost use Rattle.either_or_both.specs.Join.{Rising};
-ghost use Rattle.either_or_both.specs.Places.{right_place};
-ghost use Rattle.eob_joins.specs.Changes.{ApplyDiffLaw, RightLaw, SelfJoinLaw, applied, changed};
-ghost use Rattle.eob_joins.specs.Tables.{IsKeptOfJoin};
+ghost use Rattle.eob_joins.specs.Changes.{ApplyDiffLaw, applied, changed};
+ghost use Rattle.eob_joins.specs.Tables.{IsKeptByKey, IsKeptOfJoin};
 
 use either_or_both::EitherOrBoth;
 use either_or_both::join::outer_join_lazily;
@@ -12,8 +11,64 @@ use std::alloc::{AllocError, Global};
 /// What changed under a key: its value went (Left), came (Right), or is another one (Both).
 pub type Change<V> = EitherOrBoth<V, V>;
 
-/// The changes from the old version of a table to the new one: a row for each key whose value is not the same in both.
+/// The changes from the old version of a table to the new one, both of which rise: each key whose value is not the same in both, in
+/// order, with its value in either version.
+///
+/// # Errors
+///
+/// `AllocError` where a request for memory was refused: then both versions are dropped.
+///
+/// ```
+/// let old = vec![in alloc; (1, 'a'), (2, 'b'), (3, 'c')]?;
+/// let new = vec![in alloc; (1, 'a'), (3, 'd'), (4, 'e')]?;
+/// assert!(rt; is_rising(&old) && is_rising(&new));
+/// let changes = vec![in alloc; (2, Left('b')), (3, Both('c', 'd')), (4, Right('e'))]?;
+/// assert_eq!(rt; diff(alloc, old, new)?, changes);
+/// ```
 pub fn diff<K: Ord + Drop, V: Eq + Drop>(
+    alloc: Global,
+    old: Vec<(K, V)>,
+    new: Vec<(K, V)>,
+) -> Result<Vec<(K, Change<V>)>, AllocError>
+    requires old { Rising K.cmp old.items }
+    requires new { Rising K.cmp new.items }
+    ensures kept { IfOk result (λ rows. IsKeptOfJoin K.cmp (changed V.eq) old.items new.items rows.items) }
+    ensures values { IfOk result (λ rows. IsKeptByKey K.cmp (changed V.eq) old.items new.items rows.items) }
+{
+    let rows = changed_rows(alloc, old, new)?;
+    Ok(rows)
+}
+
+/// A table with changes made to it, both of which rise: under the key of a change its new value, or nothing where the value went, and
+/// under every other key what it was. What a change says of the old value is not looked at.
+///
+/// # Errors
+///
+/// `AllocError` where a request for memory was refused: then the table and the changes are dropped.
+///
+/// ```
+/// let old = vec![in alloc; (1, 'a'), (2, 'b'), (3, 'c')]?;
+/// let changes = vec![in alloc; (2, Left('b')), (3, Both('c', 'd')), (4, Right('e'))]?;
+/// assert!(rt; is_rising(&old) && is_rising(&changes));
+/// let new = vec![in alloc; (1, 'a'), (3, 'd'), (4, 'e')]?;
+/// assert_eq!(rt; apply(alloc, old, changes)?, new);
+/// ```
+pub fn apply<K: Ord + Drop, V: Drop>(
+    alloc: Global,
+    old: Vec<(K, V)>,
+    changes: Vec<(K, Change<V>)>,
+) -> Result<Vec<(K, V)>, AllocError>
+    requires old { Rising K.cmp old.items }
+    requires changes { Rising K.cmp changes.items }
+    ensures kept { IfOk result (λ rows. IsKeptOfJoin K.cmp applied old.items changes.items rows.items) }
+    ensures values { IfOk result (λ rows. IsKeptByKey K.cmp applied old.items changes.items rows.items) }
+{
+    let rows = applied_rows(alloc, old, changes)?;
+    Ok(rows)
+}
+
+// The rows whose value is not the same in both versions, off the lazy join.
+fn changed_rows<K: Ord + Drop, V: Eq + Drop>(
     alloc: Global,
     old: Vec<(K, V)>,
     new: Vec<(K, V)>,
@@ -27,8 +82,8 @@ pub fn diff<K: Ord + Drop, V: Eq + Drop>(
         .collect(alloc)
 }
 
-/// A table with changes made to it: under the key of a change its new value or nothing, and under every other key what it was.
-pub fn apply<K: Ord + Drop, V: Drop>(
+// The rows of the old version and the changes, off the lazy join.
+fn applied_rows<K: Ord + Drop, V: Drop>(
     alloc: Global,
     old: Vec<(K, V)>,
     changes: Vec<(K, Change<V>)>,
@@ -78,17 +133,8 @@ fn applied_row<K: Drop, V: Drop>(row: (K, EitherOrBoth<V, Change<V>>)) -> Option
     }
 }
 
-/// The changes from one version to another, made to the first, give the second: for keys and values of which equal ones are the same.
+/// The changes from one version of a table to another, made to the first, give the second: where keys that count as equal are equal,
+/// and values too.
 pub fn law_apply_diff<K: Ord, V: Eq>()
     ensures { ApplyDiffLaw K.cmp V.eq }
-{}
-
-/// What a join has on the right is the right list, for keys of which equal ones are the same.
-pub fn law_join_right<K: Ord, A, B>()
-    ensures { RightLaw K.cmp A B }
-{}
-
-/// The join of a list with itself has each key with its value on both sides, for keys of which equal ones are the same.
-pub fn law_join_self<K: Ord, V>()
-    ensures { SelfJoinLaw K.cmp V }
 {}

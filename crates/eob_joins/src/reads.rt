@@ -1,15 +1,27 @@
-//! What is read off the join of two lists whose keys rise: the rows of both lists, and those of one. Each is one line over the walk.
+//! What is read off the join of two lists whose keys rise: inner, left, right, semi and anti join. Each is one line over the lazy full
+//! outer join, and says by look-ups what it returns.
 ghost use Rattle.std.specs.Prelude.{◌≡◌, IfOk, option_map};
-ghost use Rattle.std.specs.Option.{option_zip};
 ghost use Rattle.either_or_both.specs.Join.{Rising};
-ghost use Rattle.either_or_both.specs.Places.{left_place, right_place};
-ghost use Rattle.eob_joins.specs.Tables.{IsKeptOfJoin, JoinReadsLaw, KeptJoinLaw, KeptLaw, SameTableLaw, lone_left, paired_left, shared_left};
+ghost use Rattle.eob_joins.specs.Tables.{IsAntiJoin, IsInnerJoin, IsKeptOfJoin, IsLeftJoin, IsRightJoin, IsSemiJoin};
+ghost use Rattle.eob_joins.specs.Tables.{both_places, lone_left, paired_left, paired_right, shared_left};
 
 use either_or_both::EitherOrBoth;
 use either_or_both::join::outer_join_lazily;
 use std::alloc::{AllocError, Global};
 
-/// The keys that both lists have, each with both values.
+/// The inner join of two lists whose keys rise: each key that both lists have, in order, with both values.
+///
+/// # Errors
+///
+/// `AllocError` where a request for memory was refused: then both lists are dropped.
+///
+/// ```
+/// let left = vec![in alloc; (1, 'a'), (3, 'b')]?;
+/// let right = vec![in alloc; (2, 'x'), (3, 'y')]?;
+/// assert!(rt; is_rising(&left) && is_rising(&right));
+/// let rows = vec![in alloc; (3, ('b', 'y'))]?;
+/// assert_eq!(rt; inner_join(alloc, left, right)?, rows);
+/// ```
 pub fn inner_join<K: Ord + Drop, A: Drop, B: Drop>(
     alloc: Global,
     left: Vec<(K, A)>,
@@ -17,15 +29,142 @@ pub fn inner_join<K: Ord + Drop, A: Drop, B: Drop>(
 ) -> Result<Vec<(K, (A, B))>, AllocError>
     requires left { Rising K.cmp left.items }
     requires right { Rising K.cmp right.items }
-    ensures { IfOk result (λ rows. IsKeptOfJoin K.cmp (λ v. option_zip (left_place v) (right_place v)) left.items right.items rows.items) }
+    ensures kept { IfOk result (λ rows. IsKeptOfJoin K.cmp both_places left.items right.items rows.items) }
+    ensures values { IfOk result (λ rows. IsInnerJoin K.cmp left.items right.items rows.items) }
+{
+    let rows = both_rows(alloc, left, right)?;
+    Ok(rows)
+}
+
+/// The left join of two lists whose keys rise: each key of the left list, in order, with its value and the right
+/// list's, if there is one.
+///
+/// # Errors
+///
+/// `AllocError` where a request for memory was refused: then both lists are dropped.
+///
+/// ```
+/// let left = vec![in alloc; (1, 'a'), (3, 'b')]?;
+/// let right = vec![in alloc; (2, 'x'), (3, 'y')]?;
+/// assert!(rt; is_rising(&left) && is_rising(&right));
+/// let rows = vec![in alloc; (1, ('a', None)), (3, ('b', Some('y')))]?;
+/// assert_eq!(rt; left_join(alloc, left, right)?, rows);
+/// ```
+pub fn left_join<K: Ord + Drop, A: Drop, B: Drop>(
+    alloc: Global,
+    left: Vec<(K, A)>,
+    right: Vec<(K, B)>,
+) -> Result<Vec<(K, (A, Option<B>))>, AllocError>
+    requires left { Rising K.cmp left.items }
+    requires right { Rising K.cmp right.items }
+    ensures kept { IfOk result (λ rows. IsKeptOfJoin K.cmp paired_left left.items right.items rows.items) }
+    ensures values { IfOk result (λ rows. IsLeftJoin K.cmp left.items right.items rows.items) }
+{
+    let rows = left_rows(alloc, left, right)?;
+    Ok(rows)
+}
+
+/// The right join of two lists whose keys rise: each key of the right list, in order, with the left list's value,
+/// if there is one, and its own.
+///
+/// # Errors
+///
+/// `AllocError` where a request for memory was refused: then both lists are dropped.
+///
+/// ```
+/// let left = vec![in alloc; (1, 'a'), (3, 'b')]?;
+/// let right = vec![in alloc; (2, 'x'), (3, 'y')]?;
+/// assert!(rt; is_rising(&left) && is_rising(&right));
+/// let rows = vec![in alloc; (2, (None, 'x')), (3, (Some('b'), 'y'))]?;
+/// assert_eq!(rt; right_join(alloc, left, right)?, rows);
+/// ```
+pub fn right_join<K: Ord + Drop, A: Drop, B: Drop>(
+    alloc: Global,
+    left: Vec<(K, A)>,
+    right: Vec<(K, B)>,
+) -> Result<Vec<(K, (Option<A>, B))>, AllocError>
+    requires left { Rising K.cmp left.items }
+    requires right { Rising K.cmp right.items }
+    ensures kept { IfOk result (λ rows. IsKeptOfJoin K.cmp paired_right left.items right.items rows.items) }
+    ensures values { IfOk result (λ rows. IsRightJoin K.cmp left.items right.items rows.items) }
+{
+    let rows = right_rows(alloc, left, right)?;
+    Ok(rows)
+}
+
+/// The semi join of two lists whose keys rise: each key of the left list that the right list has too, in order, with
+/// its left value.
+///
+/// # Errors
+///
+/// `AllocError` where a request for memory was refused: then both lists are dropped.
+///
+/// ```
+/// let left = vec![in alloc; (1, 'a'), (3, 'b')]?;
+/// let right = vec![in alloc; (2, 'x'), (3, 'y')]?;
+/// assert!(rt; is_rising(&left) && is_rising(&right));
+/// let rows = vec![in alloc; (3, 'b')]?;
+/// assert_eq!(rt; semi_join(alloc, left, right)?, rows);
+/// ```
+pub fn semi_join<K: Ord + Drop, A: Drop, B: Drop>(
+    alloc: Global,
+    left: Vec<(K, A)>,
+    right: Vec<(K, B)>,
+) -> Result<Vec<(K, A)>, AllocError>
+    requires left { Rising K.cmp left.items }
+    requires right { Rising K.cmp right.items }
+    ensures kept { IfOk result (λ rows. IsKeptOfJoin K.cmp shared_left left.items right.items rows.items) }
+    ensures values { IfOk result (λ rows. IsSemiJoin K.cmp left.items right.items rows.items) }
+{
+    let rows = shared_rows(alloc, left, right)?;
+    Ok(rows)
+}
+
+/// The anti join of two lists whose keys rise: each key of the left list that the right list lacks, in order, with
+/// its value.
+///
+/// # Errors
+///
+/// `AllocError` where a request for memory was refused: then both lists are dropped.
+///
+/// ```
+/// let left = vec![in alloc; (1, 'a'), (3, 'b')]?;
+/// let right = vec![in alloc; (2, 'x'), (3, 'y')]?;
+/// assert!(rt; is_rising(&left) && is_rising(&right));
+/// let rows = vec![in alloc; (1, 'a')]?;
+/// assert_eq!(rt; anti_join(alloc, left, right)?, rows);
+/// ```
+pub fn anti_join<K: Ord + Drop, A: Drop, B: Drop>(
+    alloc: Global,
+    left: Vec<(K, A)>,
+    right: Vec<(K, B)>,
+) -> Result<Vec<(K, A)>, AllocError>
+    requires left { Rising K.cmp left.items }
+    requires right { Rising K.cmp right.items }
+    ensures kept { IfOk result (λ rows. IsKeptOfJoin K.cmp lone_left left.items right.items rows.items) }
+    ensures values { IfOk result (λ rows. IsAntiJoin K.cmp left.items right.items rows.items) }
+{
+    let rows = lone_rows(alloc, left, right)?;
+    Ok(rows)
+}
+
+// The rows of both lists, off the lazy join.
+fn both_rows<K: Ord + Drop, A: Drop, B: Drop>(
+    alloc: Global,
+    left: Vec<(K, A)>,
+    right: Vec<(K, B)>,
+) -> Result<Vec<(K, (A, B))>, AllocError>
+    requires left { Rising K.cmp left.items }
+    requires right { Rising K.cmp right.items }
+    ensures { IfOk result (λ rows. IsKeptOfJoin K.cmp both_places left.items right.items rows.items) }
 {
     outer_join_lazily(left, right)
         .filter_map(in_both)
         .collect(alloc)
 }
 
-/// The keys of the left list, each with its value and the right list's, if there is one.
-pub fn left_join<K: Ord + Drop, A: Drop, B: Drop>(
+// The rows of the left list, off the lazy join.
+fn left_rows<K: Ord + Drop, A: Drop, B: Drop>(
     alloc: Global,
     left: Vec<(K, A)>,
     right: Vec<(K, B)>,
@@ -39,8 +178,23 @@ pub fn left_join<K: Ord + Drop, A: Drop, B: Drop>(
         .collect(alloc)
 }
 
-/// The keys of the left list that the right list has too, each with its left value.
-pub fn semi_join<K: Ord + Drop, A: Drop, B: Drop>(
+// The rows of the right list, off the lazy join.
+fn right_rows<K: Ord + Drop, A: Drop, B: Drop>(
+    alloc: Global,
+    left: Vec<(K, A)>,
+    right: Vec<(K, B)>,
+) -> Result<Vec<(K, (Option<A>, B))>, AllocError>
+    requires left { Rising K.cmp left.items }
+    requires right { Rising K.cmp right.items }
+    ensures { IfOk result (λ rows. IsKeptOfJoin K.cmp paired_right left.items right.items rows.items) }
+{
+    outer_join_lazily(left, right)
+        .filter_map(of_right)
+        .collect(alloc)
+}
+
+// The left values of the rows of both lists, off the lazy join.
+fn shared_rows<K: Ord + Drop, A: Drop, B: Drop>(
     alloc: Global,
     left: Vec<(K, A)>,
     right: Vec<(K, B)>,
@@ -54,8 +208,8 @@ pub fn semi_join<K: Ord + Drop, A: Drop, B: Drop>(
         .collect(alloc)
 }
 
-/// The keys of the left list that the right list lacks, each with its value.
-pub fn anti_join<K: Ord + Drop, A: Drop, B: Drop>(
+// The rows of the left list alone, off the lazy join.
+fn lone_rows<K: Ord + Drop, A: Drop, B: Drop>(
     alloc: Global,
     left: Vec<(K, A)>,
     right: Vec<(K, B)>,
@@ -71,7 +225,7 @@ pub fn anti_join<K: Ord + Drop, A: Drop, B: Drop>(
 
 // A row of both lists.
 fn in_both<K: Drop, A: Drop, B: Drop>(row: (K, EitherOrBoth<A, B>)) -> Option<(K, (A, B))>
-    ensures { result ≡ option_map (λ w. (row.0, w)) (option_zip (left_place row.1) (right_place row.1)) }
+    ensures { result ≡ option_map (λ w. (row.0, w)) (both_places row.1) }
 {
     let (key, cells) = row;
     match cells.both() {
@@ -89,6 +243,18 @@ fn of_left<K: Drop, A: Drop, B: Drop>(row: (K, EitherOrBoth<A, B>)) -> Option<(K
         EitherOrBoth::Left(a) => Some((key, (a, None))),
         EitherOrBoth::Both(a, b) => Some((key, (a, Some(b)))),
         EitherOrBoth::Right(_b) => None,
+    }
+}
+
+// A row of the right list, with what the left one adds.
+fn of_right<K: Drop, A: Drop, B: Drop>(row: (K, EitherOrBoth<A, B>)) -> Option<(K, (Option<A>, B))>
+    ensures { result ≡ option_map (λ w. (row.0, w)) (paired_right row.1) }
+{
+    let (key, cells) = row;
+    match cells {
+        EitherOrBoth::Left(_a) => None,
+        EitherOrBoth::Both(a, b) => Some((key, (Some(a), b))),
+        EitherOrBoth::Right(b) => Some((key, (None, b))),
     }
 }
 
@@ -115,23 +281,3 @@ fn alone<K: Drop, A: Drop, B: Drop>(row: (K, EitherOrBoth<A, B>)) -> Option<(K, 
         EitherOrBoth::Right(_b) => None,
     }
 }
-
-/// What is kept of a table, row by row, is the table of what is kept under each key.
-pub fn law_kept<K: Ord, V, W>()
-    ensures { KeptLaw K.cmp V W }
-{}
-
-/// What is kept of the join of two lists has under each key what is kept of what the two lists have there.
-pub fn law_join_kept<K: Ord, A, B, W>()
-    ensures { KeptJoinLaw K.cmp A B W }
-{}
-
-/// What the inner, the left, the semi and the anti join have under each key.
-pub fn law_join_reads<K: Ord, A, B>()
-    ensures { JoinReadsLaw K.cmp A B }
-{}
-
-/// Where keys that count as equal are equal, a function of keys has one table.
-pub fn law_same_table<K: Ord, V>()
-    ensures { SameTableLaw K.cmp V }
-{}

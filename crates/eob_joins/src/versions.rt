@@ -1,9 +1,11 @@
-//! Three versions of a table, as a merge of two lines of work needs them: the base, ours and theirs, joined by key, and what became of
-//! each row.
-ghost use Rattle.std.specs.Prelude.{◌≡◌, IfOk};
+//! Three versions of a table, as a merge of two lines of work needs them: the base, ours and theirs, joined by key, what became of each
+//! row, and the merged table or the rows in conflict.
+ghost use Rattle.std.specs.Prelude.{◌≡◌, IfOk, option_map};
 ghost use Rattle.either_or_both.specs.Join.{Rising};
-ghost use Rattle.either_or_both.specs.Places.{item_left, item_right, left_place, right_place};
-ghost use Rattle.eob_joins.specs.Versions.{IsVersionJoin, VersionsLaw, verdict};
+ghost use Rattle.std.specs.List.{list_any};
+ghost use Rattle.eob_joins.specs.Tables.{kept};
+ghost use Rattle.eob_joins.specs.Versions.{IsMerge, IsMergeByKey, IsVersionJoin, MergeLaw, MergedPlaceLaw, VersionsLaw};
+ghost use Rattle.eob_joins.specs.Versions.{clash, clashes, merged, row_verdict, verdict};
 
 use either_or_both::EitherOrBoth;
 use either_or_both::join::outer_join_lazily;
@@ -13,7 +15,21 @@ use std::alloc::{AllocError, Global};
 /// right.
 pub type Versions<V> = EitherOrBoth<V, EitherOrBoth<V, V>>;
 
-/// The join of three versions of a table: each key of any of them once, in order, with its three values.
+/// The join of three versions of a table, all of which rise: each key of any of them once, in order, with its values in the three.
+/// [`law_versions`] says the same by look-ups.
+///
+/// # Errors
+///
+/// `AllocError` where a request for memory was refused: then the three versions are dropped.
+///
+/// ```
+/// let base = vec![in alloc; (1, 'a'), (2, 'b')]?;
+/// let ours = vec![in alloc; (1, 'a'), (2, 'c')]?;
+/// let theirs = vec![in alloc; (1, 'd')]?;
+/// assert!(rt; is_rising(&base) && is_rising(&ours) && is_rising(&theirs));
+/// let rows = vec![in alloc; (1, Both('a', Both('a', 'd'))), (2, Both('b', Left('c')))]?;
+/// assert_eq!(rt; join_versions(alloc, base, ours, theirs)?, rows);
+/// ```
 pub fn join_versions<K: Ord + Drop, V: Drop>(
     alloc: Global,
     base: Vec<(K, V)>,
@@ -28,19 +44,29 @@ pub fn join_versions<K: Ord + Drop, V: Drop>(
     outer_join_lazily(base, outer_join_lazily(ours, theirs)).collect(alloc)
 }
 
-/// What became of a row: nobody changed it, we did, they did, both did alike, or both did and not alike.
+/// What became of a row between the base and the two other versions.
 #[derive(Debug, Clone, Copy, PartialEq, Eq)]
 pub enum Verdict {
+    /// Neither side changed it.
     Unchanged,
+    /// Our side alone changed it.
     Ours,
+    /// Their side alone changed it.
     Theirs,
+    /// Both sides changed it, to equal values.
     Alike,
+    /// Both sides changed it, to values that are not equal.
     Conflict,
 }
 
 /// What became of a row. A key that is absent in two versions counts as the same in both.
+///
+/// ```
+/// assert_eq!(rt; judge(&Both('a', Both('a', 'd'))), Verdict::Theirs);
+/// assert_eq!(rt; judge(&Both('b', Left('c'))), Verdict::Conflict);
+/// ```
 pub fn judge<V: Eq>(row: &Versions<V>) -> Verdict
-    ensures { result ≡ verdict V.eq (left_place row.now) (item_left (right_place row.now)) (item_right (right_place row.now)) }
+    ensures { result ≡ row_verdict V.eq row.now }
 {
     match row {
         EitherOrBoth::Left(_) => Verdict::Alike,
@@ -91,7 +117,165 @@ fn judge_values<V: Eq>(base: &V, ours: &V, theirs: &V) -> Verdict
     }
 }
 
+/// The answer of [`merge_versions`].
+#[derive(Debug, PartialEq, Eq, Drop)]
+pub enum Merged<K, V> {
+    /// No row is in conflict: the merged table.
+    Whole(Vec<(K, V)>),
+    /// The rows that are in conflict, at least one, each with its values in the three versions.
+    Conflicts(Vec<(K, Versions<V>)>),
+}
+
+/// Two versions of a table merged over their base, all of which rise. Where no row is in conflict, the merged table: whatever either
+/// side alone changed is in it as that side has it, and every other row is as it was. Else the rows in conflict, and no others.
+///
+/// # Errors
+///
+/// `AllocError` where a request for memory was refused: then the three versions are dropped.
+///
+/// ```
+/// let base = vec![in alloc; (1, 'a'), (2, 'b')]?;
+/// let ours = vec![in alloc; (1, 'a'), (2, 'c')]?;
+/// let theirs = vec![in alloc; (1, 'd'), (2, 'b'), (3, 'e')]?;
+/// assert!(rt; is_rising(&base) && is_rising(&ours) && is_rising(&theirs));
+/// let whole = Merged::Whole(vec![in alloc; (1, 'd'), (2, 'c'), (3, 'e')]?);
+/// assert_eq!(rt; merge_versions(alloc, base, ours, theirs)?, whole);
+/// ```
+pub fn merge_versions<K: Ord + Drop, V: Eq + Drop>(
+    alloc: Global,
+    base: Vec<(K, V)>,
+    ours: Vec<(K, V)>,
+    theirs: Vec<(K, V)>,
+) -> Result<Merged<K, V>, AllocError>
+    requires base { Rising K.cmp base.items }
+    requires ours { Rising K.cmp ours.items }
+    requires theirs { Rising K.cmp theirs.items }
+    ensures rows { IfOk result (λ m. IsMerge K.cmp V.eq base.items ours.items theirs.items m) }
+    ensures values { IfOk result (λ m. IsMergeByKey K.cmp V.eq base.items ours.items theirs.items m) }
+{
+    let merge = whole_or_conflicts(alloc, base, ours, theirs)?;
+    Ok(merge)
+}
+
+// The merged table of three versions, or the rows in conflict, off their join.
+fn whole_or_conflicts<K: Ord + Drop, V: Eq + Drop>(
+    alloc: Global,
+    base: Vec<(K, V)>,
+    ours: Vec<(K, V)>,
+    theirs: Vec<(K, V)>,
+) -> Result<Merged<K, V>, AllocError>
+    requires base { Rising K.cmp base.items }
+    requires ours { Rising K.cmp ours.items }
+    requires theirs { Rising K.cmp theirs.items }
+    ensures { IfOk result (λ m. IsMerge K.cmp V.eq base.items ours.items theirs.items m) }
+{
+    let rows = join_versions(alloc, base, ours, theirs)?;
+    if has_conflict(&rows) {
+        let found = conflicts(alloc, rows)?;
+        Ok(Merged::Conflicts(found))
+    } else {
+        let whole = merged_rows(alloc, rows)?;
+        Ok(Merged::Whole(whole))
+    }
+}
+
+// Whether a row is in conflict.
+fn is_in_conflict<V: Eq>(row: &Versions<V>) -> bool
+    ensures { result ≡ clashes V.eq row.now }
+{
+    match judge(row) {
+        Verdict::Conflict => true,
+        Verdict::Unchanged | Verdict::Ours | Verdict::Theirs | Verdict::Alike => false,
+    }
+}
+
+// Whether one of the rows is in conflict.
+fn has_conflict<K, V: Eq>(rows: &[(K, Versions<V>)]) -> bool
+    ensures { result ≡ list_any (λ z. clashes V.eq z.1) rows.now }
+{
+    rows.iter().any(|row| is_in_conflict(&row.1))
+}
+
+// The rows that are in conflict.
+fn conflicts<K: Drop, V: Eq + Drop>(
+    alloc: Global,
+    rows: Vec<(K, Versions<V>)>,
+) -> Result<Vec<(K, Versions<V>)>, AllocError>
+    ensures { IfOk result (λ found. found.items ≡ kept (clash V.eq) rows.items) }
+{
+    rows.into_iter().filter_map(conflict_row).collect(alloc)
+}
+
+// A row that is in conflict.
+fn conflict_row<K: Drop, V: Eq + Drop>(row: (K, Versions<V>)) -> Option<(K, Versions<V>)>
+    ensures { result ≡ option_map (λ w. (row.0, w)) (clash V.eq row.1) }
+{
+    if is_in_conflict(&row.1) {
+        Some(row)
+    } else {
+        None
+    }
+}
+
+// The merged rows.
+fn merged_rows<K: Drop, V: Eq + Drop>(
+    alloc: Global,
+    rows: Vec<(K, Versions<V>)>,
+) -> Result<Vec<(K, V)>, AllocError>
+    ensures { IfOk result (λ whole. whole.items ≡ kept (merged V.eq) rows.items) }
+{
+    rows.into_iter().filter_map(merged_row).collect(alloc)
+}
+
+// A merged row.
+fn merged_row<K: Drop, V: Eq + Drop>(row: (K, Versions<V>)) -> Option<(K, V)>
+    ensures { result ≡ option_map (λ w. (row.0, w)) (merged V.eq row.1) }
+{
+    let (key, values) = row;
+    match merged_value(values) {
+        Some(value) => Some((key, value)),
+        None => None,
+    }
+}
+
+// The merged value of a row, where it is not in conflict: theirs where ours is the base, and else ours.
+fn merged_value<V: Eq + Drop>(values: Versions<V>) -> Option<V>
+    ensures { result ≡ merged V.eq values }
+{
+    match values {
+        EitherOrBoth::Left(_base) => None,
+        EitherOrBoth::Both(base, sides) => match sides {
+            EitherOrBoth::Left(ours) => { if base == ours { None } else { Some(ours) } }
+            EitherOrBoth::Both(ours, theirs) => {
+                if base == ours {
+                    Some(theirs)
+                } else {
+                    Some(ours)
+                }
+            }
+            EitherOrBoth::Right(_theirs) => None,
+        },
+        EitherOrBoth::Right(sides) => match sides {
+            EitherOrBoth::Left(ours) => Some(ours),
+            EitherOrBoth::Both(ours, _theirs) => Some(ours),
+            EitherOrBoth::Right(theirs) => Some(theirs),
+        },
+    }
+}
+
 /// The join of three versions has under each key what the three have there.
 pub fn law_versions<K: Ord, V>()
     ensures { VersionsLaw K.cmp V }
+{}
+
+/// The answer of a merge by look-ups: under each key of the merged table stands a function of the three values there, and no key is in
+/// conflict; or under each key that is in conflict stand its three values.
+pub fn law_merge<K: Ord, V: Eq>(merge: &Merged<K, V>)
+    ensures { MergeLaw K.cmp V.eq merge.now }
+{}
+
+/// The merged value of a key by its verdict: ours where our side alone changed it, theirs where theirs did, either where both changed
+/// it alike, and where neither did the value that it had.
+pub fn law_merged_value<V: Eq>()
+    ensures { MergedPlaceLaw V.eq }
 {}

@@ -13,4 +13,6 @@ mod maps;
 #[cfg(test)]
 mod reads;
 #[cfg(test)]
+mod tables;
+#[cfg(test)]
 mod versions;

@@ -1,60 +1,111 @@
-//! Tests of what is read off a join.
+//! Tests of what is read off a join: some hundred rows, compared with look-ups by a loop.
 
+use crate::tables::{KEYS, found, multiples};
 use either_or_both::join::is_rising;
-use eob_joins::{anti_join, inner_join, left_join, semi_join};
+use eob_joins::{anti_join, inner_join, left_join, right_join, semi_join};
 use std::alloc::{AllocError, Global};
 use std::test::Fail;
 
-// Two lists whose keys rise.
-fn lists(alloc: Global) -> Result<(Vec<(u8, char)>, Vec<(u8, char)>), AllocError> {
-    let left = vec![in alloc; (1, 'a'), (3, 'c')]?;
-    let right = vec![in alloc; (2, 'y'), (3, 'z')]?;
-    Ok((left, right))
+// A key and its values in two tables.
+type Row = (u32, Option<u32>, Option<u32>);
+
+// Two tables that share some keys.
+fn tables(alloc: Global) -> Result<(Vec<(u32, u32)>, Vec<(u32, u32)>), AllocError> {
+    Ok((multiples(alloc, 2, 7)?, multiples(alloc, 3, 11)?))
 }
 
-/// The keys that both lists have.
+// Each key with what the two tables have under it.
+fn looked_up(alloc: Global) -> Result<Vec<Row>, AllocError> {
+    let (left, right) = tables(alloc)?;
+    let mut rows = Vec::new(alloc);
+    for key in 0..KEYS {
+        rows.push((key, found(&left, key), found(&right, key)))?;
+    }
+    Ok(rows)
+}
+
+/// Each key that both tables have, with both values.
 #[test]
 fn rows_of_both(rt: HostRuntime) -> Result<(), Fail> {
     let alloc = rt.alloc();
-    let (left, right) = lists(alloc)?;
+    let mut want = Vec::new(alloc);
+    for (key, a, b) in looked_up(alloc)? {
+        if let Some(left) = a {
+            if let Some(right) = b {
+                want.push((key, (left, right)))?;
+            }
+        }
+    }
+    let (left, right) = tables(alloc)?;
     assert!(rt; is_rising(&left) && is_rising(&right));
-    let rows = inner_join(alloc, left, right)?;
-    assert_eq!(rt; rows, vec![in alloc; (3, ('c', 'z'))]?);
+    assert_eq!(rt; inner_join(alloc, left, right)?, want);
     Ok(())
 }
 
-/// The left list's keys, each with the right value if there is one.
+/// Each key of the left table, with what the right one has.
 #[test]
 fn rows_of_left(rt: HostRuntime) -> Result<(), Fail> {
     let alloc = rt.alloc();
-    let (left, right) = lists(alloc)?;
+    let mut want = Vec::new(alloc);
+    for (key, a, b) in looked_up(alloc)? {
+        if let Some(left) = a {
+            want.push((key, (left, b)))?;
+        }
+    }
+    let (left, right) = tables(alloc)?;
     assert!(rt; is_rising(&left) && is_rising(&right));
-    let rows = left_join(alloc, left, right)?;
-    assert_eq!(rt;
-        rows,
-        vec![in alloc; (1, ('a', None)), (3, ('c', Some('z')))]?
-    );
+    assert_eq!(rt; left_join(alloc, left, right)?, want);
     Ok(())
 }
 
-/// The left list's rows that the right one has too.
+/// Each key of the right table, with what the left one has.
+#[test]
+fn rows_of_right(rt: HostRuntime) -> Result<(), Fail> {
+    let alloc = rt.alloc();
+    let mut want = Vec::new(alloc);
+    for (key, a, b) in looked_up(alloc)? {
+        if let Some(right) = b {
+            want.push((key, (a, right)))?;
+        }
+    }
+    let (left, right) = tables(alloc)?;
+    assert!(rt; is_rising(&left) && is_rising(&right));
+    assert_eq!(rt; right_join(alloc, left, right)?, want);
+    Ok(())
+}
+
+/// Each key of the left table that the right one has too.
 #[test]
 fn rows_shared(rt: HostRuntime) -> Result<(), Fail> {
     let alloc = rt.alloc();
-    let (left, right) = lists(alloc)?;
+    let mut want = Vec::new(alloc);
+    for (key, a, b) in looked_up(alloc)? {
+        if let Some(left) = a {
+            if b.is_some() {
+                want.push((key, left))?;
+            }
+        }
+    }
+    let (left, right) = tables(alloc)?;
     assert!(rt; is_rising(&left) && is_rising(&right));
-    let rows = semi_join(alloc, left, right)?;
-    assert_eq!(rt; rows, vec![in alloc; (3, 'c')]?);
+    assert_eq!(rt; semi_join(alloc, left, right)?, want);
     Ok(())
 }
 
-/// The left list's rows that the right one lacks.
+/// Each key of the left table that the right one lacks.
 #[test]
 fn rows_alone(rt: HostRuntime) -> Result<(), Fail> {
     let alloc = rt.alloc();
-    let (left, right) = lists(alloc)?;
+    let mut want = Vec::new(alloc);
+    for (key, a, b) in looked_up(alloc)? {
+        if let Some(left) = a {
+            if b.is_none() {
+                want.push((key, left))?;
+            }
+        }
+    }
+    let (left, right) = tables(alloc)?;
     assert!(rt; is_rising(&left) && is_rising(&right));
-    let rows = anti_join(alloc, left, right)?;
-    assert_eq!(rt; rows, vec![in alloc; (1, 'a')]?);
+    assert_eq!(rt; anti_join(alloc, left, right)?, want);
     Ok(())
 }

@@ -1,5 +1,0 @@
-use Rattle.eob_joins.proofs.TableLemmas.{kept_join}
-use Rattle.eob_joins.proofs.reads.law_join_kept.Goals as goal
-
-pub returns : goal.returns
-returns g c = kept_join g.K.Ord.cmp g.met.K.Ord.total g.row.A.Denot g.row.B.Denot g.row.W.Denot

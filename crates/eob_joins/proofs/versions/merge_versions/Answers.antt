@@ -1,0 +1,5 @@
+use Rattle.eob_joins.proofs.VersionLemmas.{merge_law}
+use Rattle.eob_joins.proofs.versions.merge_versions.Goals as goal
+
+pub returns-clause-values : goal.returns-clause-values
+returns-clause-values g c = merge_law g.K.Ord.cmp g.met.K.Ord.total g.V.PartialEq.eq c.in_ok-merge.merge c.args.base.items c.args.ours.items c.args.theirs.items c.in_ok-merge.ensures

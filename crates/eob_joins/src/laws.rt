@@ -1,0 +1,42 @@
+//! What holds of every join and of every table, as contracts of functions that do nothing: a caller calls one to learn it.
+ghost use Rattle.eob_joins.specs.Laws.{CutJoinLaw, RightLaw, SelfJoinLaw};
+ghost use Rattle.eob_joins.specs.Tables.{KeptLaw, KeptRowsLaw, SameTableLaw};
+
+/// What a function keeps of the rows of a join has under each key what the function keeps of what the two lists have there.
+///
+/// A caller that writes a join of its own, `outer_join_lazily(left, right).filter_map(f).collect(alloc)`, calls this law with the rows
+/// that it got and knows them by look-ups.
+pub fn law_kept_join<K: Ord, A, B, W>(rows: &[(K, W)])
+    ensures { KeptRowsLaw K.cmp A B rows.now }
+{}
+
+/// What a function keeps of the rows of any table whose keys rise has under each key what the function keeps of what the table has
+/// there.
+pub fn law_kept<K: Ord, V, W>()
+    ensures { KeptLaw K.cmp V W }
+{}
+
+/// Where keys that count as equal are equal, a function of keys has one table: two lists whose keys rise and which have the same
+/// under each key are equal.
+pub fn law_same_table<K: Ord, V>()
+    ensures { SameTableLaw K.cmp V }
+{}
+
+/// What a join has on the right is the right list, pair by pair, where keys that count as equal are equal.
+pub fn law_join_right<K: Ord, A, B>()
+    ensures { RightLaw K.cmp A B }
+{}
+
+/// The join of a list with itself has each key with its value on both sides, where keys that count as equal are equal.
+pub fn law_join_self<K: Ord, V>()
+    ensures { SelfJoinLaw K.cmp V }
+{}
+
+/// Two tables that are cut at a key: where each key of `p1` and `q1` is less than each of `p2` and `q2`, the join of `p1` and `q1`
+/// followed by that of `p2` and `q2` is the join of `p1 ++ p2` and `q1 ++ q2`.
+///
+/// This is what lets a join run on many machines, each with a range of keys, under any engine that partitions by range: the parts are
+/// joined apart, and one after the other they are the join of the whole.
+pub fn law_cut_join<K: Ord, A, B>()
+    ensures { CutJoinLaw K.cmp A B }
+{}
