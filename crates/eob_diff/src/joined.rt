@@ -1,0 +1,140 @@
+//! Joins of two tables, written as CSV: an absent side has empty cells.
+
+use crate::arguments::Kind;
+use crate::fault::Reason;
+use crate::table::{Cells, Columns, Rows, place_of};
+use crate::written::{Written, write_table};
+use either_or_both::EitherOrBoth;
+use either_or_both::join::outer_join;
+use eob_joins::{anti_join, inner_join, left_join, semi_join};
+use std::alloc::Global;
+
+/// The names of the columns of both tables, whose keys have the same names.
+#[derive(Drop)]
+pub struct JoinColumns {
+    pub left: Columns,
+    pub right: Columns,
+}
+
+/// The join as CSV.
+pub fn write_join(
+    alloc: Global,
+    delimiter: u8,
+    kind: Kind,
+    columns: &JoinColumns,
+    left: Rows<Cells, Cells>,
+    right: Rows<Cells, Cells>,
+) -> Result<Vec<u8>, Reason> {
+    let mut written = Written::new(alloc, delimiter);
+    match kind {
+        Kind::Semi => {
+            let rows = semi_join(alloc, left.pairs, right.pairs)?;
+            return write_table(alloc, delimiter, &columns.left, &rows);
+        }
+        Kind::Anti => {
+            let rows = anti_join(alloc, left.pairs, right.pairs)?;
+            return write_table(alloc, delimiter, &columns.left, &rows);
+        }
+        Kind::Outer => {
+            written.put_cell(b"side")?;
+            put_heading(alloc, &mut written, columns)?;
+            for (key, cells) in outer_join(alloc, left.pairs, right.pairs)? {
+                written.put_cell(side(&cells))?;
+                let cells = cells.as_ref();
+                put_row(&mut written, columns, &key, cells.left(), cells.right())?;
+            }
+        }
+        Kind::Inner => {
+            put_heading(alloc, &mut written, columns)?;
+            for (key, (a, b)) in inner_join(alloc, left.pairs, right.pairs)? {
+                put_row(&mut written, columns, &key, Some(&a), Some(&b))?;
+            }
+        }
+        Kind::Left => {
+            put_heading(alloc, &mut written, columns)?;
+            for (key, (a, b)) in left_join(alloc, left.pairs, right.pairs)? {
+                put_row(&mut written, columns, &key, Some(&a), b.as_ref())?;
+            }
+        }
+        Kind::Right => {
+            put_heading(alloc, &mut written, columns)?;
+            for (key, (b, a)) in left_join(alloc, right.pairs, left.pairs)? {
+                put_row(&mut written, columns, &key, a.as_ref(), Some(&b))?;
+            }
+        }
+    }
+    written.finish()
+}
+
+// Which of the tables have a row.
+fn side(cells: &EitherOrBoth<Cells, Cells>) -> &'static [u8] {
+    match cells {
+        EitherOrBoth::Left(_) => b"left",
+        EitherOrBoth::Both(..) => b"both",
+        EitherOrBoth::Right(_) => b"right",
+    }
+}
+
+// The names of the columns. One that both tables have is told apart by a word before it.
+fn put_heading(alloc: Global, written: &mut Written, columns: &JoinColumns) -> Result<(), Reason> {
+    written.put(&columns.left.key)?;
+    put_names(
+        alloc,
+        written,
+        b"left.",
+        &columns.left.rest,
+        &columns.right.rest,
+    )?;
+    put_names(
+        alloc,
+        written,
+        b"right.",
+        &columns.right.rest,
+        &columns.left.rest,
+    )?;
+    written.end_row()
+}
+
+fn put_names(
+    alloc: Global,
+    written: &mut Written,
+    word: &[u8],
+    names: &[Vec<u8>],
+    others: &[Vec<u8>],
+) -> Result<(), Reason> {
+    for name in names {
+        let mut shown = Vec::new(alloc);
+        if place_of(others, name).is_some() {
+            shown.extend_from_slice(word)?;
+        }
+        shown.extend_from_slice(name)?;
+        written.put_cell(&shown)?;
+    }
+    Ok(())
+}
+
+// A row, with empty cells for a side that is absent.
+fn put_row(
+    written: &mut Written,
+    columns: &JoinColumns,
+    key: &[Vec<u8>],
+    left: Option<&Cells>,
+    right: Option<&Cells>,
+) -> Result<(), Reason> {
+    written.put(key)?;
+    put_side(written, left, columns.left.rest.len())?;
+    put_side(written, right, columns.right.rest.len())?;
+    written.end_row()
+}
+
+fn put_side(written: &mut Written, cells: Option<&Cells>, width: usize) -> Result<(), Reason> {
+    match cells {
+        Some(cells) => written.put(cells)?,
+        None => {
+            for _ in 0..width {
+                written.put_cell(b"")?;
+            }
+        }
+    }
+    Ok(())
+}

@@ -1,0 +1,188 @@
+//! From a reader to a table: the header first, and then the rows under the columns that are asked for.
+
+use crate::fault::Reason;
+use crate::table::{Cells, Columns, Rows, place_of};
+use csv::{ByteRecord, Reader, ReaderBuilder};
+use either_or_both::join::is_rising;
+use std::alloc::{AllocError, Global};
+use std::io::Read;
+
+/// A reader whose header is read, and whose rows are not.
+#[derive(Drop)]
+pub struct Source<R> {
+    alloc: Global,
+    reader: Reader<R>,
+    pub header: Cells,
+}
+
+impl<R: Read + Drop> Source<R> {
+    /// Reads the header: names of columns, of which no two are the same.
+    pub fn open(alloc: Global, reader: R, delimiter: u8) -> Result<Self, Reason> {
+        let mut reader = ReaderBuilder::new()
+            .delimiter(delimiter)
+            .has_headers(false)
+            .from_reader(alloc, reader);
+        let mut record = ByteRecord::new(alloc);
+        if !reader.read_byte_record(&mut record)? {
+            return Err(Reason::NoHeader);
+        }
+        let mut header: Cells = Vec::new(alloc);
+        for name in record.iter() {
+            let name = Vec::from_slice(alloc, name)?;
+            if place_of(&header, &name).is_some() {
+                return Err(Reason::RepeatedColumn(name));
+            }
+            header.push(name)?;
+        }
+        Ok(Source {
+            alloc,
+            reader,
+            header,
+        })
+    }
+
+    /// Reads the rows, and sorts them by key. A cell of a column that the header lacks is empty.
+    pub fn read_rows(mut self, columns: &Columns) -> Result<Rows<Cells, Cells>, Reason> {
+        let places = Places::new(self.alloc, &self.header, columns)?;
+        let mut rows = Vec::new(self.alloc);
+        let mut record = ByteRecord::new(self.alloc);
+        for _ in 0..u64::MAX {
+            if !self.reader.read_byte_record(&mut record)? {
+                break;
+            }
+            rows.push(places.pick_row(self.alloc, &record)?)?;
+        }
+        sorted(self.alloc, rows)
+    }
+
+    /// Reads the rows of changes, and sorts them by key: those whose first cell is `-`, which go, and those where it is `+`, which come.
+    pub fn read_changes(
+        mut self,
+        columns: &Columns,
+    ) -> Result<(Rows<Cells, Cells>, Rows<Cells, Cells>), Reason> {
+        let places = Places::new(self.alloc, &self.header, columns)?;
+        let mut gone = Vec::new(self.alloc);
+        let mut come = Vec::new(self.alloc);
+        let mut record = ByteRecord::new(self.alloc);
+        for _ in 0..u64::MAX {
+            if !self.reader.read_byte_record(&mut record)? {
+                break;
+            }
+            let row = places.pick_row(self.alloc, &record)?;
+            match record.get(0) {
+                Some(b"-") => gone.push(row)?,
+                Some(b"+") => come.push(row)?,
+                _ => return Err(Reason::NoSign(line_of(&record))),
+            }
+        }
+        Ok((sorted(self.alloc, gone)?, sorted(self.alloc, come)?))
+    }
+}
+
+// Where the columns that are asked for stand in a header.
+#[derive(Drop)]
+struct Places {
+    key: Vec<Option<usize>>,
+    rest: Vec<Option<usize>>,
+}
+
+impl Places {
+    // The header has all columns of the key.
+    fn new(alloc: Global, header: &[Vec<u8>], columns: &Columns) -> Result<Self, Reason> {
+        for name in &columns.key {
+            if place_of(header, name).is_none() {
+                return Err(Reason::NoColumn(name.clone()?));
+            }
+        }
+        Ok(Places {
+            key: find_places(alloc, header, &columns.key)?,
+            rest: find_places(alloc, header, &columns.rest)?,
+        })
+    }
+
+    // The key of a record, its line, and its other cells.
+    fn pick_row(
+        &self,
+        alloc: Global,
+        record: &ByteRecord,
+    ) -> Result<(Cells, (u64, Cells)), AllocError> {
+        let key = pick(alloc, record, &self.key)?;
+        let rest = pick(alloc, record, &self.rest)?;
+        Ok((key, (line_of(record), rest)))
+    }
+}
+
+// The line that a record begins on.
+fn line_of(record: &ByteRecord) -> u64 {
+    match record.position() {
+        Some(position) => position.line(),
+        None => 0,
+    }
+}
+
+// Where each name stands in the header, if it stands there.
+fn find_places(
+    alloc: Global,
+    header: &[Vec<u8>],
+    names: &[Vec<u8>],
+) -> Result<Vec<Option<usize>>, AllocError> {
+    let mut places = Vec::new(alloc);
+    for name in names {
+        places.push(place_of(header, name))?;
+    }
+    Ok(places)
+}
+
+// The cells of a record at these places, each of which is empty where there is no place.
+fn pick(alloc: Global, record: &ByteRecord, places: &[Option<usize>]) -> Result<Cells, AllocError> {
+    let mut cells = Vec::with_capacity(alloc, places.len())?;
+    for place in places {
+        let cell: &[u8] = match place {
+            Some(place) => record.get(*place).unwrap_or(b""),
+            None => b"",
+        };
+        cells.push(Vec::from_slice(alloc, cell)?)?;
+    }
+    Ok(cells)
+}
+
+// The rows in the order of their keys, of which no two are the same.
+fn sorted(
+    alloc: Global,
+    mut rows: Vec<(Cells, (u64, Cells))>,
+) -> Result<Rows<Cells, Cells>, Reason> {
+    rows.sort_by(|row, next| row.0.cmp(&next.0))?;
+    let mut pairs = Vec::with_capacity(alloc, rows.len())?;
+    let mut lines = Vec::with_capacity(alloc, rows.len())?;
+    for (key, (line, cells)) in rows {
+        pairs.push((key, cells))?;
+        lines.push(line)?;
+    }
+    if is_rising(&pairs) {
+        Ok(Rows { pairs })
+    } else {
+        Err(repeated_key(alloc, &pairs, &lines)?)
+    }
+}
+
+// The first key that stands twice, with both of its lines.
+fn repeated_key(
+    alloc: Global,
+    pairs: &[(Cells, Cells)],
+    lines: &[u64],
+) -> Result<Reason, AllocError> {
+    let mut key: Cells = Vec::new(alloc);
+    let mut place = 0;
+    for (number, pair) in pairs.iter().enumerate() {
+        if pair.0 == key {
+            place = number;
+            break;
+        }
+        key = pair.0.clone()?;
+    }
+    Ok(Reason::RepeatedKey {
+        key,
+        first: lines.get(place.saturating_sub(1)).copied().unwrap_or(0),
+        second: lines.get(place).copied().unwrap_or(0),
+    })
+}
