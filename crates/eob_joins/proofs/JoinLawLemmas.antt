@@ -1,17 +1,17 @@
 -- Joins of tables that are cut at a key.
-use Rattle.std.proofs.Common.{◌≡◌, ◌∙◌, ◌⊎◌, Bool, true, false, List, [], ◌∷◌, ◌++◌, map, All, Contains, Option, Some, None, inl, inr, refl, sym, ap, ap₂}
+use Rattle.std.proofs.Common.{◌≡◌, ◌∙◌, ◌⊎◌, true, List, [], ◌∷◌, ◌++◌, map, All, Contains, Option, Some, None, inl, inr, refl, sym, ap₂}
 use Rattle.std.specs.Prelude.{⊤}
 use Rattle.std.specs.Cmp.{IsTotalOrder}
 use Rattle.std.specs.Map.{keys_of}
 use Rattle.std.specs.Option.{option_or}
 use Rattle.std.specs.Ordering.{is_eq}
 use Rattle.std.specs.declared.cmp.Ordering.{Ordering}
-use Rattle.std.specs.declared.cmp.Ordering.TheVariants.{Less, Equal}
+use Rattle.std.specs.declared.cmp.Ordering.TheVariants.{Less}
 use Rattle.std.proofs.lemmas.List.{map-append}
 use Rattle.std.proofs.lemmas.List.Elements.{All-nil, All-cons, All-head, All-tail, All-append, All-contains, All-weaker, Contains-append_left, Contains-append_right}
 use Rattle.eob_both.specs.declared.either_or_both.EitherOrBoth.{EitherOrBoth}
 use Rattle.eob_both.specs.Places.{from_places}
-use Rattle.either_or_both.specs.Join.{Rising, IsJoin, value_under}
+use Rattle.either_or_both.specs.Join.{IsJoin, value_under}
 use Rattle.either_or_both.proofs.MergeLemmas.{Up, is_Equal, rising, up}
 use Rattle.eob_joins.specs.Laws.{AreBelow, CutJoinLaw}
 use Rattle.eob_joins.proofs.TableLemmas.{by_test}

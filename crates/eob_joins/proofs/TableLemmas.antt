@@ -8,7 +8,7 @@ use Rattle.std.specs.Ordering.{is_eq}
 use Rattle.std.specs.declared.cmp.Ordering.{Ordering}
 use Rattle.std.specs.declared.cmp.Ordering.TheVariants.{Less, Equal}
 use Rattle.eob_both.specs.declared.either_or_both.EitherOrBoth.{EitherOrBoth}
-use Rattle.eob_both.specs.Places.{from_places, left_place, right_place}
+use Rattle.eob_both.specs.Places.{from_places, right_place}
 use Rattle.either_or_both.specs.Join.{value_under}
 use Rattle.either_or_both.proofs.JoinLemmas.{same_values}
 use Rattle.either_or_both.proofs.MergeLemmas.{Up, absent_alike, rising, up, up_weaker}

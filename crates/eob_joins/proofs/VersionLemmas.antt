@@ -8,12 +8,11 @@ use Rattle.std.specs.declared.cmp.Ordering.{Ordering}
 use Rattle.eob_both.specs.declared.either_or_both.EitherOrBoth.{EitherOrBoth}
 use Rattle.eob_both.specs.Places.{from_places}
 use Rattle.either_or_both.specs.Join.{value_under}
-use Rattle.eob_joins.specs.declared.versions.Verdict.{Verdict}
-use Rattle.eob_joins.specs.declared.versions.Verdict.TheVariants.{Unchanged, Ours, Theirs, Alike, Conflict}
+use Rattle.eob_joins.specs.declared.versions.Verdict.TheVariants.{Unchanged, Ours, Theirs, Alike}
 use Rattle.eob_joins.specs.declared.versions.Merged.{Merged}
 use Rattle.eob_joins.specs.declared.versions.Merged.TheVariants.{Whole, Conflicts}
 use Rattle.eob_joins.specs.Tables.{Tabulates, kept}
-use Rattle.eob_joins.specs.Versions.{IsMerge, IsMergeByKey, IsVersionJoin, MergeLaw, MergedPlaceLaw, VersionsLaw, clash, clash_place, clashes, is_conflict, merged, merged_place, verdict, verdict_of}
+use Rattle.eob_joins.specs.Versions.{IsVersionJoin, MergeLaw, MergedPlaceLaw, VersionsLaw, clash, clash_place, clashes, is_conflict, merged, merged_place, verdict, verdict_of}
 use Rattle.eob_joins.proofs.TableLemmas.{by_test, kept_law, retabled}
 
 merged_is : {V : Type 0} (eq : V → V → Bool) (m n l : Option V) → option_and_then (merged eq) (from_places m (from_places n l)) ≡ merged_place eq m n l

@@ -1,7 +1,6 @@
 //! Tests of the joins of real tables: what is read off a join, changes and versions of a table, groups of repeated keys, and maps.
 //!
-//! Answers are compared with a definition that is computed apart from the code, or written out; and each request for memory is refused
-//! in turn.
+//! Answers are compared with a definition that is computed apart from the code, or written out.
 #![tactic(auto)]
 
 #[cfg(test)]
