@@ -30,7 +30,7 @@ fn table(alloc: Global, step: usize, shift: usize) -> Result<String, AllocError>
         if number.checked_rem(step) == Some(0) {
             let first = CELLS.get(number % 7).copied().unwrap_or("");
             let second = CELLS
-                .get((number / 6 % 4 * shift) % 7)
+                .get((number / 6 % 4).saturating_mul(shift) % 7)
                 .copied()
                 .unwrap_or("");
             writeln!(text, "k{number:03},{first},{second}")?;
