@@ -48,7 +48,7 @@ fn check(
     Ok(())
 }
 
-/// A vector grows on each side. All requests after the refused one are refused too, since std's own `extend` asks a second time, for
+/// A vector grows by three hundred values on each side. All requests after the refused one are refused too, since std's own `extend` asks a second time, for
 /// less, where its first request is refused.
 #[test]
 fn of_vectors(rt: HostRuntime) -> Result<(), Fail> {
@@ -56,7 +56,7 @@ fn of_vectors(rt: HostRuntime) -> Result<(), Fail> {
     let memory = Refusing::new(alloc);
     let tokens = Tokens::new(alloc)?;
     let mut items = Vec::new(alloc);
-    for _ in 0..5 {
+    for _ in 0..150 {
         items.push(tokens.two()?)?;
         items.push(tokens.three()?)?;
     }

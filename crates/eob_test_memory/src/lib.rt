@@ -18,4 +18,6 @@ mod extending;
 #[cfg(test)]
 mod joining;
 #[cfg(test)]
+mod many;
+#[cfg(test)]
 mod regrouping;

@@ -1,0 +1,276 @@
+//! Three hundred values a side in each shape of container, past its first tables: collected, collected again and cloned; regrouped,
+//! driven and joined, too. Each request is refused in turn.
+ghost use Rattle.std.specs.Prelude.{List};
+ghost use Rattle.eob_both.specs.declared.either_or_both.EitherOrBoth as enum;
+ghost use Rattle.either_or_both.specs.declared.either.Either as one;
+
+use either_or_both::EitherOrBoth::{Both, Left, Right};
+use either_or_both::join::{is_rising, outer_join_in};
+use either_or_both::laws::{Walked, recollect_in, regroup_in};
+use either_or_both::{Either, EitherOrBoth};
+use eob_testkit::memory::{RUNS, Refusing, Source, Watch};
+use indexmap::{IndexMap, IndexSet};
+use std::alloc::{AllocError, Global};
+use std::collections::{BTreeMap, BTreeSet, HashMap, HashSet, VecDeque};
+use std::hash::{BuildHasherDefault, FoldHasher};
+use std::process::Abort;
+use std::rc::Rc;
+use std::test::Fail;
+
+type Memory<'a> = &'a Refusing<Global>;
+
+type Hasher = BuildHasherDefault<FoldHasher>;
+
+type One = Rc<u16>;
+
+type Entry = (One, One);
+
+// So many values on each side.
+const MANY: u16 = 300;
+
+// More requests than collecting them or cloning takes, since containers grow by a multiple of what they hold or hold some values a
+// request. With so many runs, each request has been refused.
+const FEW: u64 = 150;
+
+// The numbers below a prime and some more, in an order that neither rises nor falls.
+fn numbers(alloc: Global, first: u16) -> Result<Vec<One>, AllocError> {
+    let mut numbers = Vec::new(alloc);
+    for i in 0..MANY {
+        numbers.push(Rc::new(alloc, (i * 97 % 307).saturating_add(first))?)?;
+    }
+    Ok(numbers)
+}
+
+// The numbers as keys, each with another one as value.
+fn entries(alloc: Global, numbers: &[One]) -> Result<Vec<Entry>, AllocError> {
+    let mut entries = Vec::new(alloc);
+    for (key, value) in numbers.iter().zip(numbers.iter().rev()) {
+        entries.push((key.clone()?, value.clone()?))?;
+    }
+    Ok(entries)
+}
+
+// The numbers of the left side and of the right side.
+type Numbers<'a> = (&'a [One], &'a [One]);
+
+// How many values share the numbers, which is the same after a run exactly where the run has dropped each value that it took.
+fn alive(numbers: Numbers) -> usize {
+    let mut sum = 0usize;
+    for (l, r) in numbers.0.iter().zip(numbers.1) {
+        sum = sum.saturating_add(Rc::strong_count(l));
+        sum = sum.saturating_add(Rc::strong_count(r));
+    }
+    sum
+}
+
+// Values that bring each item to its side, some alone and some at once.
+fn values<T: Clone + Drop>(
+    alloc: Global,
+    left: &[T],
+    right: &[T],
+) -> Result<Vec<EitherOrBoth<T>>, AllocError> {
+    let mut values = Vec::new(alloc);
+    for (i, (l, r)) in left.iter().zip(right).enumerate() {
+        if i % 3 == 0 {
+            values.push(Right(r.clone()?))?;
+            values.push(Left(l.clone()?))?;
+        } else {
+            values.push(Both(l.clone()?, r.clone()?))?;
+        }
+    }
+    Ok(values)
+}
+
+// The same of `Either`.
+fn eithers<T: Clone + Drop>(
+    alloc: Global,
+    left: &[T],
+    right: &[T],
+) -> Result<Vec<Either<T>>, AllocError> {
+    let mut values = Vec::new(alloc);
+    for (l, r) in left.iter().zip(right) {
+        values.push(Either::Left(l.clone()?))?;
+        values.push(Either::Right(r.clone()?))?;
+    }
+    Ok(values)
+}
+
+// Collects the items with each request refused in turn: for few requests, they make what is wanted.
+fn check_collected<'a, I: Clone + Drop, P: FromIterator<I, Alloc = Memory<'a>> + PartialEq + Drop>(
+    rt: &impl Abort,
+    memory: Memory<'a>,
+    numbers: Numbers,
+    items: &[I],
+    want: &P,
+) -> Result<(), Fail>
+    requires { (xs : List I) → P.can_from_iter xs }
+{
+    let count = alive(numbers);
+    for number in 1..FEW {
+        let watch = Watch::new(memory);
+        memory.refuse(number);
+        let ended: Result<P, AllocError> = Source::new(items, &watch).collect(memory);
+        assert!(rt; !watch.is_late(), "request {number} refused");
+        let judged = memory.judge(ended)?;
+        let is_whole = judged.is_some();
+        if let Some(whole) = judged {
+            assert!(rt; whole == *want, "collected");
+            assert!(rt; 1 < number);
+        }
+        assert_eq!(rt; alive(numbers), count, "request {number} refused");
+        if is_whole {
+            return Ok(());
+        }
+    }
+    Err("it asks too often")?;
+    Ok(())
+}
+
+// Collects three hundred values a side from both enums, clones the pair and collects it again.
+fn check<'a, C: Walked + FromIterator<C::Item, Alloc = Memory<'a>> + Clone + PartialEq + Drop>(
+    rt: &impl Abort,
+    alloc: Global,
+    memory: Memory<'a>,
+    numbers: Numbers,
+    sides: (&[C::Item], &[C::Item]),
+) -> Result<(), Fail>
+where
+    C::Item: Clone + Drop,
+    EitherOrBoth<C, C>: FromIterator<EitherOrBoth<C::Item, C::Item>, Alloc = Memory<'a>>
+        + FromIterator<Either<C::Item, C::Item>, Alloc = Memory<'a>>,
+    requires made { (xs : List C.Item) → C.can_from_iter xs }
+    requires any { (xs : List (enum.EitherOrBoth C.Item C.Item)) → ⟦<EitherOrBoth<C, C> as FromIterator<EitherOrBoth<C::Item, C::Item>>>⟧.can_from_iter xs }
+    requires whole { (v : enum.EitherOrBoth C C) → ⟦<EitherOrBoth<C, C> as FromIterator<EitherOrBoth<C::Item, C::Item>>>⟧.is_complete v }
+    requires any_one { (xs : List (one.Either C.Item C.Item)) → ⟦<EitherOrBoth<C, C> as FromIterator<Either<C::Item, C::Item>>>⟧.can_from_iter xs }
+{
+    let (left, right) = sides;
+    memory.refuse(0);
+    let watch = Watch::new(memory);
+    let values = values(alloc, left, right)?;
+    let eithers = eithers(alloc, left, right)?;
+    let left: C = Source::new(left, &watch).collect(memory)?;
+    let right: C = Source::new(right, &watch).collect(memory)?;
+    let want = Both(left, right);
+    check_collected(rt, memory, numbers, &values, &want)?;
+    check_collected(rt, memory, numbers, &eithers, &want)?;
+    let count = alive(numbers);
+    for number in 1..FEW {
+        memory.refuse(number);
+        let cloned = memory.judge(want.clone())?;
+        memory.refuse(0);
+        let pair = want.clone()?;
+        memory.refuse(number);
+        let again = memory.judge(recollect_in(memory, pair))?;
+        let are_whole = (cloned.is_some(), again.is_some());
+        if let Some(cloned) = cloned {
+            assert!(rt; cloned == want, "cloned");
+        }
+        if let Some(again) = again {
+            assert!(rt; again == want, "collected again");
+        }
+        assert_eq!(rt; alive(numbers), count, "request {number} refused");
+        if are_whole == (true, true) {
+            assert!(rt; 1 < number);
+            return Ok(());
+        }
+    }
+    Err("it asks too often")?;
+    Ok(())
+}
+
+/// Lists and sets are collected from both enums, cloned and collected again, for few requests.
+#[test]
+fn of_values(rt: HostRuntime) -> Result<(), Fail> {
+    let alloc = rt.alloc();
+    let m = &Refusing::new(alloc);
+    let left = numbers(alloc, 0)?;
+    let right = numbers(alloc, 200)?;
+    let sides = (left.as_slice(), right.as_slice());
+    check::<Vec<One, _>>(&rt, alloc, m, sides, sides)?;
+    check::<VecDeque<One, _>>(&rt, alloc, m, sides, sides)?;
+    check::<HashSet<One, Hasher, _>>(&rt, alloc, m, sides, sides)?;
+    check::<IndexSet<One, Hasher, _>>(&rt, alloc, m, sides, sides)?;
+    check::<BTreeSet<One, _>>(&rt, alloc, m, sides, sides)
+}
+
+/// The same of maps.
+#[test]
+fn of_entries(rt: HostRuntime) -> Result<(), Fail> {
+    let alloc = rt.alloc();
+    let m = &Refusing::new(alloc);
+    let left = numbers(alloc, 0)?;
+    let right = numbers(alloc, 200)?;
+    let numbers = (left.as_slice(), right.as_slice());
+    let left = entries(alloc, numbers.0)?;
+    let right = entries(alloc, numbers.1)?;
+    let sides = (left.as_slice(), right.as_slice());
+    check::<HashMap<One, One, Hasher, _>>(&rt, alloc, m, numbers, sides)?;
+    check::<IndexMap<One, One, Hasher, _>>(&rt, alloc, m, numbers, sides)?;
+    check::<BTreeMap<One, One, _>>(&rt, alloc, m, numbers, sides)
+}
+
+/// A list of three hundred left values and then as many right ones is regrouped into three hundred of both.
+#[test]
+fn regrouping(rt: HostRuntime) -> Result<(), Fail> {
+    let memory = Refusing::new(rt.alloc());
+    let left = numbers(rt.alloc(), 0)?;
+    let right = numbers(rt.alloc(), 200)?;
+    let mut want: Vec<EitherOrBoth<One>> = Vec::new(rt.alloc());
+    for (l, r) in left.iter().zip(&right) {
+        want.push(Both(l.clone()?, r.clone()?))?;
+    }
+    let count = alive((&left, &right));
+    for number in 1..RUNS {
+        memory.refuse(0);
+        let mut list = Vec::new(&memory);
+        for item in &left {
+            list.push(Left(item.clone()?))?;
+        }
+        for item in &right {
+            list.push(Right(item.clone()?))?;
+        }
+        memory.refuse(number);
+        if let Some(whole) = memory.judge(regroup_in(&memory, list))? {
+            assert!(rt; whole.as_slice() == want.as_slice());
+            return Ok(());
+        }
+        assert_eq!(rt; alive((&left, &right)), count, "request {number} refused");
+    }
+    Err("each run was refused")?;
+    Ok(())
+}
+
+/// Three hundred keys a side, of which a hundred are on both, are joined.
+#[test]
+fn joining(rt: HostRuntime) -> Result<(), Fail> {
+    let memory = Refusing::new(rt.alloc());
+    let one = Rc::new(rt.alloc(), 1u16)?;
+    let mut want: Vec<(u16, EitherOrBoth<One>)> = Vec::new(rt.alloc());
+    for key in 0..900u16 {
+        match (key % 2 == 0 && key < 600, key % 3 == 0) {
+            (true, false) => want.push((key, Left(one.clone()?)))?,
+            (true, true) => want.push((key, Both(one.clone()?, one.clone()?)))?,
+            (false, true) => want.push((key, Right(one.clone()?)))?,
+            (false, false) => {}
+        }
+    }
+    let count = Rc::strong_count(&one);
+    for number in 1..RUNS {
+        memory.refuse(0);
+        let mut left = Vec::new(&memory);
+        let mut right = Vec::new(&memory);
+        for i in 0..MANY {
+            left.push((i * 2, one.clone()?))?;
+            right.push((i * 3, one.clone()?))?;
+        }
+        assert!(rt; is_rising(&left) && is_rising(&right));
+        memory.refuse(number);
+        if let Some(joined) = memory.judge(outer_join_in(&memory, left, right))? {
+            assert!(rt; joined.as_slice() == want.as_slice());
+            return Ok(());
+        }
+        assert_eq!(rt; Rc::strong_count(&one), count, "request {number} refused");
+    }
+    Err("each run was refused")?;
+    Ok(())
+}
