@@ -8,7 +8,6 @@ ghost use Rattle.std.proofs.Common.{rules};
 
 mod again;
 mod orders;
-mod walked;
 
 use crate::collecting::Vague;
 use either_or_both::EitherOrBoth::{Both, Left, Right};
