@@ -22,7 +22,10 @@ use std::cmp::Ordering;
 use std::collections::VecDeque;
 pub use walk::{JoinedPairs, OuterJoin, outer_join_lazily};
 
-/// Whether each key is less than the next, as [`outer_join`] asks of both lists. Takes no memory.
+/// Returns `true` if each key is less than the next, which [`outer_join`] requires of both lists. Takes no memory, and at most one
+/// comparison for each pair of neighbours.
+///
+/// # Examples
 ///
 /// ```
 /// assert!(rt; is_rising(&[(1, 'a'), (2, 'b')]));
@@ -34,9 +37,17 @@ pub fn is_rising<K: Ord, V>(list: &[(K, V)]) -> bool
     list.is_sorted_by(|pair, next| pair.0.cmp(&next.0).is_lt())
 }
 
-/// The full outer join of two lists whose keys rise: each key of either list once, in order, with the left list's value as left
-/// place and the right list's as right place. That the keys rise is asked and not tested. `AllocError` where a request for memory
-/// was refused: then both lists are dropped.
+/// Returns the full outer join of two lists whose keys strictly increase: each key of either list once, in order, with the left list's
+/// value as left place and the right list's as right place. Takes one comparison for each key of the join at most, and memory for as many
+/// rows as both lists have pairs.
+///
+/// The caller must prove that the keys strictly increase; see [`is_rising`].
+///
+/// # Errors
+///
+/// `AllocError` where a request for memory was refused: then both lists are dropped.
+///
+/// # Examples
 ///
 /// ```
 /// let left = vec![in alloc; (1, 'a'), (3, 'b')]?;
@@ -58,7 +69,19 @@ pub fn outer_join<K: Ord + Drop, A: Drop, B: Drop>(
     outer_join_in(alloc, left, right)
 }
 
-/// [`outer_join`] with memory of any allocator.
+/// Returns the full outer join of two lists whose keys strictly increase, as [`outer_join`] does, with memory of any allocator.
+///
+/// # Errors
+///
+/// `AllocError` where a request for memory was refused: then both lists are dropped.
+///
+/// # Examples
+///
+/// ```
+/// let left = vec![in alloc; (1, 'a')]?;
+/// let right = vec![in alloc; (1, 'x')]?;
+/// assert_eq!(rt; outer_join_in(alloc, left, right)?, vec![in alloc; (1, Both('a', 'x'))]?);
+/// ```
 pub fn outer_join_in<K: Ord + Drop, A: Drop, B: Drop, M: Allocator>(
     alloc: M,
     left: Vec<(K, A), M>,
@@ -70,8 +93,8 @@ pub fn outer_join_in<K: Ord + Drop, A: Drop, B: Drop, M: Allocator>(
     ensures both { SameKeys K.cmp left.items right.items → IfOk result (λ joined. AllBoth joined.items) }
     ensures counts { IfOk result (λ joined. HasJoinCounts K.cmp left.items right.items joined.items) }
 {
-    // No key of the longer list is left out, so that many items there are at least.
-    let mut joined = Vec::with_capacity(alloc, left.len().max(right.len()))?;
+    // No join is longer than both lists together, so it never grows; growing would cost more than the room that stays.
+    let mut joined = Vec::with_capacity(alloc, left.len().saturating_add(right.len()))?;
     // As queues the lists take no more memory, and give their first pairs one by one.
     let mut left = VecDeque::from_vec(left);
     let mut right = VecDeque::from_vec(right);

@@ -17,25 +17,24 @@ pub fn append_join<A: Allocator>(
     match joined {
         [] => append_parts(output, &[b"-"]),
         [first, others @ ..] => {
-            append_entry(output, b"", first.0, &first.1)?;
+            append_entry(output, first)?;
             for entry in others {
-                append_entry(output, b" ", entry.0, &entry.1)?;
+                append_parts(output, &[b" "])?;
+                append_entry(output, entry)?;
             }
             Ok(())
         }
     }
 }
 
-// Appends a key and its values, as `K=l:V`, `K=r:V` or `K=b:V:V`, after the bytes that stand before it.
+// Appends a key and its values, as `K=l:V`, `K=r:V` or `K=b:V:V`.
 #[tactic(auto, using(crate::proofs::GrowthLemmas::extends_trans))]
 fn append_entry<A: Allocator>(
     output: &mut Vec<u8, A>,
-    before: &[u8],
-    key: &[u8],
-    value: &Item,
+    entry: &(&[u8], Item),
 ) -> Result<(), AllocError>
     ensures { Extends output.old.items output.new.items }
 {
-    append_parts(output, &[before, key])?;
-    append_item(output, b"=", value)
+    append_parts(output, &[entry.0])?;
+    append_item(output, b"=", &entry.1)
 }
