@@ -1,4 +1,4 @@
-//! The walks of `Either`: over the items of its held side, alone or in the held variant, and over its one value, where both sides
+//! The iterators of `Either`: over the items of its held side, alone or in the held variant, and over its one value, where both sides
 //! have one type.
 
 mod inner;

@@ -1,4 +1,4 @@
-//! The walk over the items of the held side, where both sides have one type.
+//! The iterator over the items of the held side, where both sides have one type.
 ghost use Rattle.std.specs.Prelude.{◌≡◌};
 ghost use Rattle.either_or_both.specs.EitherInner.{inner_held, inner_side, inner_steps};
 
@@ -6,7 +6,15 @@ use crate::Either;
 use crate::Either::{Left, Right};
 use std::iter::FusedIterator;
 
-/// The items of the iterator that an [`Either`] of two iterators of one type holds.
+/// An iterator over the items of the iterator that an [`Either`] of two iterators of one type holds.
+///
+/// # Examples
+///
+/// ```
+/// let items = Either::<[u8; 2]>::Right([1, 2]).into_iter_inner();
+/// assert!(rt; items.eq([1, 2]));
+/// ```
+#[must_use = "iterators are lazy and do nothing unless consumed"]
 #[derive(Debug, Clone, Drop)]
 pub struct InnerIterEither<T> {
     side: Either<T, T>,

@@ -1,4 +1,4 @@
-//! The walk over the items of the held side, each in the held variant.
+//! The iterator over the items of the held side, each in the held variant.
 ghost use Rattle.std.specs.Prelude.{◌≡◌};
 ghost use Rattle.either_or_both.specs.EitherSwap.{swap_side, held_swap_can, held_swap_remaining, held_swap_steps};
 
@@ -6,7 +6,16 @@ use crate::Either;
 use crate::Either::{Left, Right};
 use std::iter::FusedIterator;
 
-/// The items of the iterator that an [`Either`] of two iterators holds, each in the variant that holds it.
+/// An iterator over the items of the iterator that an [`Either`] of two iterators holds, each in the variant that holds it.
+///
+/// # Examples
+///
+/// ```
+/// let mut items = Either::<[u8; 1], [char; 1]>::Right(['a']).into_iter_swap();
+/// assert_eq!(rt; items.next(), Some(Either::Right('a')));
+/// assert_eq!(rt; items.next(), None);
+/// ```
+#[must_use = "iterators are lazy and do nothing unless consumed"]
 #[derive(Debug, Clone, Drop)]
 pub struct SwapIterEither<L, R> {
     side: Either<L, R>,

@@ -1,5 +1,5 @@
-//! The walks over the one value of a value whose sides have one type: the walk of `EitherOrBoth` by value, with one slot empty. The
-//! walks that borrow hold it over references, and a default one of these holds none.
+//! The iterators over the one value of a value whose sides have one type: that of `EitherOrBoth` by value, with one slot empty. The
+//! iterators that borrow hold it over references, and a default one of these holds none.
 ghost use Rattle.std.specs.Prelude.{◌≡◌, IfSome, [], ◌∷◌, length, ⊤};
 ghost use Rattle.std.specs.List.{All, AllZip};
 ghost use Rattle.std.specs.Iterator.{item_count, UpTo, YieldsFirst, YieldsLast, YieldsFirstRef, YieldsLastRef, YieldsFirstMut, YieldsLastMut};
@@ -12,7 +12,8 @@ use eob_both::iter::IntoIterEitherOrBoth;
 use std::alloc::AllocError;
 use std::iter::FusedIterator;
 
-/// The one value of an [`Either`].
+/// An iterator over the one value of an [`Either`].
+#[must_use = "iterators are lazy and do nothing unless consumed"]
 #[derive(Debug, PartialEq, Eq, Drop)]
 pub struct IntoIterEither<T> {
     values: IntoIterEitherOrBoth<T>,
@@ -57,7 +58,7 @@ impl<T: Drop> FusedIterator for IntoIterEither<T> {}
 impl<T: Default> Default for IntoIterEither<T> {
     ghost is_default = { λ it. value_left it ≡ [] };
 
-    /// The walk that has no value to give.
+    /// Returns an iterator with no value left.
     fn default() -> Self {
         IntoIterEither {
             values: IntoIterEitherOrBoth::default(),
@@ -70,7 +71,11 @@ impl<T: Clone> Clone for IntoIterEither<T> {
 
     ghost is_infallible = { λ s. All T.is_infallible (value_left s) };
 
-    /// The value, if it is still to come, cloned, or an error where memory is refused.
+    /// Returns an iterator over a clone of the value, if it is still to come.
+    ///
+    /// # Errors
+    ///
+    /// `AllocError` where a request for memory was refused.
     fn clone(&self) -> Result<Self, AllocError> {
         Ok(IntoIterEither {
             values: self.values.clone()?,
@@ -85,7 +90,9 @@ impl<T: Drop> IntoIterator for Either<T, T> {
 
     ghost into_iter_gives = { λ v it. value_left it ≡ held v ∷ [] };
 
-    /// The walk over the one value.
+    /// Returns an iterator over the one value.
+    ///
+    /// # Examples
     ///
     /// ```
     /// let mut value = Either::<u8>::Right(2).into_iter();
@@ -99,7 +106,8 @@ impl<T: Drop> IntoIterator for Either<T, T> {
     }
 }
 
-/// A reference to the one value of an [`Either`].
+/// An iterator over a reference to the one value of an [`Either`].
+#[must_use = "iterators are lazy and do nothing unless consumed"]
 #[derive(Debug, PartialEq, Eq, Drop)]
 pub struct IterEither<'a, T> {
     values: Option<IntoIterEitherOrBoth<&'a T>>,
@@ -150,7 +158,7 @@ impl<'a, T> FusedIterator for IterEither<'a, T> {}
 impl<'a, T: Default> Default for IterEither<'a, T> {
     ghost is_default = { λ it. ref_left it ≡ [] };
 
-    /// The walk that has no value to give.
+    /// Returns an iterator with no value left.
     fn default() -> Self {
         IterEither { values: None }
     }
@@ -161,7 +169,7 @@ impl<'a, T: Clone> Clone for IterEither<'a, T> {
 
     ghost is_infallible = { λ _. ⊤ };
 
-    /// The reference, if it is still to come; this takes no memory.
+    /// Returns an iterator over the same reference, if it is still to come. It takes no memory, and is always `Ok`.
     fn clone(&self) -> Result<Self, AllocError> {
         let values = match &self.values {
             Some(values) => Some(values.clone()?),
@@ -178,7 +186,7 @@ impl<'a, T> IntoIterator for &'a Either<T, T> {
 
     ghost into_iter_gives = { λ v it. ref_left it ≡ held v.now ∷ [] };
 
-    /// The walk over a reference to the one value.
+    /// Returns an iterator over a reference to the one value.
     fn into_iter(self) -> IterEither<'a, T> {
         IterEither {
             values: Some(EitherOrBoth::from(self.as_ref()).into_iter()),
@@ -186,7 +194,8 @@ impl<'a, T> IntoIterator for &'a Either<T, T> {
     }
 }
 
-/// A reference for writing to the one value of an [`Either`].
+/// An iterator over a mutable reference to the one value of an [`Either`].
+#[must_use = "iterators are lazy and do nothing unless consumed"]
 #[derive(Debug, PartialEq, Eq, Drop)]
 pub struct IterMutEither<'a, T> {
     values: Option<IntoIterEitherOrBoth<&'a mut T>>,
@@ -237,7 +246,7 @@ impl<'a, T> FusedIterator for IterMutEither<'a, T> {}
 impl<'a, T: Default> Default for IterMutEither<'a, T> {
     ghost is_default = { λ it. mut_left it ≡ [] };
 
-    /// The walk that has no value to give.
+    /// Returns an iterator with no value left.
     fn default() -> Self {
         IterMutEither { values: None }
     }
@@ -250,7 +259,7 @@ impl<'a, T> IntoIterator for &'a mut Either<T, T> {
 
     ghost into_iter_gives = { λ v it. mut_left it ≡ held v.now ∷ [] };
 
-    /// The walk over a reference for writing to the one value.
+    /// Returns an iterator over a mutable reference to the one value.
     fn into_iter(self) -> IterMutEither<'a, T> {
         IterMutEither {
             values: Some(EitherOrBoth::from(self.as_mut()).into_iter()),
@@ -259,13 +268,15 @@ impl<'a, T> IntoIterator for &'a mut Either<T, T> {
 }
 
 impl<T> Either<T, T> {
-    /// The walk over a reference to the one value.
+    /// Returns an iterator over a reference to the one value.
+    ///
+    /// # Examples
     ///
     /// ```
     /// let value = Either::Right(1);
-    /// let mut walk = value.iter();
-    /// assert_eq!(rt; walk.next(), Some(&1));
-    /// assert_eq!(rt; walk.next(), None);
+    /// let mut values = value.iter();
+    /// assert_eq!(rt; values.next(), Some(&1));
+    /// assert_eq!(rt; values.next(), None);
     /// ```
     pub fn iter(&self) -> IterEither<'_, T>
         ensures { ref_left result ≡ held self.now ∷ [] }
@@ -273,7 +284,9 @@ impl<T> Either<T, T> {
         self.into_iter()
     }
 
-    /// The walk over a reference for writing to the one value.
+    /// Returns an iterator over a mutable reference to the one value.
+    ///
+    /// # Examples
     ///
     /// ```
     /// let mut row = Either::<u8>::Left(1);

@@ -12,7 +12,8 @@ use std::collections::{BTreeMap, btree_map};
 use std::iter::FusedIterator;
 use std::slice;
 
-/// References to the keys and the values of a slice of pairs, pair by pair. Made by [`outer_join_slices`].
+/// An iterator over references to the keys and the values of a slice of pairs. Made by [`outer_join_slices`].
+#[must_use = "iterators are lazy and do nothing unless consumed"]
 #[derive(Debug, Drop)]
 pub struct PairRefs<'a, K, V> {
     rest: slice::Iter<'a, (K, V)>,
@@ -71,8 +72,18 @@ impl<'a, K, V> ExactSizeIterator for PairRefs<'a, K, V> {
 
 impl<'a, K, V> FusedIterator for PairRefs<'a, K, V> {}
 
-/// The full outer join of two sources of references to keys and values, whose keys rise, as [`outer_join_lazily`] gives it: such as
-/// of the walks over two maps that stay as they are. It is that walk, and its contract speaks of what the references show.
+/// Returns an iterator over the full outer join of two sources of references to keys and values whose keys strictly increase, such as
+/// the iterators over two maps that stay as they are. It is [`outer_join_lazily`] under a contract that speaks of what the references
+/// show.
+///
+/// # Examples
+///
+/// ```
+/// let left = [(1, 'a')];
+/// let mut rows = outer_join_refs(left.iter().map(|pair| (&pair.0, &pair.1)), [(&2, &'x')]);
+/// assert_eq!(rt; rows.next(), Some((&1, Left(&'a'))));
+/// assert_eq!(rt; rows.next(), Some((&2, Right(&'x'))));
+/// ```
 pub fn outer_join_refs<'a, K: Ord, A, B, U, V>(
     left: U,
     right: V,
@@ -89,9 +100,12 @@ where
     outer_join_lazily(left, right)
 }
 
-/// The full outer join of two slices of pairs, as an iterator over references to their keys and values. The caller must prove that the
-/// keys of both rise, which [`is_rising`](super::is_rising) tests. The contract speaks of each run, so that a caller of `next`,
-/// `find`, `take` or a loop that stops early learns what its rows show.
+/// Returns an iterator over the full outer join of two slices of pairs, as references to their keys and values.
+///
+/// The caller must prove that the keys of both strictly increase; see [`is_rising`](super::is_rising). The contract speaks of each run,
+/// so that a caller of `next`, `find`, `take` or a loop that stops early learns what its rows show.
+///
+/// # Examples
 ///
 /// ```
 /// let left = [(1, 'a'), (3, 'b')];
@@ -99,10 +113,10 @@ where
 /// // The checker does not read from a table that its keys rise, so a test tells it.
 /// assert!(rt; is_rising(&left));
 /// assert!(rt; is_rising(&right));
-/// let mut walk = outer_join_slices(&left, &right);
-/// assert_eq!(rt; walk.next(), Some((&1, Left(&'a'))));
-/// assert_eq!(rt; walk.next(), Some((&3, Both(&'b', &'y'))));
-/// assert_eq!(rt; walk.next(), None);
+/// let mut rows = outer_join_slices(&left, &right);
+/// assert_eq!(rt; rows.next(), Some((&1, Left(&'a'))));
+/// assert_eq!(rt; rows.next(), Some((&3, Both(&'b', &'y'))));
+/// assert_eq!(rt; rows.next(), None);
 /// ```
 pub fn outer_join_slices<'a, K: Ord, A, B>(
     left: &'a [(K, A)],
@@ -119,15 +133,17 @@ pub fn outer_join_slices<'a, K: Ord, A, B>(
     outer_join_refs(PairRefs::new(left), PairRefs::new(right))
 }
 
-/// The full outer join of two ordered maps that stay as they are, as a walk over references to their keys and values. The keys of
-/// an ordered map rise, so nothing is asked of them.
+/// Returns an iterator over the full outer join of two ordered maps that stay as they are, as references to their keys and values. The
+/// keys of an ordered map strictly increase, so there is nothing to prove.
+///
+/// # Examples
 ///
 /// ```
 /// let mut left = BTreeMap::new(alloc);
 /// left.insert(1, 'a')?;
 /// let right = BTreeMap::<i32, char>::new(alloc);
-/// let mut walk = outer_join_maps(&left, &right);
-/// assert_eq!(rt; walk.next(), Some((&1, Left(&'a'))));
+/// let mut rows = outer_join_maps(&left, &right);
+/// assert_eq!(rt; rows.next(), Some((&1, Left(&'a'))));
 /// ```
 pub fn outer_join_maps<'a, K: Ord, A, B>(
     left: &'a BTreeMap<K, A>,

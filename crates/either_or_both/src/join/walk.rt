@@ -9,11 +9,14 @@ use std::cmp::Ordering;
 use std::iter::FusedIterator;
 use std::mem;
 
-/// The full outer join of two iterators of pairs whose keys rise, item by item. It holds the next pair of each side; a side that
-/// holds none has ended, and is asked no more. Made by [`outer_join_lazily`](super::outer_join_lazily).
+/// An iterator over the full outer join of two iterators of pairs whose keys strictly increase.
+///
+/// It holds the next pair of each side. A side that has returned `None` is not polled again. Made by
+/// [`outer_join_lazily`](super::outer_join_lazily).
 pub type OuterJoin<I, J> = JoinedPairs<I, J, <I as Iterator>::Item, <J as Iterator>::Item>;
 
 /// What [`OuterJoin`] stands for: two iterators, and the next pair of each.
+#[must_use = "iterators are lazy and do nothing unless consumed"]
 #[derive(Debug, Drop)]
 pub struct JoinedPairs<I, J, X, Y> {
     lefts: I,
@@ -22,15 +25,20 @@ pub struct JoinedPairs<I, J, X, Y> {
     right: Option<Y>,
 }
 
-/// The full outer join of two sources of pairs whose keys rise, as a walk that takes no memory: each key of either source once, in
-/// order, with the left source's value as left place and the right source's as right place. Each source is asked for its first pair
-/// at once, and for one more where its pair is given.
+/// Returns an iterator over the full outer join of two sources of pairs whose keys strictly increase: each key of either source once,
+/// in order, with the left source's value as left place and the right source's as right place. Takes no memory, and one comparison for
+/// each row.
+///
+/// Both sources are polled for their first pair at once, and each for another where its pair is returned. Of sources whose keys do not
+/// strictly increase the rows are unspecified; see [`is_rising`](super::is_rising).
+///
+/// # Examples
 ///
 /// ```
-/// let mut walk = outer_join_lazily([(1, 'a'), (3, 'b')], [(3, 'y')]);
-/// assert_eq!(rt; walk.next(), Some((1, Left('a'))));
-/// assert_eq!(rt; walk.next(), Some((3, Both('b', 'y'))));
-/// assert_eq!(rt; walk.next(), None);
+/// let mut rows = outer_join_lazily([(1, 'a'), (3, 'b')], [(3, 'y')]);
+/// assert_eq!(rt; rows.next(), Some((1, Left('a'))));
+/// assert_eq!(rt; rows.next(), Some((3, Both('b', 'y'))));
+/// assert_eq!(rt; rows.next(), None);
 /// ```
 pub fn outer_join_lazily<K, A, B, U, V>(
     left: U,
@@ -118,7 +126,7 @@ where
     J: Iterator<Item = (K, B)>,
 {}
 
-// The hint of a side: an ended one is not asked.
+// The hint of a side: one that has ended is not polled.
 fn side_hint<I: Iterator>(held: &Option<I::Item>, rest: &I) -> (usize, Option<usize>)
     ensures lower { IsWithinCount result.0 (held_remaining held.now (I.remaining rest.now)) }
     ensures upper { IfSome result.1 (UpTo (held_remaining held.now (I.remaining rest.now))) }

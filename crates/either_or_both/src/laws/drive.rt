@@ -1,6 +1,6 @@
-//! Walks whose two ends are called in a given order: what each call answers, and how many items are left.
+//! Iterators whose two ends are called in a given order: what each call returns, and how many items are left.
 //!
-//! Each driver makes the walk, calls `next` for each Front and `next_back` for each Back, and gives the answers in order.
+//! Each driver makes the iterator, calls `next` for each `Front` and `next_back` for each `Back`, and returns what they did, in order.
 ghost use Rattle.std.specs.Prelude.{◌≡◌, List, ◌++◌, length, map, IfOk};
 ghost use Rattle.std.specs.Option.{option_map};
 ghost use Rattle.eob_both.specs.Aligned.{aligned};
@@ -12,7 +12,7 @@ ghost use Rattle.either_or_both.specs.Answers.{answers, left_over, Listed, Match
 use crate::EitherOrBoth;
 use std::alloc::{AllocError, Allocator, Global};
 
-/// An end of a walk.
+/// An end of an iterator.
 #[derive(Debug, Clone, Copy, PartialEq, Eq)]
 pub enum End {
     /// The front, from which `next` takes.
@@ -21,10 +21,10 @@ pub enum End {
     Back,
 }
 
-/// What a walk answered to calls of its ends, and what it has left.
+/// What an iterator returned at calls of its ends, and what it has left.
 #[derive(Debug, PartialEq, Eq, Drop)]
 pub struct Driven<I> {
-    /// One answer for each call.
+    /// What each call returned.
     pub answers: Vec<Option<I>>,
     /// How many items are left.
     pub rest: usize,
@@ -42,15 +42,23 @@ fn call_end<I: DoubleEndedIterator>(walk: &mut I, end: End) -> Option<I::Item>
     }
 }
 
-/// Calls the ends of a walk in turn, with memory of any allocator: one answer for each call. The walk goes on after it, so that many
-/// calls can be made some at a time. Where the walk has a list still to come, the answers are those of calls of that list, and where
-/// the list is counted, so is what is left of it. `AllocError` where a request for memory was refused.
+/// Calls the ends of an iterator in turn, and returns what each call did, with memory of any allocator. The iterator can be used on
+/// afterwards, so that many calls can be made some at a time. Where it has a list still to come, the calls return what calls of that list
+/// do, and where the list is counted, so is what is left of it. Takes memory for one item a call.
+///
+/// The caller must prove that the iterator has such a list.
+///
+/// # Errors
+///
+/// `AllocError` where a request for memory was refused.
+///
+/// # Examples
 ///
 /// ```
-/// let mut walk = EitherOrBoth::Both([1, 2, 3], ['a']).into_iter_swap();
-/// let answers = drive_walk_in(alloc, &mut walk, &[End::Back])?;
+/// let mut rows = EitherOrBoth::Both([1, 2, 3], ['a']).into_iter_swap();
+/// let answers = drive_walk_in(alloc, &mut rows, &[End::Back])?;
 /// assert_eq!(rt; answers, vec![in alloc; Some(EitherOrBoth::Left(3))]?);
-/// assert_eq!(rt; walk.len(), 2);
+/// assert_eq!(rt; rows.len(), 2);
 /// ```
 pub fn drive_walk_in<I: DoubleEndedIterator, A: Allocator>(
     alloc: A,
@@ -72,7 +80,7 @@ where
     Ok(answers)
 }
 
-// The answers of a walk that knows its length, and how many items it has left.
+// What calls of the ends of an iterator that knows its length return, and how many items it has left.
 fn drive<I: DoubleEndedIterator + ExactSizeIterator, A: Allocator>(
     alloc: A,
     mut walk: I,
@@ -91,12 +99,12 @@ where
     Ok((answers, rest))
 }
 
-/// Calls the ends of the paired walk over a pair in turn. Where the sides have lists still to come, which are counted, the answers
-/// are those of calls of the aligned list, and the rest is what is left of it.
+/// Calls the ends of [`into_iter_swap`](EitherOrBoth::into_iter_swap) over a pair in turn, and returns what each call did and how many
+/// items are left. Where the sides have lists still to come, which are counted, the calls return what calls of the aligned list do.
 ///
 /// The caller must prove that the sides have such lists. `drive_swap_owned` and `drive_swap_listed` of the crate `eob_known_lists`
-/// are this function with nothing to prove, over vectors, arrays, slices, queues, ranges, options and walks: call those, as the
-/// example at `drive_swap_owned` does.
+/// are this function with nothing to prove, over vectors, arrays, slices, queues, ranges, options and the iterators of this library: call
+/// those, as the example at `drive_swap_owned` does.
 ///
 /// # Errors
 ///
@@ -126,7 +134,12 @@ where
     Ok(Driven { answers, rest })
 }
 
-/// The same, with memory of any allocator: the answers, and how many items are left.
+/// Calls the ends of [`into_iter_swap`](EitherOrBoth::into_iter_swap) over a pair in turn, as [`drive_swap`] does, with memory of any
+/// allocator: what each call returned, and how many items are left.
+///
+/// # Errors
+///
+/// `AllocError` where a request for memory was refused: then the pair is dropped.
 pub fn drive_swap_in<L, R, A: Allocator>(
     alloc: A,
     pair: EitherOrBoth<L, R>,
@@ -151,8 +164,8 @@ where
     drive(alloc, pair.into_iter_swap(), ends)
 }
 
-/// Calls the ends of the chain over a pair in turn. Where the sides have lists still to come, the answers are those of calls of the
-/// left list followed by the right one.
+/// Calls the ends of [`into_iter_chain`](EitherOrBoth::into_iter_chain) over a pair in turn, and returns what each call did. Where the
+/// sides have lists still to come, the calls return what calls of the left list followed by the right one do.
 ///
 /// The caller must prove that the sides have such lists. `drive_chain_owned` and `drive_chain_listed` of the crate `eob_known_lists`
 /// are this function with nothing to prove: call those, as the example at `drive_chain_owned` does.
@@ -181,8 +194,14 @@ where
     drive_walk_in(alloc, &mut walk, ends)
 }
 
-/// Calls the ends of the walk over the one or two values of a value in turn. The answers are those of calls of the values, left
-/// first, and the rest is what is left of them. `AllocError` where a request for memory was refused: then the value is dropped.
+/// Calls the ends of the iterator over the one or two values of a value in turn, left first, and returns what each call did and how many
+/// values are left.
+///
+/// # Errors
+///
+/// `AllocError` where a request for memory was refused: then the value is dropped.
+///
+/// # Examples
 ///
 /// ```
 /// let driven = drive_items(alloc, EitherOrBoth::Both(1, 2), &[End::Back])?;

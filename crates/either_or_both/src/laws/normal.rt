@@ -11,8 +11,14 @@ ghost use Rattle.either_or_both.specs.Normal.{is_both, is_left, is_right, IsNorm
 use crate::EitherOrBoth;
 use std::alloc::{AllocError, Allocator, Global};
 
-/// Collects the values into vectors and walks these side by side: the left values and the right values lined up again, first with
-/// first. `AllocError` where a request for memory was refused: then the values are dropped.
+/// Returns the left values and the right values of a list lined up again, first with first: what collecting it into vectors and
+/// iterating over these side by side gives. Takes memory for both sides and for the list that they make.
+///
+/// # Errors
+///
+/// `AllocError` where a request for memory was refused: then the values are dropped.
+///
+/// # Examples
 ///
 /// ```
 /// let list = vec![in alloc; EitherOrBoth::Left(1), EitherOrBoth::Right('a'), EitherOrBoth::Left(2)]?;
@@ -28,7 +34,18 @@ pub fn regroup<L: Drop, R: Drop>(
     regroup_in(alloc, list)
 }
 
-/// The same, with memory of any allocator.
+/// Returns the left values and the right values of a list lined up again, as [`regroup`] does, with memory of any allocator.
+///
+/// # Errors
+///
+/// `AllocError` where a request for memory was refused: then the values are dropped.
+///
+/// # Examples
+///
+/// ```
+/// let list = vec![in alloc; EitherOrBoth::Right('a'), EitherOrBoth::Left(1)]?;
+/// assert_eq!(rt; regroup_in(alloc, list)?, vec![in alloc; EitherOrBoth::Both(1, 'a')]?);
+/// ```
 pub fn regroup_in<L: Drop, R: Drop, A: Allocator + Copy>(
     alloc: A,
     list: Vec<EitherOrBoth<L, R>, A>,
@@ -84,8 +101,10 @@ fn line_up<L: Drop, R: Drop, A: Allocator>(
     Ok(lined_up)
 }
 
-/// Whether the values before some place are both, and those from it on are left values alone or right values alone: the lists that
+/// Returns `true` if the values before some place are `Both`, and those from it on are `Left` alone or `Right` alone: the lists that
 /// [`regroup`] leaves as they are. Takes no memory.
+///
+/// # Examples
 ///
 /// ```
 /// assert!(rt; is_normal(&[EitherOrBoth::Both(1, 'a'), EitherOrBoth::Left(2)]));
