@@ -9,3 +9,5 @@ mod containers;
 mod joins;
 #[cfg(test)]
 mod normal;
+#[cfg(test)]
+mod rebuilt;
