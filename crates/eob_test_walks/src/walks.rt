@@ -1,9 +1,11 @@
-//! Tests: the paired walk and the chain of `EitherOrBoth`, from both ends, what they ask of their sides, and their hints.
+//! Tests: the paired walk and the chain of `EitherOrBoth`, from both ends, what they ask of their sides, and the hints of these and of
+//! the join as a walk.
 
 pub mod sides;
 
 use either_or_both::EitherOrBoth::{Both, Left, Right};
 use either_or_both::iter::ChainedIterEitherOrBoth;
+use either_or_both::join::outer_join_lazily;
 use either_or_both::{Either, EitherOrBoth};
 use sides::{Asked, Counting, ENDLESS, Hinted};
 use std::alloc::AllocError;
@@ -270,6 +272,45 @@ fn hints_of_held_side(rt: HostRuntime) {
         for _ in swap.by_ref().take(taken) {}
         assert_eq!(rt; inner.size_hint(), want, "inner, {taken} taken of {side:?}");
         assert_eq!(rt; swap.size_hint(), want, "swap, {taken} taken of {side:?}");
+    }
+}
+
+/// Two sides, how many rows of their join are taken, and its hint then. Items are numbered from 0, so a row takes one of each side that
+/// has one. A vague side that holds an item has at least that one.
+#[rattlefmt::skip]
+fn joined_hints() -> [(Hinted, Hinted, usize, Hint); 16] {
+    [
+        // left          right          taken  hint
+        (exact(2),       exact(1),          0, (2, Some(3))),
+        (exact(2),       exact(1),          1, (1, Some(1))),
+        (exact(2),       exact(1),          2, (0, Some(0))),
+        (exact(0),       vague(3),          0, (1, Some(3))),
+        (vague(3),       exact(0),          1, (1, Some(2))),
+        (exact(1_000),   exact(70_000),     0, (70_000, Some(71_000))),
+        (exact(70_000),  exact(1_000),      0, (70_000, Some(71_000))),
+        (exact(1_000),   vague(70_000),     0, (1_000, Some(71_000))),
+        (vague(70_000),  exact(1_000),      0, (1_000, Some(71_000))),
+        (vague(1_000),   vague(70_000),     0, (1, Some(71_000))),
+        (exact(1_000),   exact(70_000),   999, (69_001, Some(69_002))),
+        (exact(70_000),  exact(1_000),  1_000, (69_000, Some(69_000))),
+        (exact(MAX),     exact(0),          0, (MAX, Some(MAX))),
+        (exact(MAX),     exact(1),          0, (MAX, None)),
+        (exact(1_000),   ENDLESS,           0, (MAX, None)),
+        (ENDLESS,        exact(1_000),      0, (MAX, None)),
+    ]
+}
+
+/// A join has at least as many rows as the longer side has items at least, and at most as many as both have together at most.
+#[test]
+fn hints_of_joins(rt: HostRuntime) {
+    for (left, right, taken, want) in joined_hints() {
+        let mut walk = outer_join_lazily((0u64..).zip(left), (0u64..).zip(right));
+        for _ in walk.by_ref().take(taken) {}
+        assert_eq!(rt;
+            walk.size_hint(),
+            want,
+            "{taken} taken of {left:?} and {right:?}"
+        );
     }
 }
 
