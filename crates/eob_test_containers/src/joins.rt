@@ -15,52 +15,34 @@ type Table<K, V> = &'static [(K, V)];
 
 type Joined<K, V> = &'static [(K, EitherOrBoth<V, V>)];
 
-static ROWS: [(Table<u8, char>, Table<u8, char>, Joined<u8, char>); 6] = [
-    (&[], &[], &[]),
-    (
-        &[(1, 'a'), (3, 'b')],
-        &[(2, 'x'), (3, 'y')],
-        &[(1, Left('a')), (2, Right('x')), (3, Both('b', 'y'))],
-    ),
-    (&[(1, 'a')], &[(1, 'x')], &[(1, Both('a', 'x'))]),
-    (
-        &[(1, 'a'), (2, 'b')],
-        &[],
-        &[(1, Left('a')), (2, Left('b'))],
-    ),
-    (
-        &[],
-        &[(1, 'x'), (2, 'y')],
-        &[(1, Right('x')), (2, Right('y'))],
-    ),
-    (
-        &[(4, 'a'), (9, 'b')],
-        &[(1, 'x'), (2, 'y'), (4, 'z')],
-        &[
-            (1, Right('x')),
-            (2, Right('y')),
-            (4, Both('a', 'z')),
-            (9, Left('b')),
-        ],
-    ),
+/// Two lists whose keys rise, and their join.
+#[rattlefmt::skip]
+static JOINED: [(Table<u8, char>, Table<u8, char>, Joined<u8, char>); 6] = [
+    // left                 right                            joined
+    (&[],                   &[],                             &[]),
+    (&[(1, 'a'), (3, 'b')], &[(2, 'x'), (3, 'y')],           &[(1, Left('a')), (2, Right('x')), (3, Both('b', 'y'))]),
+    (&[(1, 'a')],           &[(1, 'x')],                     &[(1, Both('a', 'x'))]),
+    (&[(1, 'a'), (2, 'b')], &[],                             &[(1, Left('a')), (2, Left('b'))]),
+    (&[],                   &[(1, 'x'), (2, 'y')],           &[(1, Right('x')), (2, Right('y'))]),
+    (&[(4, 'a'), (9, 'b')], &[(1, 'x'), (2, 'y'), (4, 'z')], &[(1, Right('x')), (2, Right('y')), (4, Both('a', 'z')), (9, Left('b'))]),
 ];
 
+/// Each key of either list comes once, in order, with what the two lists have under it, at once and item by item.
 #[test]
 fn joins_small_lists(rt: HostRuntime) -> Result<(), Fail> {
-    for (left, right, want) in ROWS.iter().copied() {
-        assert!(rt; is_rising(left) && is_rising(right));
-        if is_rising(left) && is_rising(right) {
-            let p = Vec::from_slice(rt.alloc(), left)?;
-            let q = Vec::from_slice(rt.alloc(), right)?;
-            let joined = outer_join(rt.alloc(), p.clone()?, q.clone()?)?;
-            assert_eq!(rt; joined.as_slice(), want);
-            let walked = outer_join_lazily(p, q).collect::<Vec<_>>(rt.alloc())?;
-            assert_eq!(rt; walked.as_slice(), want);
-        }
+    for (left, right, want) in JOINED.iter().copied() {
+        assert!(rt; is_rising(left) && is_rising(right), "{left:?} {right:?}");
+        let p = Vec::from_slice(rt.alloc(), left)?;
+        let q = Vec::from_slice(rt.alloc(), right)?;
+        let walked = outer_join_lazily(p.clone()?, q.clone()?).collect::<Vec<_>>(rt.alloc())?;
+        assert_eq!(rt; walked.as_slice(), want, "lazily: {left:?} {right:?}");
+        let joined = outer_join(rt.alloc(), p, q)?;
+        assert_eq!(rt; joined.as_slice(), want, "{left:?} {right:?}");
     }
     Ok(())
 }
 
+/// A list rises where each key is less than the next.
 #[test]
 fn knows_lists_that_rise(rt: HostRuntime) {
     assert!(rt; is_rising::<u8, char>(&[]));
@@ -114,14 +96,14 @@ fn by_definition(
 ) -> Result<Vec<(u32, EitherOrBoth<u32, u32>)>, AllocError> {
     let mut joined = Vec::new(alloc);
     for key in 0..160u32 {
-        match EitherOrBoth::try_from((look_up(left, key), look_up(right, key))) {
-            Ok(value) => joined.push((key, value))?,
-            Err(_) => {}
+        if let Ok(value) = EitherOrBoth::try_from((look_up(left, key), look_up(right, key))) {
+            joined.push((key, value))?;
         }
     }
     Ok(joined)
 }
 
+/// Lists of every length up to fifty are joined as the definition says, at once, item by item, and by reference.
 #[test]
 fn joins_as_defined(rt: HostRuntime) -> Result<(), Fail> {
     let mut numbers = Numbers { state: 15 };
@@ -131,24 +113,23 @@ fn joins_as_defined(rt: HostRuntime) -> Result<(), Fail> {
             let right = numbers.list(rt.alloc(), right_len)?;
             let want = by_definition(rt.alloc(), &left, &right)?;
             assert!(rt; is_rising(&left) && is_rising(&right));
-            if is_rising(&left) && is_rising(&right) {
-                let mut lent = Vec::new(rt.alloc());
-                for (key, value) in outer_join_slices(&left, &right) {
-                    lent.push((*key, value.copied()))?;
-                }
-                assert_eq!(rt; lent.as_slice(), want.as_slice());
-                let walked = outer_join_lazily(left.clone()?, right.clone()?).collect::<Vec<_>>(
-                    rt.alloc(),
-                )?;
-                assert_eq!(rt; walked.as_slice(), want.as_slice());
-                let joined = outer_join(rt.alloc(), left, right)?;
-                assert_eq!(rt; joined.as_slice(), want.as_slice());
+            let mut lent = Vec::new(rt.alloc());
+            for (key, value) in outer_join_slices(&left, &right) {
+                lent.push((*key, value.copied()))?;
             }
+            assert_eq!(rt; lent.as_slice(), want.as_slice(), "{left:?} {right:?}");
+            let walked = outer_join_lazily(left.clone()?, right.clone()?).collect::<Vec<_>>(
+                rt.alloc(),
+            )?;
+            assert_eq!(rt; walked.as_slice(), want.as_slice(), "{left:?} {right:?}");
+            let joined = outer_join(rt.alloc(), left, right)?;
+            assert_eq!(rt; joined.as_slice(), want.as_slice());
         }
     }
     Ok(())
 }
 
+/// Rows come in the order of the keys: of texts by their bytes, of reversed numbers from the greatest down.
 #[test]
 fn joins_by_texts_and_in_reverse(rt: HostRuntime) -> Result<(), Fail> {
     let left = [("a10", 1), ("b", 2)];
@@ -169,6 +150,7 @@ fn joins_by_texts_and_in_reverse(rt: HostRuntime) -> Result<(), Fail> {
     Ok(())
 }
 
+/// Maps that are joined by reference are there afterwards.
 #[test]
 fn joins_maps_that_stay(rt: HostRuntime) -> Result<(), Fail> {
     let mut left = BTreeMap::new(rt.alloc());
@@ -207,6 +189,7 @@ impl<'a> Iterator for Asked<'a> {
     }
 }
 
+/// Each side is asked for one item at once and for one more where its item is given, and a side that has ended no more.
 #[test]
 fn asks_ended_side_no_more(rt: HostRuntime) {
     let left = Cell::new(0u32);

@@ -7,34 +7,21 @@ use std::test::Fail;
 type List = &'static [EitherOrBoth<u8, char>];
 
 /// Lists, what regrouping makes of each, and whether it is normal as it stands.
+#[rattlefmt::skip]
 static LISTS: [(List, List, bool); 9] = [
-    (&[], &[], true),
-    (
-        &[Left(1), Right('a'), Left(2)],
-        &[Both(1, 'a'), Left(2)],
-        false,
-    ),
-    (&[Both(1, 'a'), Left(2)], &[Both(1, 'a'), Left(2)], true),
-    (&[Right('a'), Right('b')], &[Right('a'), Right('b')], true),
-    (&[Left(1), Both(2, 'a')], &[Both(1, 'a'), Left(2)], false),
-    (&[Left(1), Right('a')], &[Both(1, 'a')], false),
-    (
-        &[Both(1, 'a'), Right('c')],
-        &[Both(1, 'a'), Right('c')],
-        true,
-    ),
-    (
-        &[Right('a'), Both(1, 'b')],
-        &[Both(1, 'a'), Right('b')],
-        false,
-    ),
-    (
-        &[Left(1), Left(2), Left(3)],
-        &[Left(1), Left(2), Left(3)],
-        true,
-    ),
+    // list                           regrouped                     normal
+    (&[],                             &[],                          true),
+    (&[Left(1), Right('a'), Left(2)], &[Both(1, 'a'), Left(2)],     false),
+    (&[Both(1, 'a'), Left(2)],        &[Both(1, 'a'), Left(2)],     true),
+    (&[Right('a'), Right('b')],       &[Right('a'), Right('b')],    true),
+    (&[Left(1), Both(2, 'a')],        &[Both(1, 'a'), Left(2)],     false),
+    (&[Left(1), Right('a')],          &[Both(1, 'a')],              false),
+    (&[Both(1, 'a'), Right('c')],     &[Both(1, 'a'), Right('c')],  true),
+    (&[Right('a'), Both(1, 'b')],     &[Both(1, 'a'), Right('b')],  false),
+    (&[Left(1), Left(2), Left(3)],    &[Left(1), Left(2), Left(3)], true),
 ];
 
+/// Regrouping puts the left and the right values side by side again, gives a normal list, and leaves a normal one as it is.
 #[test]
 fn regrouped_lists(rt: HostRuntime) -> Result<(), Fail> {
     let alloc = rt.alloc();

@@ -266,7 +266,7 @@ static COUNTS: [EitherOrBoth<u16>; 6] = [
 ];
 
 // Collects pairs of containers with these counts again.
-fn check<C: Container>(rt: &impl Abort, alloc: Global) -> Result<(), Fail> {
+fn check<C: Container>(rt: &impl Abort, alloc: Global, shape: &str) -> Result<(), Fail> {
     for counts in COUNTS.iter().copied() {
         let pair = match counts {
             Left(l) => Left(C::old(alloc, l)?),
@@ -274,7 +274,7 @@ fn check<C: Container>(rt: &impl Abort, alloc: Global) -> Result<(), Fail> {
             Right(r) => Right(C::old(alloc, r)?),
         };
         for container in C::again(alloc, pair)? {
-            assert!(rt; container.is_new(), "{counts:?}");
+            assert!(rt; container.is_new(), "{shape} of {counts:?}");
         }
     }
     Ok(())
@@ -284,18 +284,18 @@ fn check<C: Container>(rt: &impl Abort, alloc: Global) -> Result<(), Fail> {
 #[test]
 fn values_move_into_new_containers(rt: HostRuntime) -> Result<(), Fail> {
     let alloc = rt.alloc();
-    check::<Vec<u16>>(&rt, alloc)?;
-    check::<VecDeque<u16>>(&rt, alloc)?;
-    check::<HashSet<u16>>(&rt, alloc)?;
-    check::<IndexSet<u16>>(&rt, alloc)?;
-    check::<BTreeSet<Compared>>(&rt, alloc)
+    check::<Vec<u16>>(&rt, alloc, "Vec")?;
+    check::<VecDeque<u16>>(&rt, alloc, "VecDeque")?;
+    check::<HashSet<u16>>(&rt, alloc, "HashSet")?;
+    check::<IndexSet<u16>>(&rt, alloc, "IndexSet")?;
+    check::<BTreeSet<Compared>>(&rt, alloc, "BTreeSet")
 }
 
 /// The same of maps.
 #[test]
 fn entries_move_into_new_containers(rt: HostRuntime) -> Result<(), Fail> {
     let alloc = rt.alloc();
-    check::<HashMap<u16, u16>>(&rt, alloc)?;
-    check::<IndexMap<u16, u16>>(&rt, alloc)?;
-    check::<BTreeMap<Compared, u16>>(&rt, alloc)
+    check::<HashMap<u16, u16>>(&rt, alloc, "HashMap")?;
+    check::<IndexMap<u16, u16>>(&rt, alloc, "IndexMap")?;
+    check::<BTreeMap<Compared, u16>>(&rt, alloc, "BTreeMap")
 }

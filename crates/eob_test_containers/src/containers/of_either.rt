@@ -1,0 +1,84 @@
+//! Tests: pairs of containers of each shape, collected from values of `Either`.
+
+use super::{rising_maps, rising_sets, shows};
+use crate::collecting::Vague;
+use either_or_both::Either::{Left, Right};
+use either_or_both::{Either, EitherOrBoth};
+use indexmap::{IndexMap, IndexSet};
+use std::collections::{BTreeMap, BTreeSet, HashMap, HashSet, VecDeque};
+use std::test::Fail;
+
+/// Values, and what they are collected into: lists, sets in the order of insertion, and sets in the order of their values.
+#[rattlefmt::skip]
+static VALUES: [(&[Either<u8, char>], &str, &str, &str); 5] = [
+    // values                               lists                     by insertion         by order
+    (&[],                                   "Both([], [])",           "Both({}, {})",      "Both({}, {})"),
+    (&[Left(1), Right('c')],                "Both([1], ['c'])",       "Both({1}, {'c'})",  "Both({1}, {'c'})"),
+    (&[Right('c'), Left(2)],                "Both([2], ['c'])",       "Both({2}, {'c'})",  "Both({2}, {'c'})"),
+    (&[Left(3), Left(1), Left(3)],          "Left([3, 1, 3])",        "Left({3, 1})",      "Left({1, 3})"),
+    (&[Right('m'), Right('c'), Right('m')], "Right(['m', 'c', 'm'])", "Right({'m', 'c'})", "Right({'c', 'm'})"),
+];
+
+/// Vectors and queues hold what came in order, and sets hold it once, in the order of first places or in that of the values.
+#[test]
+fn lists_and_sets(rt: HostRuntime) -> Result<(), Fail> {
+    let alloc = rt.alloc();
+    for (values, lists, inserted, ordered) in VALUES.iter().copied() {
+        let pair: EitherOrBoth<Vec<u8>, Vec<char>> = Vague(values).collect(alloc)?;
+        shows(&rt, alloc, "Vec", values, pair, lists)?;
+        let pair: EitherOrBoth<VecDeque<u8>, VecDeque<char>> = Vague(values).collect(alloc)?;
+        shows(&rt, alloc, "VecDeque", values, pair, lists)?;
+        let pair: EitherOrBoth<IndexSet<u8>, IndexSet<char>> = Vague(values).collect(alloc)?;
+        shows(&rt, alloc, "IndexSet", values, pair, inserted)?;
+        let pair: EitherOrBoth<BTreeSet<u8>, BTreeSet<char>> = Vague(values).collect(alloc)?;
+        shows(&rt, alloc, "BTreeSet", values, pair, ordered)?;
+        let pair: EitherOrBoth<HashSet<u8>, HashSet<char>> = Vague(values).collect(alloc)?;
+        let pair = rising_sets(alloc, pair)?;
+        shows(&rt, alloc, "HashSet", values, pair, ordered)?;
+    }
+    Ok(())
+}
+
+/// Entries, and the maps that they are collected into: in the order of insertion, and in the order of their keys.
+#[rattlefmt::skip]
+static ENTRIES: [(&[Either<(u8, u8), (u8, char)>], &str, &str); 5] = [
+    // entries                                             by insertion               by keys
+    (&[],                                                  "Both({}, {})",            "Both({}, {})"),
+    (&[Left((1, 7)), Right((2, 'c'))],                     "Both({1: 7}, {2: 'c'})",  "Both({1: 7}, {2: 'c'})"),
+    (&[Left((1, 7)), Left((1, 8))],                        "Left({1: 8})",            "Left({1: 8})"),
+    (&[Left((2, 7)), Left((1, 8)), Left((2, 9))],          "Left({2: 9, 1: 8})",      "Left({1: 8, 2: 9})"),
+    (&[Right((2, 'x')), Right((1, 'y')), Right((2, 'z'))], "Right({2: 'z', 1: 'y'})", "Right({1: 'y', 2: 'z'})"),
+];
+
+/// A key has the value of its last place, in the order of first places or in that of the keys.
+#[test]
+fn maps(rt: HostRuntime) -> Result<(), Fail> {
+    let alloc = rt.alloc();
+    for (entries, inserted, ordered) in ENTRIES.iter().copied() {
+        let pair: EitherOrBoth<IndexMap<u8, u8>, IndexMap<u8, char>> = Vague(entries).collect(
+            alloc,
+        )?;
+        shows(&rt, alloc, "IndexMap", entries, pair, inserted)?;
+        let pair: EitherOrBoth<BTreeMap<u8, u8>, BTreeMap<u8, char>> = Vague(entries).collect(
+            alloc,
+        )?;
+        shows(&rt, alloc, "BTreeMap", entries, pair, ordered)?;
+        let pair: EitherOrBoth<HashMap<u8, u8>, HashMap<u8, char>> = Vague(entries).collect(alloc)?;
+        let pair = rising_maps(alloc, pair)?;
+        shows(&rt, alloc, "HashMap", entries, pair, ordered)?;
+    }
+    Ok(())
+}
+
+/// Ordered sets whose sides have one type keep the side of each value.
+#[test]
+fn sides_of_one_type(rt: HostRuntime) -> Result<(), Fail> {
+    let alloc = rt.alloc();
+    let left = [Left(3), Left(1), Left(3)];
+    let pair: EitherOrBoth<BTreeSet<u8>> = Vague(&left).collect(alloc)?;
+    shows(&rt, alloc, "BTreeSet", &left, pair, "Left({1, 3})")?;
+    let right = [Right(3), Right(1), Right(3)];
+    let pair: EitherOrBoth<BTreeSet<u8>> = Vague(&right).collect(alloc)?;
+    shows(&rt, alloc, "BTreeSet", &right, pair, "Right({1, 3})")?;
+    Ok(())
+}
