@@ -18,37 +18,40 @@ fn letter_of(l: u8) -> char {
     (b'a' + l % 26) as char
 }
 
+/// Calls that exchange the sides or map a value.
+#[rattlefmt::skip]
 static MAPS: [Row<EitherOrBoth<u8, char>>; 30] = [
-    ("flip", Left(1), "Right(1)", ""),
-    ("flip", Both(1, 'c'), "Both('c', 1)", ""),
-    ("flip", Right('c'), "Left('c')", ""),
-    ("bimap", Left(1), "Left(11)", "f(1)"),
-    ("bimap", Both(1, 'c'), "Both(11, 'C')", "f(1) g('c')"),
-    ("bimap", Right('c'), "Right('C')", "g('c')"),
-    ("map_left", Left(1), "Left(11)", "f(1)"),
-    ("map_left", Both(1, 'c'), "Both(11, 'c')", "f(1)"),
-    ("map_left", Right('c'), "Right('c')", ""),
-    ("map_right", Left(1), "Left(1)", ""),
-    ("map_right", Both(1, 'c'), "Both(1, 'C')", "g('c')"),
-    ("map_right", Right('c'), "Right('C')", "g('c')"),
-    ("map_left_or", Left(1), "11", "f(1)"),
-    ("map_left_or", Both(1, 'c'), "11", "f(1)"),
-    ("map_left_or", Right('c'), "30", ""),
-    ("map_right_or", Left(1), "'z'", ""),
-    ("map_right_or", Both(1, 'c'), "'C'", "g('c')"),
-    ("map_right_or", Right('c'), "'C'", "g('c')"),
-    ("map_left_or_default", Left(1), "11", "f(1)"),
-    ("map_left_or_default", Both(1, 'c'), "11", "f(1)"),
-    ("map_left_or_default", Right('c'), "0", ""),
-    ("map_right_or_default", Left(1), "'\\0'", ""),
-    ("map_right_or_default", Both(1, 'c'), "'C'", "g('c')"),
-    ("map_right_or_default", Right('c'), "'C'", "g('c')"),
-    ("map_left_or_else", Left(1), "11", "f(1)"),
-    ("map_left_or_else", Both(1, 'c'), "11", "f(1)"),
-    ("map_left_or_else", Right('c'), "30", "d()"),
-    ("map_right_or_else", Left(1), "'z'", "d()"),
-    ("map_right_or_else", Both(1, 'c'), "'C'", "g('c')"),
-    ("map_right_or_else", Right('c'), "'C'", "g('c')"),
+    // call                  value         answer           closures
+    ("flip",                 Left(1),      "Right(1)",      ""),
+    ("flip",                 Both(1, 'c'), "Both('c', 1)",  ""),
+    ("flip",                 Right('c'),   "Left('c')",     ""),
+    ("bimap",                Left(1),      "Left(11)",      "f(1)"),
+    ("bimap",                Both(1, 'c'), "Both(11, 'C')", "f(1) g('c')"),
+    ("bimap",                Right('c'),   "Right('C')",    "g('c')"),
+    ("map_left",             Left(1),      "Left(11)",      "f(1)"),
+    ("map_left",             Both(1, 'c'), "Both(11, 'c')", "f(1)"),
+    ("map_left",             Right('c'),   "Right('c')",    ""),
+    ("map_right",            Left(1),      "Left(1)",       ""),
+    ("map_right",            Both(1, 'c'), "Both(1, 'C')",  "g('c')"),
+    ("map_right",            Right('c'),   "Right('C')",    "g('c')"),
+    ("map_left_or",          Left(1),      "11",            "f(1)"),
+    ("map_left_or",          Both(1, 'c'), "11",            "f(1)"),
+    ("map_left_or",          Right('c'),   "30",            ""),
+    ("map_right_or",         Left(1),      "'z'",           ""),
+    ("map_right_or",         Both(1, 'c'), "'C'",           "g('c')"),
+    ("map_right_or",         Right('c'),   "'C'",           "g('c')"),
+    ("map_left_or_default",  Left(1),      "11",            "f(1)"),
+    ("map_left_or_default",  Both(1, 'c'), "11",            "f(1)"),
+    ("map_left_or_default",  Right('c'),   "0",             ""),
+    ("map_right_or_default", Left(1),      "'\\0'",         ""),
+    ("map_right_or_default", Both(1, 'c'), "'C'",           "g('c')"),
+    ("map_right_or_default", Right('c'),   "'C'",           "g('c')"),
+    ("map_left_or_else",     Left(1),      "11",            "f(1)"),
+    ("map_left_or_else",     Both(1, 'c'), "11",            "f(1)"),
+    ("map_left_or_else",     Right('c'),   "30",            "d()"),
+    ("map_right_or_else",    Left(1),      "'z'",           "d()"),
+    ("map_right_or_else",    Both(1, 'c'), "'C'",           "g('c')"),
+    ("map_right_or_else",    Right('c'),   "'C'",           "g('c')"),
 ];
 
 fn ask_maps(
@@ -91,49 +94,52 @@ fn ask_maps(
     }
 }
 
-/// The sides exchanged, and values mapped, each by its own closure.
+/// The sides change places, or each value that is there is mapped by its own closure.
 #[test]
-fn maps(rt: HostRuntime) -> Result<(), Fail> {
+fn sides_are_exchanged_or_mapped(rt: HostRuntime) -> Result<(), Fail> {
     check_rows(rt.alloc(), &MAPS, ask_maps)
 }
 
+/// Calls that give one side, a result, or both sides.
+#[rattlefmt::skip]
 static REDUCTIONS: [Row<EitherOrBoth<u8, char>>; 36] = [
-    ("reduce_left", Left(1), "1", ""),
-    ("reduce_left", Both(1, 'c'), "1", ""),
-    ("reduce_left", Right('c'), "99", "g('c')"),
-    ("reduce_right", Left(1), "'b'", "f(1)"),
-    ("reduce_right", Both(1, 'c'), "'c'", ""),
-    ("reduce_right", Right('c'), "'c'", ""),
-    ("reduce_map_left", Left(1), "11", "f(1)"),
-    ("reduce_map_left", Both(1, 'c'), "11", "f(1)"),
-    ("reduce_map_left", Right('c'), "99", "g('c')"),
-    ("reduce_map_right", Left(1), "'b'", "f(1)"),
-    ("reduce_map_right", Both(1, 'c'), "'C'", "g('c')"),
-    ("reduce_map_right", Right('c'), "'C'", "g('c')"),
-    ("ok", Left(1), "Err(1)", ""),
-    ("ok", Both(1, 'c'), "Err(1)", ""),
-    ("ok", Right('c'), "Ok('c')", ""),
-    ("ok_or", Left(1), "Err('x')", ""),
-    ("ok_or", Both(1, 'c'), "Err('x')", ""),
-    ("ok_or", Right('c'), "Ok('c')", ""),
-    ("ok_or_else", Left(1), "Err('x')", "e()"),
-    ("ok_or_else", Both(1, 'c'), "Err('x')", "e()"),
-    ("ok_or_else", Right('c'), "Ok('c')", ""),
-    ("or", Left(1), "(1, 'm')", ""),
-    ("or", Both(1, 'c'), "(1, 'c')", ""),
-    ("or", Right('c'), "(200, 'c')", ""),
-    ("or_default", Left(1), "(1, '\\0')", ""),
-    ("or_default", Both(1, 'c'), "(1, 'c')", ""),
-    ("or_default", Right('c'), "(0, 'c')", ""),
-    ("or_else", Left(1), "(1, 'm')", "g()"),
-    ("or_else", Both(1, 'c'), "(1, 'c')", ""),
-    ("or_else", Right('c'), "(200, 'c')", "f()"),
-    ("into_left", Left(1), "Left(1)", ""),
-    ("into_left", Both(1, 'c'), "Left(1)", ""),
-    ("into_left", Right('c'), "Left(99)", "g('c')"),
-    ("into_right", Left(1), "Right('b')", "f(1)"),
-    ("into_right", Both(1, 'c'), "Right('c')", ""),
-    ("into_right", Right('c'), "Right('c')", ""),
+    // call              value         answer        closures
+    ("reduce_left",      Left(1),      "1",          ""),
+    ("reduce_left",      Both(1, 'c'), "1",          ""),
+    ("reduce_left",      Right('c'),   "99",         "g('c')"),
+    ("reduce_right",     Left(1),      "'b'",        "f(1)"),
+    ("reduce_right",     Both(1, 'c'), "'c'",        ""),
+    ("reduce_right",     Right('c'),   "'c'",        ""),
+    ("reduce_map_left",  Left(1),      "11",         "f(1)"),
+    ("reduce_map_left",  Both(1, 'c'), "11",         "f(1)"),
+    ("reduce_map_left",  Right('c'),   "99",         "g('c')"),
+    ("reduce_map_right", Left(1),      "'b'",        "f(1)"),
+    ("reduce_map_right", Both(1, 'c'), "'C'",        "g('c')"),
+    ("reduce_map_right", Right('c'),   "'C'",        "g('c')"),
+    ("ok",               Left(1),      "Err(1)",     ""),
+    ("ok",               Both(1, 'c'), "Err(1)",     ""),
+    ("ok",               Right('c'),   "Ok('c')",    ""),
+    ("ok_or",            Left(1),      "Err('x')",   ""),
+    ("ok_or",            Both(1, 'c'), "Err('x')",   ""),
+    ("ok_or",            Right('c'),   "Ok('c')",    ""),
+    ("ok_or_else",       Left(1),      "Err('x')",   "e()"),
+    ("ok_or_else",       Both(1, 'c'), "Err('x')",   "e()"),
+    ("ok_or_else",       Right('c'),   "Ok('c')",    ""),
+    ("or",               Left(1),      "(1, 'm')",   ""),
+    ("or",               Both(1, 'c'), "(1, 'c')",   ""),
+    ("or",               Right('c'),   "(200, 'c')", ""),
+    ("or_default",       Left(1),      "(1, '\\0')", ""),
+    ("or_default",       Both(1, 'c'), "(1, 'c')",   ""),
+    ("or_default",       Right('c'),   "(0, 'c')",   ""),
+    ("or_else",          Left(1),      "(1, 'm')",   "g()"),
+    ("or_else",          Both(1, 'c'), "(1, 'c')",   ""),
+    ("or_else",          Right('c'),   "(200, 'c')", "f()"),
+    ("into_left",        Left(1),      "Left(1)",    ""),
+    ("into_left",        Both(1, 'c'), "Left(1)",    ""),
+    ("into_left",        Right('c'),   "Left(99)",   "g('c')"),
+    ("into_right",       Left(1),      "Right('b')", "f(1)"),
+    ("into_right",       Both(1, 'c'), "Right('c')", ""),
+    ("into_right",       Right('c'),   "Right('c')", ""),
 ];
 
 fn ask_reductions(
@@ -186,22 +192,25 @@ fn ask_reductions(
     }
 }
 
-/// Values reduced to one side, to a result, or filled up to both.
+/// A value becomes one of its sides, a result, or both sides, and a closure is called only for a side that is absent or mapped.
 #[test]
-fn reductions(rt: HostRuntime) -> Result<(), Fail> {
+fn one_side_or_both_are_made(rt: HostRuntime) -> Result<(), Fail> {
     check_rows(rt.alloc(), &REDUCTIONS, ask_reductions)
 }
 
+/// Calls on two sides of one type.
+#[rattlefmt::skip]
 static ONE_TYPE: [Row<EitherOrBoth<u8>>; 9] = [
-    ("map", Left(1), "Left(11)", "f(1)"),
-    ("map", Both(1, 2), "Both(11, 12)", "f(1) f(2)"),
-    ("map", Right(2), "Right(12)", "f(2)"),
-    ("reduce", Left(1), "1", ""),
-    ("reduce", Both(1, 2), "3", "f(1, 2)"),
-    ("reduce", Right(2), "2", ""),
-    ("ok", Both(1, 2), "Err(1)", ""),
-    ("into_right", Both(1, 2), "Right(2)", ""),
-    ("reduce_left", Both(1, 2), "1", ""),
+    // call         value       answer          closures
+    ("map",         Left(1),    "Left(11)",     "f(1)"),
+    ("map",         Both(1, 2), "Both(11, 12)", "f(1) f(2)"),
+    ("map",         Right(2),   "Right(12)",    "f(2)"),
+    ("reduce",      Left(1),    "1",            ""),
+    ("reduce",      Both(1, 2), "3",            "f(1, 2)"),
+    ("reduce",      Right(2),   "2",            ""),
+    ("ok",          Both(1, 2), "Err(1)",       ""),
+    ("into_right",  Both(1, 2), "Right(2)",     ""),
+    ("reduce_left", Both(1, 2), "1",            ""),
 ];
 
 fn ask_one_type(call: &str, value: EitherOrBoth<u8>, calls: &Calls) -> Result<String, AllocError> {
@@ -222,32 +231,8 @@ fn ask_one_type(call: &str, value: EitherOrBoth<u8>, calls: &Calls) -> Result<St
     }
 }
 
-/// Both sides of one type.
+/// One closure maps both values, the left one first, or makes one value of two.
 #[test]
-fn one_type(rt: HostRuntime) -> Result<(), Fail> {
+fn sides_of_one_type_are_mapped_or_reduced(rt: HostRuntime) -> Result<(), Fail> {
     check_rows(rt.alloc(), &ONE_TYPE, ask_one_type)
-}
-
-static ON_LETTERS: [Row<EitherOrBoth<u8, char>>; 3] = [
-    ("ok_or 'x'", Both(109, 'c'), "Err('x')", ""),
-    ("ok_or 'x'", Right('c'), "Ok('c')", ""),
-    ("or 200 and 'm'", Right('c'), "(200, 'c')", ""),
-];
-
-fn ask_on_letters(
-    call: &str,
-    value: EitherOrBoth<u8, char>,
-    calls: &Calls,
-) -> Result<String, AllocError> {
-    match call {
-        "ok_or 'x'" => calls.show(value.ok_or('x')),
-        "or 200 and 'm'" => calls.show(value.or(200, 'm')),
-        _ => calls.show("no such call"),
-    }
-}
-
-/// Other numbers than those of the tables.
-#[test]
-fn on_letters(rt: HostRuntime) -> Result<(), Fail> {
-    check_rows(rt.alloc(), &ON_LETTERS, ask_on_letters)
 }

@@ -7,25 +7,28 @@ use eob_testkit::rows::{Calls, Row, check_rows};
 use std::alloc::AllocError;
 use std::test::Fail;
 
+/// Calls with a closure for one side or for each.
+#[rattlefmt::skip]
 static SIDES: [Row<EitherOrBoth<u8, char>>; 18] = [
-    ("biinspect", Left(1), "Left(1)", "f(1)"),
-    ("biinspect", Both(1, 'c'), "Both(1, 'c')", "f(1) g('c')"),
-    ("biinspect", Right('c'), "Right('c')", "g('c')"),
-    ("inspect_left", Left(1), "Left(1)", "f(1)"),
-    ("inspect_left", Both(1, 'c'), "Both(1, 'c')", "f(1)"),
-    ("inspect_left", Right('c'), "Right('c')", ""),
-    ("inspect_right", Left(1), "Left(1)", ""),
+    // call           value         answer          closures
+    ("biinspect",     Left(1),      "Left(1)",      "f(1)"),
+    ("biinspect",     Both(1, 'c'), "Both(1, 'c')", "f(1) g('c')"),
+    ("biinspect",     Right('c'),   "Right('c')",   "g('c')"),
+    ("inspect_left",  Left(1),      "Left(1)",      "f(1)"),
+    ("inspect_left",  Both(1, 'c'), "Both(1, 'c')", "f(1)"),
+    ("inspect_left",  Right('c'),   "Right('c')",   ""),
+    ("inspect_right", Left(1),      "Left(1)",      ""),
     ("inspect_right", Both(1, 'c'), "Both(1, 'c')", "g('c')"),
-    ("inspect_right", Right('c'), "Right('c')", "g('c')"),
-    ("biapply", Left(1), "()", "f(1)"),
-    ("biapply", Both(1, 'c'), "()", "f(1) g('c')"),
-    ("biapply", Right('c'), "()", "g('c')"),
-    ("apply_left", Left(1), "()", "f(1)"),
-    ("apply_left", Both(1, 'c'), "()", "f(1)"),
-    ("apply_left", Right('c'), "()", ""),
-    ("apply_right", Left(1), "()", ""),
-    ("apply_right", Both(1, 'c'), "()", "g('c')"),
-    ("apply_right", Right('c'), "()", "g('c')"),
+    ("inspect_right", Right('c'),   "Right('c')",   "g('c')"),
+    ("biapply",       Left(1),      "()",           "f(1)"),
+    ("biapply",       Both(1, 'c'), "()",           "f(1) g('c')"),
+    ("biapply",       Right('c'),   "()",           "g('c')"),
+    ("apply_left",    Left(1),      "()",           "f(1)"),
+    ("apply_left",    Both(1, 'c'), "()",           "f(1)"),
+    ("apply_left",    Right('c'),   "()",           ""),
+    ("apply_right",   Left(1),      "()",           ""),
+    ("apply_right",   Both(1, 'c'), "()",           "g('c')"),
+    ("apply_right",   Right('c'),   "()",           "g('c')"),
 ];
 
 fn ask_sides(
@@ -50,17 +53,20 @@ fn ask_sides(
 
 /// A closure for each side is called where its value is there, the left one first.
 #[test]
-fn sides(rt: HostRuntime) -> Result<(), Fail> {
+fn closures_of_sides_are_called_left_first(rt: HostRuntime) -> Result<(), Fail> {
     check_rows(rt.alloc(), &SIDES, ask_sides)
 }
 
+/// Calls with one closure for both sides.
+#[rattlefmt::skip]
 static ONE_TYPE: [Row<EitherOrBoth<u8>>; 6] = [
-    ("inspect", Left(1), "Left(1)", "f(1)"),
+    // call     value       answer        closures
+    ("inspect", Left(1),    "Left(1)",    "f(1)"),
     ("inspect", Both(1, 2), "Both(1, 2)", "f(1) f(2)"),
-    ("inspect", Right(2), "Right(2)", "f(2)"),
-    ("apply", Left(1), "()", "f(1)"),
-    ("apply", Both(1, 2), "()", "f(1) f(2)"),
-    ("apply", Right(2), "()", "f(2)"),
+    ("inspect", Right(2),   "Right(2)",   "f(2)"),
+    ("apply",   Left(1),    "()",         "f(1)"),
+    ("apply",   Both(1, 2), "()",         "f(1) f(2)"),
+    ("apply",   Right(2),   "()",         "f(2)"),
 ];
 
 fn ask_one_type(call: &str, value: EitherOrBoth<u8>, calls: &Calls) -> Result<String, AllocError> {
@@ -73,23 +79,26 @@ fn ask_one_type(call: &str, value: EitherOrBoth<u8>, calls: &Calls) -> Result<St
 
 /// One closure for both sides is called with each value that is there, the left one first.
 #[test]
-fn one_type(rt: HostRuntime) -> Result<(), Fail> {
+fn one_closure_is_called_with_each_value(rt: HostRuntime) -> Result<(), Fail> {
     check_rows(rt.alloc(), &ONE_TYPE, ask_one_type)
 }
 
+/// Calls of `Either` with a closure for one side or for each.
+#[rattlefmt::skip]
 static OF_EITHER: [Row<Either<u8, char>>; 12] = [
-    ("biinspect", Either::Left(1), "Left(1)", "f(1)"),
-    ("biinspect", Either::Right('c'), "Right('c')", "g('c')"),
-    ("inspect_left", Either::Left(1), "Left(1)", "f(1)"),
-    ("inspect_left", Either::Right('c'), "Right('c')", ""),
-    ("inspect_right", Either::Left(1), "Left(1)", ""),
+    // call           value               answer        closures
+    ("biinspect",     Either::Left(1),    "Left(1)",    "f(1)"),
+    ("biinspect",     Either::Right('c'), "Right('c')", "g('c')"),
+    ("inspect_left",  Either::Left(1),    "Left(1)",    "f(1)"),
+    ("inspect_left",  Either::Right('c'), "Right('c')", ""),
+    ("inspect_right", Either::Left(1),    "Left(1)",    ""),
     ("inspect_right", Either::Right('c'), "Right('c')", "g('c')"),
-    ("biapply", Either::Left(1), "()", "f(1)"),
-    ("biapply", Either::Right('c'), "()", "g('c')"),
-    ("apply_left", Either::Left(1), "()", "f(1)"),
-    ("apply_left", Either::Right('c'), "()", ""),
-    ("apply_right", Either::Left(1), "()", ""),
-    ("apply_right", Either::Right('c'), "()", "g('c')"),
+    ("biapply",       Either::Left(1),    "()",         "f(1)"),
+    ("biapply",       Either::Right('c'), "()",         "g('c')"),
+    ("apply_left",    Either::Left(1),    "()",         "f(1)"),
+    ("apply_left",    Either::Right('c'), "()",         ""),
+    ("apply_right",   Either::Left(1),    "()",         ""),
+    ("apply_right",   Either::Right('c'), "()",         "g('c')"),
 ];
 
 fn ask_either(call: &str, value: Either<u8, char>, calls: &Calls) -> Result<String, AllocError> {
@@ -110,15 +119,18 @@ fn ask_either(call: &str, value: Either<u8, char>, calls: &Calls) -> Result<Stri
 
 /// The same calls of `Either`.
 #[test]
-fn of_either(rt: HostRuntime) -> Result<(), Fail> {
+fn closure_of_held_side_is_called(rt: HostRuntime) -> Result<(), Fail> {
     check_rows(rt.alloc(), &OF_EITHER, ask_either)
 }
 
+/// Calls of `Either` with one closure for both sides.
+#[rattlefmt::skip]
 static ONE_TYPE_OF_EITHER: [Row<Either<u8>>; 4] = [
-    ("inspect", Either::Left(1), "Left(1)", "f(1)"),
+    // call     value             answer      closures
+    ("inspect", Either::Left(1),  "Left(1)",  "f(1)"),
     ("inspect", Either::Right(2), "Right(2)", "f(2)"),
-    ("apply", Either::Left(1), "()", "f(1)"),
-    ("apply", Either::Right(2), "()", "f(2)"),
+    ("apply",   Either::Left(1),  "()",       "f(1)"),
+    ("apply",   Either::Right(2), "()",       "f(2)"),
 ];
 
 fn ask_one_type_of_either(
@@ -135,61 +147,45 @@ fn ask_one_type_of_either(
 
 /// The same calls of `Either` over one type.
 #[test]
-fn one_type_of_either(rt: HostRuntime) -> Result<(), Fail> {
+fn one_closure_is_called_with_held_value(rt: HostRuntime) -> Result<(), Fail> {
     check_rows(rt.alloc(), &ONE_TYPE_OF_EITHER, ask_one_type_of_either)
 }
 
-static ACCUMULATED: [Row<EitherOrBoth<u8>>; 4] = [
-    ("biapply_with, from 10", Left(1), "21", "f(10, 1)"),
-    (
-        "biapply_with, from 10",
-        Both(1, 2),
-        "65",
-        "f(10, 1) g(21, 2)",
-    ),
-    ("biapply_with, from 10", Right(2), "32", "g(10, 2)"),
-    (
-        "biapply_with, from 10",
-        Both(2, 3),
-        "69",
-        "f(10, 2) g(22, 3)",
-    ),
+/// A value, what it makes of an accumulator that starts at 10, and the calls of the closures.
+#[rattlefmt::skip]
+static ACCUMULATED: [(EitherOrBoth<u8>, u8, &str); 4] = [
+    // value     made  closures
+    (Left(1),    21,   "f(10, 1)"),
+    (Right(2),   32,   "g(10, 2)"),
+    (Both(1, 2), 65,   "f(10, 1) g(21, 2)"),
+    (Both(2, 3), 69,   "f(10, 2) g(22, 3)"),
 ];
-
-fn ask_accumulated(
-    call: &str,
-    value: EitherOrBoth<u8>,
-    calls: &Calls,
-) -> Result<String, AllocError> {
-    match call {
-        "biapply_with, from 10" => {
-            let mut acc = 10u8;
-            value.biapply_with(
-                &mut acc,
-                |acc: &mut u8, l| {
-                    calls.note_two("f", acc, &l);
-                    *acc = acc.wrapping_mul(2).wrapping_add(l);
-                },
-                |acc: &mut u8, r| {
-                    calls.note_two("g", acc, &r);
-                    *acc = acc.wrapping_mul(3).wrapping_add(r);
-                },
-            );
-            calls.show(acc)
-        }
-        _ => calls.show("no such call"),
-    }
-}
 
 /// An accumulator is changed by the left value, and then, as that left it, by the right one.
 #[test]
-fn accumulated(rt: HostRuntime) -> Result<(), Fail> {
-    check_rows(rt.alloc(), &ACCUMULATED, ask_accumulated)
+fn accumulator_goes_from_left_to_right(rt: HostRuntime) {
+    let calls = Calls::new(rt.alloc());
+    for (value, want, want_calls) in ACCUMULATED.iter().copied() {
+        let mut acc = 10u8;
+        value.biapply_with(
+            &mut acc,
+            |acc: &mut u8, l| {
+                calls.note_two("f", acc, &l);
+                *acc = acc.wrapping_mul(2).wrapping_add(l);
+            },
+            |acc: &mut u8, r| {
+                calls.note_two("g", acc, &r);
+                *acc = acc.wrapping_mul(3).wrapping_add(r);
+            },
+        );
+        assert_eq!(rt; acc, want, "{value:?}");
+        assert_eq!(rt; calls.take().as_str(), want_calls, "{value:?}");
+    }
 }
 
 /// An accumulator that owns memory is a list to which each value is pushed.
 #[test]
-fn pushed(rt: HostRuntime) -> Result<(), AllocError> {
+fn accumulator_may_own_memory(rt: HostRuntime) -> Result<(), AllocError> {
     let alloc = rt.alloc();
     let mut list = Vec::new(alloc);
     Both(1, 'c').biapply_with(
@@ -207,7 +203,7 @@ fn pushed(rt: HostRuntime) -> Result<(), AllocError> {
 
 /// An `Either` hands its accumulator to the closure of its side.
 #[test]
-fn handed_on(rt: HostRuntime) -> Result<(), AllocError> {
+fn accumulator_is_handed_to_held_side(rt: HostRuntime) -> Result<(), AllocError> {
     let calls = Calls::new(rt.alloc());
     for (value, want) in [
         (Either::Left(1), "f('k', 1)"),
@@ -218,7 +214,7 @@ fn handed_on(rt: HostRuntime) -> Result<(), AllocError> {
             |acc, l: u8| calls.note_two("f", &acc, &l),
             |acc, r: char| calls.note_two("g", &acc, &r),
         );
-        assert_eq!(rt; calls.take().as_str(), want);
+        assert_eq!(rt; calls.take().as_str(), want, "{value:?}");
     }
     Ok(())
 }

@@ -8,6 +8,9 @@ use std::test::Fail;
 /// A row of a table: a call, the value that it is made on, its answer as text, and the calls that its closures get.
 pub type Row<V> = (&'static str, V, &'static str, &'static str);
 
+/// A row of a table of calls that take no closure: a call, the value that it is made on, and its answer as text.
+pub type Answer<V> = (&'static str, V, &'static str);
+
 /// Which closures were called, in order and with what, as the text `f(1) g('c')`. Empty where none was.
 #[derive(Drop)]
 pub struct Calls {
@@ -88,6 +91,27 @@ pub fn check_rows<V: Debug + Copy, F: Fn(&str, V, &Calls) -> Result<String, Allo
         if answer.as_str() != want || made.as_str() != want_calls {
             return Err(Fail::new(format_args!(
                 "{call} of {value:?} answers {answer} and calls [{made}], not {want} and [{want_calls}]"
+            )));
+        }
+    }
+    Ok(())
+}
+
+/// The same of calls that take no closure.
+pub fn check_answers<V: Debug + Copy, F: Fn(&str, V, &Calls) -> Result<String, AllocError> + Drop>(
+    alloc: Global,
+    rows: &[Answer<V>],
+    ask: F,
+) -> Result<(), Fail>
+    requires { F.IsAlwaysCallable ask }
+{
+    let calls = Calls::new(alloc);
+    for row in rows {
+        let (call, value, want) = *row;
+        let answer = ask(call, value, &calls)?;
+        if answer.as_str() != want {
+            return Err(Fail::new(format_args!(
+                "{call} of {value:?} answers {answer}, not {want}"
             )));
         }
     }

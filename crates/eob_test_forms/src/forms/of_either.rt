@@ -6,27 +6,30 @@ use eob_testkit::rows::{Calls, Row, check_rows};
 use std::alloc::AllocError;
 use std::test::Fail;
 
+/// Calls that exchange the sides or map the value.
+#[rattlefmt::skip]
 static MAPS: [Row<Either<u8, char>>; 20] = [
-    ("flip", Either::Left(1), "Right(1)", ""),
-    ("flip", Either::Right('c'), "Left('c')", ""),
-    ("bimap", Either::Left(1), "Left(11)", "f(1)"),
-    ("bimap", Either::Right('c'), "Right('C')", "g('c')"),
-    ("map_left", Either::Left(1), "Left(11)", "f(1)"),
-    ("map_left", Either::Right('c'), "Right('c')", ""),
-    ("map_right", Either::Left(1), "Left(1)", ""),
-    ("map_right", Either::Right('c'), "Right('C')", "g('c')"),
-    ("map_left_or", Either::Left(1), "11", "f(1)"),
-    ("map_left_or", Either::Right('c'), "30", ""),
-    ("map_right_or", Either::Left(1), "'z'", ""),
-    ("map_right_or", Either::Right('c'), "'C'", "g('c')"),
-    ("map_left_or_default", Either::Left(1), "11", "f(1)"),
-    ("map_left_or_default", Either::Right('c'), "0", ""),
-    ("map_right_or_default", Either::Left(1), "'\\0'", ""),
-    ("map_right_or_default", Either::Right('c'), "'C'", "g('c')"),
-    ("map_left_or_else", Either::Left(1), "11", "f(1)"),
-    ("map_left_or_else", Either::Right('c'), "30", "d()"),
-    ("map_right_or_else", Either::Left(1), "'z'", "d()"),
-    ("map_right_or_else", Either::Right('c'), "'C'", "g('c')"),
+    // call                  value               answer        closures
+    ("flip",                 Either::Left(1),    "Right(1)",   ""),
+    ("flip",                 Either::Right('c'), "Left('c')",  ""),
+    ("bimap",                Either::Left(1),    "Left(11)",   "f(1)"),
+    ("bimap",                Either::Right('c'), "Right('C')", "g('c')"),
+    ("map_left",             Either::Left(1),    "Left(11)",   "f(1)"),
+    ("map_left",             Either::Right('c'), "Right('c')", ""),
+    ("map_right",            Either::Left(1),    "Left(1)",    ""),
+    ("map_right",            Either::Right('c'), "Right('C')", "g('c')"),
+    ("map_left_or",          Either::Left(1),    "11",         "f(1)"),
+    ("map_left_or",          Either::Right('c'), "30",         ""),
+    ("map_right_or",         Either::Left(1),    "'z'",        ""),
+    ("map_right_or",         Either::Right('c'), "'C'",        "g('c')"),
+    ("map_left_or_default",  Either::Left(1),    "11",         "f(1)"),
+    ("map_left_or_default",  Either::Right('c'), "0",          ""),
+    ("map_right_or_default", Either::Left(1),    "'\\0'",      ""),
+    ("map_right_or_default", Either::Right('c'), "'C'",        "g('c')"),
+    ("map_left_or_else",     Either::Left(1),    "11",         "f(1)"),
+    ("map_left_or_else",     Either::Right('c'), "30",         "d()"),
+    ("map_right_or_else",    Either::Left(1),    "'z'",        "d()"),
+    ("map_right_or_else",    Either::Right('c'), "'C'",        "g('c')"),
 ];
 
 fn ask_maps(call: &str, value: Either<u8, char>, calls: &Calls) -> Result<String, AllocError> {
@@ -65,40 +68,43 @@ fn ask_maps(call: &str, value: Either<u8, char>, calls: &Calls) -> Result<String
     }
 }
 
-/// The sides exchanged, and the value mapped.
+/// The value changes its side, or is mapped by the closure of its side.
 #[test]
-fn maps(rt: HostRuntime) -> Result<(), Fail> {
+fn side_is_exchanged_or_mapped(rt: HostRuntime) -> Result<(), Fail> {
     check_rows(rt.alloc(), &MAPS, ask_maps)
 }
 
+/// Calls that give one side, a result, or both sides.
+#[rattlefmt::skip]
 static REDUCTIONS: [Row<Either<u8, char>>; 27] = [
-    ("bireduce", Either::Left(1), "11", "f(1)"),
-    ("bireduce", Either::Right('c'), "99", "g('c')"),
-    ("reduce_left", Either::Left(1), "1", ""),
-    ("reduce_left", Either::Right('c'), "99", "g('c')"),
-    ("reduce_right", Either::Left(1), "'b'", "f(1)"),
-    ("reduce_right", Either::Right('c'), "'c'", ""),
-    ("ok", Either::Left(1), "Err(1)", ""),
-    ("ok", Either::Right('c'), "Ok('c')", ""),
-    ("ok_or", Either::Left(1), "Err('x')", ""),
-    ("ok_or", Either::Right('c'), "Ok('c')", ""),
-    ("ok_or_else", Either::Left(1), "Err('x')", "e()"),
-    ("ok_or_else", Either::Right('c'), "Ok('c')", ""),
-    ("or", Either::Left(1), "(1, 'm')", ""),
-    ("or", Either::Right('c'), "(200, 'c')", ""),
-    ("or_default", Either::Left(1), "(1, '\\0')", ""),
-    ("or_default", Either::Right('c'), "(0, 'c')", ""),
-    ("or_else", Either::Left(1), "(1, 'm')", "g()"),
-    ("or_else", Either::Right('c'), "(200, 'c')", "f()"),
-    ("into_left", Either::Left(1), "Left(1)", ""),
-    ("into_left", Either::Right('c'), "Left(99)", "g('c')"),
-    ("into_right", Either::Left(1), "Right('b')", "f(1)"),
-    ("into_right", Either::Right('c'), "Right('c')", ""),
-    ("inject_left", Either::Left(1), "Left(200)", ""),
-    ("inject_left", Either::Right('c'), "Both(200, 'c')", ""),
-    ("inject_right", Either::Left(1), "Both(1, 'm')", ""),
-    ("inject_right", Either::Right('c'), "Right('m')", ""),
-    ("inject_left", Either::Left(109), "Left(200)", ""),
+    // call          value               answer            closures
+    ("bireduce",     Either::Left(1),    "11",             "f(1)"),
+    ("bireduce",     Either::Right('c'), "99",             "g('c')"),
+    ("reduce_left",  Either::Left(1),    "1",              ""),
+    ("reduce_left",  Either::Right('c'), "99",             "g('c')"),
+    ("reduce_right", Either::Left(1),    "'b'",            "f(1)"),
+    ("reduce_right", Either::Right('c'), "'c'",            ""),
+    ("ok",           Either::Left(1),    "Err(1)",         ""),
+    ("ok",           Either::Right('c'), "Ok('c')",        ""),
+    ("ok_or",        Either::Left(1),    "Err('x')",       ""),
+    ("ok_or",        Either::Right('c'), "Ok('c')",        ""),
+    ("ok_or_else",   Either::Left(1),    "Err('x')",       "e()"),
+    ("ok_or_else",   Either::Right('c'), "Ok('c')",        ""),
+    ("or",           Either::Left(1),    "(1, 'm')",       ""),
+    ("or",           Either::Right('c'), "(200, 'c')",     ""),
+    ("or_default",   Either::Left(1),    "(1, '\\0')",     ""),
+    ("or_default",   Either::Right('c'), "(0, 'c')",       ""),
+    ("or_else",      Either::Left(1),    "(1, 'm')",       "g()"),
+    ("or_else",      Either::Right('c'), "(200, 'c')",     "f()"),
+    ("into_left",    Either::Left(1),    "Left(1)",        ""),
+    ("into_left",    Either::Right('c'), "Left(99)",       "g('c')"),
+    ("into_right",   Either::Left(1),    "Right('b')",     "f(1)"),
+    ("into_right",   Either::Right('c'), "Right('c')",     ""),
+    ("inject_left",  Either::Left(1),    "Left(200)",      ""),
+    ("inject_left",  Either::Right('c'), "Both(200, 'c')", ""),
+    ("inject_right", Either::Left(1),    "Both(1, 'm')",   ""),
+    ("inject_right", Either::Right('c'), "Right('m')",     ""),
+    ("inject_left",  Either::Left(109),  "Left(200)",      ""),
 ];
 
 fn ask_reductions(
@@ -148,19 +154,23 @@ fn ask_reductions(
     }
 }
 
-/// The value reduced to one side, to a result, filled up to both, or with another one put beside it.
+/// The value becomes one side, a result, or both sides with another one put beside it, and a closure is called only for the side that
+/// the value is not on or is mapped from.
 #[test]
-fn reductions(rt: HostRuntime) -> Result<(), Fail> {
+fn one_side_or_both_are_made(rt: HostRuntime) -> Result<(), Fail> {
     check_rows(rt.alloc(), &REDUCTIONS, ask_reductions)
 }
 
+/// Calls on sides of one type.
+#[rattlefmt::skip]
 static ONE_TYPE: [Row<Either<u8>>; 6] = [
-    ("map", Either::Left(1), "Left(11)", "f(1)"),
-    ("map", Either::Right(2), "Right(12)", "f(2)"),
-    ("reduce", Either::Left(1), "1", ""),
-    ("reduce", Either::Right(2), "2", ""),
-    ("reduce_map", Either::Left(1), "11", "f(1)"),
-    ("reduce_map", Either::Right(2), "12", "f(2)"),
+    // call        value             answer       closures
+    ("map",        Either::Left(1),  "Left(11)",  "f(1)"),
+    ("map",        Either::Right(2), "Right(12)", "f(2)"),
+    ("reduce",     Either::Left(1),  "1",         ""),
+    ("reduce",     Either::Right(2), "2",         ""),
+    ("reduce_map", Either::Left(1),  "11",        "f(1)"),
+    ("reduce_map", Either::Right(2), "12",        "f(2)"),
 ];
 
 fn ask_one_type(call: &str, value: Either<u8>, calls: &Calls) -> Result<String, AllocError> {
@@ -176,8 +186,8 @@ fn ask_one_type(call: &str, value: Either<u8>, calls: &Calls) -> Result<String, 
     }
 }
 
-/// Both sides of one type.
+/// One closure maps the value on either side, or the value is given whichever side it is on.
 #[test]
-fn one_type(rt: HostRuntime) -> Result<(), Fail> {
+fn side_of_one_type_is_mapped_or_reduced(rt: HostRuntime) -> Result<(), Fail> {
     check_rows(rt.alloc(), &ONE_TYPE, ask_one_type)
 }
