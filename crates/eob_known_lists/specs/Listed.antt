@@ -1,10 +1,10 @@
 -- The lists of std's iterators and of the walks, as the impls of the traits cite them.
-use Rattle.std.specs.Prelude.{refl, ◌≡◌, ℕ, ◌+◌, ◌-◌, ◌≤◌, true, List, [], ◌++◌, length, map, reverse, MatchOption, Option, Some, None}
+use Rattle.std.specs.Prelude.{refl, ◌≡◌, ℕ, ◌+◌, ◌-◌, ◌≤◌, true, List, [], ◌++◌, length, slice_get, IfSome, map, reverse, Option, Some, None}
 use Rattle.std.specs.Option.{option_to_list}
 use Rattle.std.specs.List.{range_with_len}
 use Rattle.std.specs.Borrow.{Bor}
 use Rattle.std.specs.Iterator.{Count}
-use Rattle.std.specs.Iterator.Runs.{SomeRun}
+use Rattle.std.specs.Iterator.Runs.{Run}
 use Rattle.std.specs.declared.vec.IntoIter.{IntoIter}
 use Rattle.std.specs.declared.slice.Iter.{Iter}
 use Rattle.std.specs.declared.ops.Range.{Range}
@@ -32,9 +32,9 @@ use Rattle.eob_both.proofs.StdEnds.{vec_ends, vec_to_come, slice_ends, slice_to_
 use Rattle.eob_both.proofs.EndsLemmas.{to_come_over, to_come_same, to_come_uncounted}
 use Rattle.either_or_both.proofs.ShownLemmas.{shown_ends, shown_to_come}
 
--- what `nth(n)` says of its answer r: some run ended before the item at place n, or gave it last
-abbrev pub IsNthRun : {S A : Type 0} → (S → Option A → S → Type 0) → S → ℕ → Option A → Type 0
-IsNthRun steps s n r = SomeRun steps s (λ p. MatchOption r ((p.whole ≡ true) × (p.len ≤ n)) (λ x. (p.len ≡ n + 1) × (p.at n ≡ Some x)))
+-- the item at each place of p is the one at that place of xs, and where p ended xs has no more
+abbrev pub ReadsPlaces : {S A : Type 0} {steps : S → Option A → S → Type 0} → Run steps → List A → Type 0
+ReadsPlaces p xs = ((k : ℕ) → IfSome (p.at k) (λ x. slice_get xs k ≡ Some x)) × (p.whole ≡ true → (k : ℕ) → p.len ≤ k → slice_get xs k ≡ None)
 
 -- half of some items came from the front and half from the back, the odd one from the front
 abbrev pub AreTakenInTurn : {A : Type 0} → List A → List A → Type 0

@@ -15,7 +15,7 @@ ghost use Rattle.eob_both.specs.Swap.{swap_left, swap_right};
 ghost use Rattle.eob_both.specs.Values.{values_left};
 ghost use Rattle.eob_both.proofs.StdEnds.{once_to_come, range_rest, range_to_come, ref_to, vec_to_come};
 ghost use Rattle.eob_known_lists.specs.Arrays.{array_to_come};
-ghost use Rattle.eob_known_lists.specs.Listed.{IsNthRun, chain_comes, deque_to_come_by_ref, listed_at, place_as_is, rev_comes, rev_counts, same_ref, slice_to_come_by_ref, uncounted, walk_comes};
+ghost use Rattle.eob_known_lists.specs.Listed.{chain_comes, deque_to_come_by_ref, listed_at, place_as_is, ReadsPlaces, rev_comes, rev_counts, same_ref, slice_to_come_by_ref, uncounted, walk_comes};
 ghost use Rattle.either_or_both.proofs.ShownLemmas.{shown_to_come};
 
 use either_or_both::iter::{ChainedIterEitherOrBoth, IntoIterEitherOrBoth, SwapIterEitherOrBoth};
@@ -229,5 +229,5 @@ pub fn law_forward<I: OwnIter>(_walk: &I)
 /// The item that `nth(n)` answers is the one at place `n` of the list, or `None` where the list ends before it. Called before `nth`,
 /// on the iterator.
 pub fn law_nth<I: OwnIter>(_walk: &I)
-    ensures { (n : ℕ) (r : _) → IsNthRun I.next_gives _walk.now n r → r ≡ slice_get (I.listed _walk.now) n }
+    ensures { EachRunFrom I.next_gives _walk.now (λ p. ReadsPlaces p (I.listed _walk.now)) }
 {}

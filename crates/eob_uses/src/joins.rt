@@ -76,6 +76,19 @@ pub fn first_shared<'a, K: Ord, A, B>(
     outer_join_slices(left, right).find(|row| row.1.is_both())
 }
 
+/// The row at place `n`, where there are so many: the first one with `n` as 0.
+pub fn nth_row<'a, K: Ord, A, B>(
+    left: &'a [(K, A)],
+    right: &'a [(K, B)],
+    n: usize,
+) -> Option<(&'a K, EitherOrBoth<&'a A, &'a B>)>
+    requires left { Rising K.cmp left.now }
+    requires right { Rising K.cmp right.now }
+    ensures { IfSome result (ShowsPlaces K.cmp left.now right.now) }
+{
+    outer_join_slices(left, right).nth(n)
+}
+
 /// The join of two lists as an ordered map, which has under each key what the two lists have there.
 pub fn map_of_join<K: Ord + Drop, A: Drop, B: Drop>(
     alloc: Global,

@@ -1,6 +1,6 @@
 //! Callers of the paired walk and of the chain: each states the list that it gives, and none has a proof of its own. The two loops
 //! have an invariant, which only their author can choose.
-ghost use Rattle.std.specs.Prelude.{◌≡◌, ◌++◌, ◌/◌, ◌%◌, ◌==◌, max, [], map, filter, reverse, length, IfOk};
+ghost use Rattle.std.specs.Prelude.{◌≡◌, ◌++◌, ◌/◌, ◌%◌, ◌==◌, max, [], map, filter, reverse, length, slice_get, IfOk};
 ghost use Rattle.std.specs.Map.Iter.{deref};
 ghost use Rattle.std.specs.Option.{option_to_list};
 ghost use Rattle.std.specs.List.{range_with_len};
@@ -11,6 +11,7 @@ ghost use Rattle.either_or_both.specs.Places.{map_places, MatchPlaces};
 use either_or_both::EitherOrBoth;
 use either_or_both::iter::SwapIterEitherOrBoth;
 use either_or_both::laws::{law_aligned_refs, law_range};
+use eob_known_lists::listed::law_nth;
 use std::alloc::{AllocError, Global};
 use std::collections::{BTreeMap, VecDeque};
 
@@ -130,6 +131,28 @@ pub fn count_items<T, U>(a: &[T], b: &[U]) -> usize
     ensures { result ≡ max (length a.now) (length b.now) }
 {
     EitherOrBoth::Both(a, b).into_iter_swap().count()
+}
+
+/// The item at place `n` of two vectors side by side.
+pub fn nth_side_by_side<T: Drop, U: Drop>(
+    a: Vec<T>,
+    b: Vec<U>,
+    n: usize,
+) -> Option<EitherOrBoth<T, U>>
+    ensures { result ≡ slice_get (aligned a.items b.items) n }
+{
+    let mut walk = EitherOrBoth::Both(a, b).into_iter_swap();
+    law_nth(&walk);
+    walk.nth(n)
+}
+
+/// The item at place `n` of two vectors in turn.
+pub fn nth_in_turn<T: Drop>(a: Vec<T>, b: Vec<T>, n: usize) -> Option<T>
+    ensures { result ≡ slice_get (a.items ++ b.items) n }
+{
+    let mut walk = EitherOrBoth::Both(a, b).into_iter_chain();
+    law_nth(&walk);
+    walk.nth(n)
 }
 
 /// References to the items of two vectors side by side.
