@@ -1,6 +1,7 @@
 -- What calls of the two ends of a list answer, and what they leave.
 use Rattle.std.specs.Prelude.{◌≡◌, ℕ, ◌+◌, ◌-◌, ◌≤◌, min, nat_lt, if◌then◌else◌, List, [], ◌∷◌, ◌++◌, length, reverse, slice_get, Option, None}
 use Rattle.std.specs.List.{cons_option}
+use Rattle.eob_both.specs.Ends.{Ends, IsExactly, PlaceToCome}
 use Rattle.either_or_both.specs.declared.laws.drive.End.{End}
 use Rattle.either_or_both.specs.declared.laws.drive.End.TheVariants.{Front, Back}
 
@@ -50,3 +51,7 @@ WholeWalkLaw A = (xs : List A) (ends : List End) → length xs ≤ length ends �
 pub record Listed (A : Type 0) : Type 0 where
   pub view : A → A
   pub items : List A
+
+-- what the value at a place becomes has the list still to come, and counts it; where there is no value, the list is empty
+abbrev pub PlaceCounts : {X S A : Type 0} → (X → S → Type 0) → Ends S A → Listed A → Option X → Type 0
+PlaceCounts gives it list o = PlaceToCome gives IsExactly it list.view list.items o

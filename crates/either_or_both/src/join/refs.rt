@@ -95,7 +95,8 @@ where
     requires right { (it : V.IntoIter) → V.into_iter_gives right it → V.IntoIter.can_next it }
     ensures can { join_can U.IntoIter.can_next V.IntoIter.can_next result }
     ensures runs { JoinsShownRuns K.cmp U.into_iter_gives V.into_iter_gives
-        U.IntoIter.remaining V.IntoIter.remaining U.IntoIter.next_gives V.IntoIter.next_gives left right result }
+        U.IntoIter.remaining V.IntoIter.remaining
+        U.IntoIter.next_gives V.IntoIter.next_gives left right result }
 {
     outer_join_lazily(left, right)
 }
@@ -127,7 +128,8 @@ pub fn outer_join_slices<'a, K: Ord, A, B>(
     ensures can { join_can (λ _. ⊤) (λ _. ⊤) result }
     ensures finite { IsFinite (join_remaining (item_count pairs_left) (item_count pairs_left) result) }
     ensures runs { EachRunFrom
-        (join_steps (λ j k. K.cmp j.now k.now) (YieldsFirstBy deref_pair pairs_left) (YieldsFirstBy deref_pair pairs_left))
+        (join_steps (λ j k. K.cmp j.now k.now)
+        (YieldsFirstBy deref_pair pairs_left) (YieldsFirstBy deref_pair pairs_left))
         result (λ p. ShowsJoin K.cmp left.now right.now p) }
 {
     outer_join_refs(PairRefs::new(left), PairRefs::new(right))

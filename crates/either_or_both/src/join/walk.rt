@@ -53,7 +53,9 @@ where
     requires left { (it : U.IntoIter) → U.into_iter_gives left it → U.IntoIter.can_next it }
     requires right { (it : V.IntoIter) → V.into_iter_gives right it → V.IntoIter.can_next it }
     ensures can { join_can U.IntoIter.can_next V.IntoIter.can_next result }
-    ensures runs { JoinsRuns K.cmp U.into_iter_gives V.into_iter_gives U.IntoIter.remaining V.IntoIter.remaining U.IntoIter.next_gives V.IntoIter.next_gives left right result }
+    ensures runs { JoinsRuns K.cmp U.into_iter_gives V.into_iter_gives
+        U.IntoIter.remaining V.IntoIter.remaining
+        U.IntoIter.next_gives V.IntoIter.next_gives left right result }
 {
     let mut lefts = left.into_iter();
     let mut rights = right.into_iter();

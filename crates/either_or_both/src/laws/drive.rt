@@ -4,10 +4,10 @@
 ghost use Rattle.std.specs.Prelude.{◌≡◌, List, ◌++◌, length, map, IfOk};
 ghost use Rattle.std.specs.Option.{option_map};
 ghost use Rattle.eob_both.specs.Aligned.{aligned};
-ghost use Rattle.eob_both.specs.Ends.{HasBound, IsExactly, CountedToCome, PlaceToCome, StillToCome};
+ghost use Rattle.eob_both.specs.Ends.{HasBound, CountedToCome, PlaceToCome, StillToCome};
 ghost use Rattle.eob_both.specs.Places.{left_place, right_place, map_places};
 ghost use Rattle.eob_both.specs.Values.{values_of};
-ghost use Rattle.either_or_both.specs.Answers.{answers, left_over, Listed, MatchEnd, WholeWalkLaw};
+ghost use Rattle.either_or_both.specs.Answers.{answers, left_over, Listed, MatchEnd, PlaceCounts, WholeWalkLaw};
 
 use crate::EitherOrBoth;
 use std::alloc::{AllocError, Allocator, Global};
@@ -34,7 +34,8 @@ pub struct Driven<I> {
 fn call_end<I: DoubleEndedIterator>(walk: &mut I, end: End) -> Option<I::Item>
     requires front { I.can_next walk.old }
     requires back { I.can_next_back walk.old }
-    ensures { MatchEnd end (I.next_gives walk.old result walk.new) (I.next_back_gives walk.old result walk.new) }
+    ensures { MatchEnd end (I.next_gives walk.old result walk.new)
+        (I.next_back_gives walk.old result walk.new) }
 {
     match end {
         End::Front => walk.next(),
@@ -71,7 +72,8 @@ where
     ensures answers { (list : Listed I.Item) → StillToCome I.DoubleEndedIterator list.view list.items walk.old
         → IfOk result (λ v. map (option_map list.view) v.items ≡ answers list.items ends.now) }
     ensures rest { (list : Listed I.Item) → CountedToCome I.DoubleEndedIterator list.view list.items walk.old
-        → IfOk result (λ _. (left : List I.Item) × CountedToCome I.DoubleEndedIterator list.view left walk.new × (length left ≡ left_over list.items ends.now)) }
+        → IfOk result (λ _. (left : List I.Item) × CountedToCome I.DoubleEndedIterator list.view left walk.new
+        × (length left ≡ left_over list.items ends.now)) }
 {
     let mut answers = Vec::with_capacity(alloc, ends.len())?;
     for end in ends {
@@ -121,13 +123,17 @@ where
     R::IntoIter: DoubleEndedIterator + ExactSizeIterator,
     L::Item: Drop,
     R::Item: Drop,
-    requires { (a : Listed L.Item) × (b : Listed R.Item) × PlaceToCome L.into_iter_gives IsExactly L.IntoIter.DoubleEndedIterator a.view a.items (left_place pair)
-        × PlaceToCome R.into_iter_gives IsExactly R.IntoIter.DoubleEndedIterator b.view b.items (right_place pair) }
-    ensures answers { (a : Listed L.Item) (b : Listed R.Item) → PlaceToCome L.into_iter_gives IsExactly L.IntoIter.DoubleEndedIterator a.view a.items (left_place pair)
-        → PlaceToCome R.into_iter_gives IsExactly R.IntoIter.DoubleEndedIterator b.view b.items (right_place pair)
-        → IfOk result (λ d. map (option_map (map_places a.view b.view)) d.answers.items ≡ answers (aligned a.items b.items) ends.now) }
-    ensures rest { (a : Listed L.Item) (b : Listed R.Item) → PlaceToCome L.into_iter_gives IsExactly L.IntoIter.DoubleEndedIterator a.view a.items (left_place pair)
-        → PlaceToCome R.into_iter_gives IsExactly R.IntoIter.DoubleEndedIterator b.view b.items (right_place pair)
+    requires { (a : Listed L.Item) × (b : Listed R.Item)
+        × PlaceCounts L.into_iter_gives L.IntoIter.DoubleEndedIterator a (left_place pair)
+        × PlaceCounts R.into_iter_gives R.IntoIter.DoubleEndedIterator b (right_place pair) }
+    ensures answers { (a : Listed L.Item) (b : Listed R.Item)
+        → PlaceCounts L.into_iter_gives L.IntoIter.DoubleEndedIterator a (left_place pair)
+        → PlaceCounts R.into_iter_gives R.IntoIter.DoubleEndedIterator b (right_place pair)
+        → IfOk result (λ d. map (option_map (map_places a.view b.view)) d.answers.items
+        ≡ answers (aligned a.items b.items) ends.now) }
+    ensures rest { (a : Listed L.Item) (b : Listed R.Item)
+        → PlaceCounts L.into_iter_gives L.IntoIter.DoubleEndedIterator a (left_place pair)
+        → PlaceCounts R.into_iter_gives R.IntoIter.DoubleEndedIterator b (right_place pair)
         → IfOk result (λ d. d.rest ≡ left_over (aligned a.items b.items) ends.now) }
 {
     let (answers, rest) = drive_swap_in(alloc, pair, ends)?;
@@ -152,13 +158,17 @@ where
     R::IntoIter: DoubleEndedIterator + ExactSizeIterator,
     L::Item: Drop,
     R::Item: Drop,
-    requires { (a : Listed L.Item) × (b : Listed R.Item) × PlaceToCome L.into_iter_gives IsExactly L.IntoIter.DoubleEndedIterator a.view a.items (left_place pair)
-        × PlaceToCome R.into_iter_gives IsExactly R.IntoIter.DoubleEndedIterator b.view b.items (right_place pair) }
-    ensures answers { (a : Listed L.Item) (b : Listed R.Item) → PlaceToCome L.into_iter_gives IsExactly L.IntoIter.DoubleEndedIterator a.view a.items (left_place pair)
-        → PlaceToCome R.into_iter_gives IsExactly R.IntoIter.DoubleEndedIterator b.view b.items (right_place pair)
-        → IfOk result (λ d. map (option_map (map_places a.view b.view)) d.0.items ≡ answers (aligned a.items b.items) ends.now) }
-    ensures rest { (a : Listed L.Item) (b : Listed R.Item) → PlaceToCome L.into_iter_gives IsExactly L.IntoIter.DoubleEndedIterator a.view a.items (left_place pair)
-        → PlaceToCome R.into_iter_gives IsExactly R.IntoIter.DoubleEndedIterator b.view b.items (right_place pair)
+    requires { (a : Listed L.Item) × (b : Listed R.Item)
+        × PlaceCounts L.into_iter_gives L.IntoIter.DoubleEndedIterator a (left_place pair)
+        × PlaceCounts R.into_iter_gives R.IntoIter.DoubleEndedIterator b (right_place pair) }
+    ensures answers { (a : Listed L.Item) (b : Listed R.Item)
+        → PlaceCounts L.into_iter_gives L.IntoIter.DoubleEndedIterator a (left_place pair)
+        → PlaceCounts R.into_iter_gives R.IntoIter.DoubleEndedIterator b (right_place pair)
+        → IfOk result (λ d. map (option_map (map_places a.view b.view)) d.0.items
+        ≡ answers (aligned a.items b.items) ends.now) }
+    ensures rest { (a : Listed L.Item) (b : Listed R.Item)
+        → PlaceCounts L.into_iter_gives L.IntoIter.DoubleEndedIterator a (left_place pair)
+        → PlaceCounts R.into_iter_gives R.IntoIter.DoubleEndedIterator b (right_place pair)
         → IfOk result (λ d. d.1 ≡ left_over (aligned a.items b.items) ends.now) }
 {
     drive(alloc, pair.into_iter_swap(), ends)

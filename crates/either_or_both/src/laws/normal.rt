@@ -61,7 +61,8 @@ fn split_sides<L: Drop, R: Drop, A: Allocator + Copy>(
     alloc: A,
     list: Vec<EitherOrBoth<L, R>, A>,
 ) -> Result<(Vec<L, A>, Vec<R, A>), AllocError>
-    ensures { IfOk result (λ sides. (sides.0.items ≡ lefts list.items) × (sides.1.items ≡ rights list.items)) }
+    ensures { IfOk result (λ sides. (sides.0.items ≡ lefts list.items)
+        × (sides.1.items ≡ rights list.items)) }
 {
     let mut left = Vec::with_capacity(alloc, count_lefts(&list))?;
     let mut right = Vec::with_capacity(alloc, count_rights(&list))?;
