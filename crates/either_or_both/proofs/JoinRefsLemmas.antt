@@ -1,5 +1,5 @@
 -- What a walk over references gives: read from runs of what it walks over, and from the lists that those show.
-use Rattle.std.proofs.Common.{◌≡◌, ◌∙◌, ℕ, ◌+◌, ◌≤◌, zero, suc, Bool, true, cond, List, [], ◌∷◌, ◌++◌, length, map, All, option_map, Option, Some, None, append-nil, arith, refl, sym, ap, ap₂, subst}
+use Rattle.std.proofs.Common.{◌≡◌, ◌∙◌, ℕ, ◌+◌, zero, suc, Bool, true, cond, List, [], ◌∷◌, ◌++◌, map, All, option_map, Option, Some, None, append-nil, arith, refl, sym, ap, ap₂, subst}
 use Rattle.std.proofs.iter.runs.Made.{at-is, took}
 use Rattle.std.proofs.lemmas.List.{length-append, length-map}
 use Rattle.std.proofs.lemmas.List.Elements.{All-head, All-tail}
@@ -7,7 +7,7 @@ use Rattle.std.proofs.lemmas.List.Sums.{sum_by-cons}
 use Rattle.std.specs.Borrow.{Bor}
 use Rattle.std.specs.Cmp.{IsTotalOrder}
 use Rattle.std.specs.Iterator.{Yields, YieldsFirstBy}
-use Rattle.std.specs.Iterator.Runs.{AllItems, Run, SomeRun}
+use Rattle.std.specs.Iterator.Runs.{Run, SomeRun}
 use Rattle.std.specs.List.{slice_get}
 use Rattle.std.specs.Map.Iter.{deref_pair}
 use Rattle.std.specs.Option.{option_zip}
@@ -22,7 +22,7 @@ use Rattle.either_or_both.specs.JoinLaws.{HasJoinCounts, deref_joined, shared_ke
 use Rattle.either_or_both.specs.OuterJoin.{HoldsFirsts, IsJoinRun, IsShownJoinRun, ShowsJoin, ShowsPlaces, StepsFrom, join_steps}
 use Rattle.either_or_both.proofs.JoinLemmas.{join_counts, join_length, join_places}
 use Rattle.either_or_both.proofs.MergeLemmas.{IsJoin-merge, Up, by_order, merge, rising, up}
-use Rattle.either_or_both.proofs.OuterJoinLemmas.{both_ended, none_some, some_same}
+use Rattle.either_or_both.proofs.OuterJoinLemmas.{both_ended, some_same}
 use Rattle.either_or_both.proofs.RisingLemmas.{shown_rises, shown_join}
 
 module _ {W S T K A B : Type 0} {joins : W → Option (Bor K × EitherOrBoth (Bor A) (Bor B)) → W → Type 0} (cmp : K → K → Ordering) where

@@ -1,5 +1,5 @@
 -- The laws of the aligned list and of regrouping.
-use Rattle.std.proofs.Common.{◌≡◌, ℕ, zero, suc, ◌+◌, ◌≤◌, ◌⊎◌, inl, inr, max, true, false, List, [], ◌∷◌, Some, None, length, map, take, drop, slice_get, refl, sym, ap, subst, ◌∙◌, arith}
+use Rattle.std.proofs.Common.{◌≡◌, ℕ, zero, suc, ◌+◌, inl, inr, true, false, List, [], ◌∷◌, map, take, drop, refl, sym, ap, subst, ◌∙◌, arith}
 use Rattle.std.proofs.lemmas.List.Elements.{All-nil, All-cons, All-head, All-tail}
 use Rattle.std.specs.List.{All, prefix_len}
 use Rattle.eob_both.specs.declared.either_or_both.EitherOrBoth.{EitherOrBoth}
@@ -7,8 +7,8 @@ use Rattle.eob_both.specs.declared.either_or_both.EitherOrBoth.TheVariants.{Left
 use Rattle.eob_both.proofs.AlignedLemmas.{aligned-nil, aligned_by_index}
 use Rattle.eob_both.specs.Aligned.{aligned}
 use Rattle.eob_both.specs.Collector.{contents_at}
-use Rattle.eob_both.specs.Places.{left_place, right_place, from_places}
-use Rattle.eob_both.specs.Sides.{collected, lefts, pair_of, rights}
+use Rattle.eob_both.specs.Places.{left_place, right_place}
+use Rattle.eob_both.specs.Sides.{lefts, pair_of, rights}
 use Rattle.either_or_both.specs.Laws.{AlignedLaw, EqualPairsLaw, TwiceLaw, UnchangedLaw}
 use Rattle.either_or_both.specs.Normal.{is_both, is_left, is_right, regrouped, IsNormal, IsOneSided}
 

@@ -1,4 +1,4 @@
-use Rattle.std.proofs.Common.{ap, ◌∙◌, sym}
+use Rattle.std.proofs.Common.{ap, ◌∙◌}
 use Rattle.std.specs.Iterator.{size}
 use Rattle.eob_both.proofs.EndsLemmas.{to_come_uncounted}
 use Rattle.either_or_both.proofs.laws.drive.drive.Goals as goal

@@ -1,5 +1,4 @@
-use Rattle.std.proofs.Common.{◌≡◌, List, map, Option, ap, sym, subst, ◌∙◌}
-use Rattle.std.specs.Option.{option_map}
+use Rattle.std.proofs.Common.{ap, sym, ◌∙◌}
 use Rattle.eob_both.specs.Values.{values_left}
 use Rattle.either_or_both.specs.Answers.{answers, left_over}
 use Rattle.either_or_both.proofs.ShownLemmas.{as_they_are, shown_to_come}

@@ -1,4 +1,4 @@
-use Rattle.std.proofs.Common.{◌≡◌, List, take, drop, length, ◌-◌, ◌∙◌, ap, subst, sym}
+use Rattle.std.proofs.Common.{drop, ◌∙◌, ap, subst, sym}
 use Rattle.std.proofs.lemmas.List.{take_rest}
 use Rattle.either_or_both.specs.Normal.{IsOneSided}
 use Rattle.either_or_both.proofs.NormalLemmas.{normal_from_rest, one_sided_rest}
