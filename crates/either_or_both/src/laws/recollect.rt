@@ -40,7 +40,8 @@ impl<T: Drop, A: Allocator> Walked for Vec<T, A> {
 
     ghost is_held = { λ _. ⊤ };
 
-    ghost walks = { λ c it h. (tt, tt, tt, gives_list into_iter_steps into_iter_items it c.items h.0 h.3) };
+    ghost walks = { λ c it h. let rest = h.0 in let runs = h.3 in
+        (tt, tt, tt, gives_list into_iter_steps into_iter_items it c.items rest runs) };
 
     ghost holds_none = { tt };
 }
@@ -54,7 +55,8 @@ impl<T: Drop, A: Allocator> Walked for VecDeque<T, A> {
 
     ghost is_held = { λ _. ⊤ };
 
-    ghost walks = { λ c it h. (tt, tt, tt, gives_list into_iter_steps into_iter_items it c.items h.1 h.2) };
+    ghost walks = { λ c it h. let rest = h.1 in let runs = h.2 in
+        (tt, tt, tt, gives_list into_iter_steps into_iter_items it c.items rest runs) };
 
     ghost holds_none = { tt };
 }
@@ -70,7 +72,8 @@ impl<K: Hash + Eq + Drop, V: Drop, S: BuildHasher + Drop, A: Allocator> Walked
 
     ghost is_held = { λ es. IsDistinct K.eq (keys_of es) };
 
-    ghost walks = { λ c it h. (tt, tt, h.4, gives_list (TakesFirst (λ x. x)) (λ s. s) it c.entries h.0 h.2) };
+    ghost walks = { λ c it h. let rest = h.0 in let runs = h.2 in let distinct = h.4 in
+        (tt, tt, distinct, gives_list (TakesFirst (λ x. x)) (λ s. s) it c.entries rest runs) };
 
     ghost holds_none = { no_key_twice K.eq };
 }
@@ -84,7 +87,8 @@ impl<K: Hash + Eq + Drop, S: BuildHasher + Drop, A: Allocator> Walked for HashSe
 
     ghost is_held = { IsDistinct K.eq };
 
-    ghost walks = { λ c it h. (tt, tt, h.3, gives_list (TakesFirst (λ x. x)) (λ s. s) it c.keys h.0 h.2) };
+    ghost walks = { λ c it h. let rest = h.0 in let runs = h.2 in let distinct = h.3 in
+        (tt, tt, distinct, gives_list (TakesFirst (λ x. x)) (λ s. s) it c.keys rest runs) };
 
     ghost holds_none = { no_key_twice K.eq };
 }
@@ -100,7 +104,8 @@ impl<K: Hash + Eq + Drop, V: Drop, S: BuildHasher + Drop, A: Allocator> Walked
 
     ghost is_held = { λ es. IsDistinct K.eq (keys_of es) };
 
-    ghost walks = { λ c it h. (tt, tt, h.4, gives_list (TakesFirst (λ x. x)) (λ s. s) it c.entries h.0 h.2) };
+    ghost walks = { λ c it h. let rest = h.0 in let runs = h.2 in let distinct = h.4 in
+        (tt, tt, distinct, gives_list (TakesFirst (λ x. x)) (λ s. s) it c.entries rest runs) };
 
     ghost holds_none = { no_key_twice K.eq };
 }
@@ -114,7 +119,8 @@ impl<K: Hash + Eq + Drop, S: BuildHasher + Drop, A: Allocator> Walked for IndexS
 
     ghost is_held = { IsDistinct K.eq };
 
-    ghost walks = { λ c it h. (tt, tt, h.3, gives_list (TakesFirst (λ x. x)) (λ s. s) it c.keys h.0 h.2) };
+    ghost walks = { λ c it h. let rest = h.0 in let runs = h.2 in let distinct = h.3 in
+        (tt, tt, distinct, gives_list (TakesFirst (λ x. x)) (λ s. s) it c.keys rest runs) };
 
     ghost holds_none = { no_key_twice K.eq };
 }
@@ -129,7 +135,8 @@ impl<K: Ord + Drop, V: Drop, A: Allocator> Walked for BTreeMap<K, V, A> {
 
     ghost is_held = { λ es. IsStrictlySortedBy K.cmp (keys_of es) };
 
-    ghost walks = { λ c it h. (tt, tt, h.5, gives_list (TakesFirst (λ x. x)) (λ s. s) it c.entries h.0 h.2) };
+    ghost walks = { λ c it h. let rest = h.0 in let runs = h.2 in let sorted = h.5 in
+        (tt, tt, sorted, gives_list (TakesFirst (λ x. x)) (λ s. s) it c.entries rest runs) };
 
     ghost holds_none = { none_rise K.cmp };
 }
@@ -143,7 +150,8 @@ impl<K: Ord + Drop, A: Allocator> Walked for BTreeSet<K, A> {
 
     ghost is_held = { IsStrictlySortedBy K.cmp };
 
-    ghost walks = { λ c it h. (tt, tt, h.4, gives_list (TakesFirst (λ x. x)) (λ s. s) it c.keys h.0 h.2) };
+    ghost walks = { λ c it h. let rest = h.0 in let runs = h.2 in let sorted = h.4 in
+        (tt, tt, sorted, gives_list (TakesFirst (λ x. x)) (λ s. s) it c.keys rest runs) };
 
     ghost holds_none = { none_rise K.cmp };
 }
