@@ -1,5 +1,5 @@
 -- The items that runs give place by place, from the list that an iterator has still to come.
-use Rattle.std.proofs.Common.{◌≡◌, ◌∙◌, ℕ, zero, suc, ◌+◌, ◌≤◌, true, List, [], ◌∷◌, ◌++◌, map, length, slice_get, Option, Some, None, append-nil, arith, refl, sym, ap, subst}
+use Rattle.std.proofs.Common.{◌≡◌, ◌∙◌, ℕ, zero, suc, ◌≤◌, List, [], ◌∷◌, ◌++◌, map, length, slice_get, Option, Some, None, append-nil, arith, refl, sym, ap, subst}
 use Rattle.std.proofs.iter.runs.Made.{at-is, took}
 use Rattle.std.specs.Iterator.{Yields}
 use Rattle.std.specs.Iterator.Runs.{Run}

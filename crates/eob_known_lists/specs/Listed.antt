@@ -29,7 +29,7 @@ use Rattle.eob_both.specs.Chain.{chain_left, chain_right, chain_ends}
 use Rattle.eob_both.proofs.SwapLemmas.{swap_to_come}
 use Rattle.eob_both.proofs.ChainLemmas.{chain_to_come}
 use Rattle.eob_both.proofs.StdEnds.{vec_ends, vec_to_come, slice_ends, slice_to_come, range_ends, range_to_come, once_ends, once_to_come, deque_ends, deque_to_come, rev_ends, rev_to_come, ref_to}
-use Rattle.eob_both.proofs.EndsLemmas.{to_come_over, to_come_same, to_come_uncounted}
+use Rattle.eob_both.proofs.EndsLemmas.{to_come_over, to_come_uncounted}
 use Rattle.either_or_both.proofs.ShownLemmas.{shown_ends, shown_to_come}
 
 -- the item at each place of p is the one at that place of xs, and where p ended xs has no more
@@ -80,9 +80,13 @@ pub side_comes : {S A : Type 0} (it : Ends S A) (view : A → A) (rest : S → L
 side_comes it view rest h None = refl
 side_comes it view rest h (Some s) = h s
 
+-- the list of a paired walk: those of the sides that it still asks, aligned
+abbrev pub walk_lists : {S T A B : Type 0} → (S → List A) → (T → List B) → SwapIterEitherOrBoth S T → List (EitherOrBoth A B)
+walk_lists rest rests s = aligned (listed_at rest (swap_left s)) (listed_at rests (swap_right s))
+
 -- the paired walk of two such sides has the two lists aligned
 pub walk_comes : {S T A B : Type 0} (it : Ends S A) (jt : Ends T B) (v : A → A) (w : B → B) (rest : S → List A) (rests : T → List B) → ((s : S) → CountedToCome it v (rest s) s) → ((t : T) → CountedToCome jt w (rests t) t)
-    → (s : SwapIterEitherOrBoth S T) → CountedToCome (swap_ends it jt) (map_places v w) (aligned (listed_at rest (swap_left s)) (listed_at rests (swap_right s))) s
+    → (s : SwapIterEitherOrBoth S T) → CountedToCome (swap_ends it jt) (map_places v w) (walk_lists rest rests s) s
 walk_comes it jt v w rest rests f g s = swap_to_come it jt v w _ _ s (side_comes it v rest f (swap_left s)) (side_comes jt w rests g (swap_right s))
 
 pub rev_comes : {S A : Type 0} (it : Ends S A) (view : A → A) (rest : S → List A) → ((s : S) → StillToCome it view (rest s) s) → (s : Rev S) → StillToCome (rev_ends HasBound it view) view (reverse (rest (rev_source s))) s

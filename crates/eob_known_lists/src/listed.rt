@@ -1,5 +1,5 @@
 //! Iterators that have a known list still to come, whatever was called before.
-ghost use Rattle.std.specs.Prelude.{refl, ◌≡◌, ℕ, ◌++◌, List, map, reverse, length, slice_get, true};
+ghost use Rattle.std.specs.Prelude.{refl, ◌≡◌, ◌++◌, List, map, reverse, length, true};
 ghost use Rattle.std.specs.Array.Iter.{array_into_iter_items};
 ghost use Rattle.std.specs.Iterator.Adapters.{once_item, rev_source, rev_steps};
 ghost use Rattle.std.specs.Iterator.Runs.{EachRunFrom};
@@ -7,15 +7,13 @@ ghost use Rattle.std.specs.Option.{option_to_list};
 ghost use Rattle.std.specs.Slice.Iter.{iter_rest};
 ghost use Rattle.std.specs.Vec.Iter.{into_iter_items};
 ghost use Rattle.std.specs.VecDeque.Iter.{deque_iter_rest};
-ghost use Rattle.eob_both.specs.Aligned.{aligned};
 ghost use Rattle.eob_both.specs.Chain.{chain_left, chain_right};
 ghost use Rattle.eob_both.specs.Ends.{CountedToCome, StillToCome};
 ghost use Rattle.eob_both.specs.Places.{map_places};
-ghost use Rattle.eob_both.specs.Swap.{swap_left, swap_right};
 ghost use Rattle.eob_both.specs.Values.{values_left};
 ghost use Rattle.eob_both.proofs.StdEnds.{once_to_come, range_rest, range_to_come, ref_to, vec_to_come};
 ghost use Rattle.eob_known_lists.specs.Arrays.{array_to_come};
-ghost use Rattle.eob_known_lists.specs.Listed.{chain_comes, deque_to_come_by_ref, listed_at, place_as_is, ReadsPlaces, rev_comes, rev_counts, same_ref, slice_to_come_by_ref, uncounted, walk_comes};
+ghost use Rattle.eob_known_lists.specs.Listed.{chain_comes, deque_to_come_by_ref, listed_at, place_as_is, ReadsPlaces, rev_comes, rev_counts, same_ref, slice_to_come_by_ref, uncounted, walk_comes, walk_lists};
 ghost use Rattle.either_or_both.proofs.ShownLemmas.{shown_to_come};
 
 use either_or_both::iter::{ChainedIterEitherOrBoth, IntoIterEitherOrBoth, SwapIterEitherOrBoth};
@@ -187,14 +185,16 @@ impl<T: Drop> OwnIter for IntoIterEitherOrBoth<T> {
 impl<S: CountedIter, T: CountedIter> ListedIter for SwapIterEitherOrBoth<S, T> {
     ghost view = { map_places S.view T.view };
 
-    ghost listed = { λ s. aligned (listed_at S.listed (swap_left s)) (listed_at T.listed (swap_right s)) };
+    ghost listed = { walk_lists S.listed T.listed };
 
-    ghost comes = { uncounted _ (map_places S.view T.view) (λ s. aligned (listed_at S.listed (swap_left s)) (listed_at T.listed (swap_right s)))
-        (walk_comes S.DoubleEndedIterator T.DoubleEndedIterator S.view T.view S.listed T.listed S.counts T.counts) };
+    ghost comes = { uncounted _ (map_places S.view T.view) (walk_lists S.listed T.listed)
+        (walk_comes S.DoubleEndedIterator T.DoubleEndedIterator S.view T.view
+        S.listed T.listed S.counts T.counts) };
 }
 
 impl<S: CountedIter, T: CountedIter> CountedIter for SwapIterEitherOrBoth<S, T> {
-    ghost counts = { walk_comes S.DoubleEndedIterator T.DoubleEndedIterator S.view T.view S.listed T.listed S.counts T.counts };
+    ghost counts = { walk_comes S.DoubleEndedIterator T.DoubleEndedIterator S.view T.view
+        S.listed T.listed S.counts T.counts };
 }
 
 impl<S: CountedIter + OwnIter, T: CountedIter + OwnIter> OwnIter for SwapIterEitherOrBoth<S, T> {

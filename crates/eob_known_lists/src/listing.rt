@@ -3,15 +3,13 @@ ghost use Rattle.std.specs.Prelude.{refl, ◌≡◌, ◌-◌, ◌++◌, List, ma
 ghost use Rattle.std.specs.Iterator.Adapters.{rev_source};
 ghost use Rattle.std.specs.List.{range_with_len};
 ghost use Rattle.std.specs.Option.{option_to_list};
-ghost use Rattle.eob_both.specs.Aligned.{aligned};
 ghost use Rattle.eob_both.specs.Chain.{chain_left, chain_right};
 ghost use Rattle.eob_both.specs.Ends.{CountedToCome, StillToCome};
 ghost use Rattle.eob_both.specs.Places.{map_places};
-ghost use Rattle.eob_both.specs.Swap.{swap_left, swap_right};
 ghost use Rattle.eob_both.specs.Values.{values_of};
 ghost use Rattle.eob_both.proofs.StdEnds.{ref_to};
 ghost use Rattle.eob_known_lists.specs.Arrays.{array_comes};
-ghost use Rattle.eob_known_lists.specs.Listed.{at_same, chain_comes, deque_comes, listed_at, once_comes, place_as_is, range_comes, rev_comes, rev_counts, same_ref, slice_comes, uncounted_walk, values_come, vec_comes, walk_comes};
+ghost use Rattle.eob_known_lists.specs.Listed.{at_same, chain_comes, deque_comes, listed_at, once_comes, place_as_is, range_comes, rev_comes, rev_counts, same_ref, slice_comes, uncounted_walk, values_come, vec_comes, walk_comes, walk_lists};
 
 use crate::listed::{CountedIter, ListedIter, OwnIter};
 use either_or_both::EitherOrBoth;
@@ -58,11 +56,12 @@ impl<T: Drop, A: Allocator> Listing for Vec<T, A> {
 
     ghost listed = { λ v. v.items };
 
-    ghost comes = { uncounted_walk _ _ (λ x. x) (λ v. v.items) (λ x s e. vec_comes x.items s e.0) };
+    ghost comes = { uncounted_walk _ _ (λ x. x) (λ v. v.items)
+        (λ x s e. let rest = e.0 in vec_comes x.items s rest) };
 }
 
 impl<T: Drop, A: Allocator> CountedListing for Vec<T, A> {
-    ghost counts = { λ x s e. vec_comes x.items s e.0 };
+    ghost counts = { λ x s e. let rest = e.0 in vec_comes x.items s rest };
 }
 
 impl<T: Drop, A: Allocator> OwnListing for Vec<T, A> {
@@ -74,11 +73,12 @@ impl<T: Drop, const N: usize> Listing for [T; N] {
 
     ghost listed = { λ xs. xs };
 
-    ghost comes = { uncounted_walk _ _ (λ x. x) (λ xs. xs) (λ x s e. array_comes x s e.0) };
+    ghost comes = { uncounted_walk _ _ (λ x. x) (λ xs. xs)
+        (λ x s e. let rest = e.0 in array_comes x s rest) };
 }
 
 impl<T: Drop, const N: usize> CountedListing for [T; N] {
-    ghost counts = { λ x s e. array_comes x s e.0 };
+    ghost counts = { λ x s e. let rest = e.0 in array_comes x s rest };
 }
 
 impl<T: Drop, const N: usize> OwnListing for [T; N] {
@@ -90,11 +90,12 @@ impl<T: Drop, A: Allocator> Listing for VecDeque<T, A> {
 
     ghost listed = { λ v. v.items };
 
-    ghost comes = { uncounted_walk _ _ (λ x. x) (λ v. v.items) (λ x s e. vec_comes x.items s e.1) };
+    ghost comes = { uncounted_walk _ _ (λ x. x) (λ v. v.items)
+        (λ x s e. let rest = e.1 in vec_comes x.items s rest) };
 }
 
 impl<T: Drop, A: Allocator> CountedListing for VecDeque<T, A> {
-    ghost counts = { λ x s e. vec_comes x.items s e.1 };
+    ghost counts = { λ x s e. let rest = e.1 in vec_comes x.items s rest };
 }
 
 impl<T: Drop, A: Allocator> OwnListing for VecDeque<T, A> {
@@ -106,11 +107,12 @@ impl<T: Drop> Listing for Option<T> {
 
     ghost listed = { option_to_list };
 
-    ghost comes = { uncounted_walk _ _ (λ x. x) (option_to_list) (λ x s e. once_comes x s e.0) };
+    ghost comes = { uncounted_walk _ _ (λ x. x) (option_to_list)
+        (λ x s e. let rest = e.0 in once_comes x s rest) };
 }
 
 impl<T: Drop> CountedListing for Option<T> {
-    ghost counts = { λ x s e. once_comes x s e.0 };
+    ghost counts = { λ x s e. let rest = e.0 in once_comes x s rest };
 }
 
 impl<T: Drop> OwnListing for Option<T> {
@@ -122,7 +124,8 @@ impl Listing for Range<u32> {
 
     ghost listed = { λ r. range_with_len r.start (r.end - r.start) };
 
-    ghost comes = { uncounted_walk _ _ (λ x. x) (λ r. range_with_len r.start (r.end - r.start)) (range_comes) };
+    ghost comes = { uncounted_walk _ _ (λ x. x) (λ r. range_with_len r.start (r.end - r.start))
+        (range_comes) };
 }
 
 impl CountedListing for Range<u32> {
@@ -138,7 +141,8 @@ impl Listing for Range<usize> {
 
     ghost listed = { λ r. range_with_len r.start (r.end - r.start) };
 
-    ghost comes = { uncounted_walk _ _ (λ x. x) (λ r. range_with_len r.start (r.end - r.start)) (range_comes) };
+    ghost comes = { uncounted_walk _ _ (λ x. x) (λ r. range_with_len r.start (r.end - r.start))
+        (range_comes) };
 }
 
 impl CountedListing for Range<usize> {
@@ -154,11 +158,12 @@ impl<'a, T> Listing for &'a [T] {
 
     ghost listed = { λ s. map ref_to s.now };
 
-    ghost comes = { uncounted_walk _ _ (same_ref) (λ s. map ref_to s.now) (λ x s e. slice_comes x.now s e.0) };
+    ghost comes = { uncounted_walk _ _ (same_ref) (λ s. map ref_to s.now)
+        (λ x s e. let rest = e.0 in slice_comes x.now s rest) };
 }
 
 impl<'a, T> CountedListing for &'a [T] {
-    ghost counts = { λ x s e. slice_comes x.now s e.0 };
+    ghost counts = { λ x s e. let rest = e.0 in slice_comes x.now s rest };
 }
 
 impl<'a, T, A: Allocator> Listing for &'a Vec<T, A> {
@@ -166,11 +171,12 @@ impl<'a, T, A: Allocator> Listing for &'a Vec<T, A> {
 
     ghost listed = { λ v. map ref_to v.now.items };
 
-    ghost comes = { uncounted_walk _ _ (same_ref) (λ v. map ref_to v.now.items) (λ x s e. slice_comes x.now.items s e.0) };
+    ghost comes = { uncounted_walk _ _ (same_ref) (λ v. map ref_to v.now.items)
+        (λ x s e. let rest = e.0 in slice_comes x.now.items s rest) };
 }
 
 impl<'a, T, A: Allocator> CountedListing for &'a Vec<T, A> {
-    ghost counts = { λ x s e. slice_comes x.now.items s e.0 };
+    ghost counts = { λ x s e. let rest = e.0 in slice_comes x.now.items s rest };
 }
 
 impl<'a, T, A: Allocator> Listing for &'a VecDeque<T, A> {
@@ -178,11 +184,12 @@ impl<'a, T, A: Allocator> Listing for &'a VecDeque<T, A> {
 
     ghost listed = { λ v. map ref_to v.now.items };
 
-    ghost comes = { uncounted_walk _ _ (same_ref) (λ v. map ref_to v.now.items) (λ x s e. deque_comes x.now.items s e.0) };
+    ghost comes = { uncounted_walk _ _ (same_ref) (λ v. map ref_to v.now.items)
+        (λ x s e. let rest = e.0 in deque_comes x.now.items s rest) };
 }
 
 impl<'a, T, A: Allocator> CountedListing for &'a VecDeque<T, A> {
-    ghost counts = { λ x s e. deque_comes x.now.items s e.0 };
+    ghost counts = { λ x s e. let rest = e.0 in deque_comes x.now.items s rest };
 }
 
 impl<T: Drop> Listing for EitherOrBoth<T, T> {
@@ -204,14 +211,18 @@ impl<T: Drop> OwnListing for EitherOrBoth<T, T> {
 impl<S: CountedIter, T: CountedIter> Listing for SwapIterEitherOrBoth<S, T> {
     ghost view = { map_places S.view T.view };
 
-    ghost listed = { λ s. aligned (listed_at S.listed (swap_left s)) (listed_at T.listed (swap_right s)) };
+    ghost listed = { walk_lists S.listed T.listed };
 
-    ghost comes = { uncounted_walk _ _ (map_places S.view T.view) (λ s. aligned (listed_at S.listed (swap_left s)) (listed_at T.listed (swap_right s)))
-        (at_same _ _ (map_places S.view T.view) _ (walk_comes S.DoubleEndedIterator T.DoubleEndedIterator S.view T.view S.listed T.listed S.counts T.counts)) };
+    ghost comes = { uncounted_walk _ _ (map_places S.view T.view) (walk_lists S.listed T.listed)
+        (at_same _ _ (map_places S.view T.view) _
+        (walk_comes S.DoubleEndedIterator T.DoubleEndedIterator S.view T.view
+        S.listed T.listed S.counts T.counts)) };
 }
 
 impl<S: CountedIter, T: CountedIter> CountedListing for SwapIterEitherOrBoth<S, T> {
-    ghost counts = { at_same _ _ (map_places S.view T.view) _ (walk_comes S.DoubleEndedIterator T.DoubleEndedIterator S.view T.view S.listed T.listed S.counts T.counts) };
+    ghost counts = { at_same _ _ (map_places S.view T.view) _
+        (walk_comes S.DoubleEndedIterator T.DoubleEndedIterator S.view T.view
+        S.listed T.listed S.counts T.counts) };
 }
 
 impl<S: CountedIter + OwnIter, T: CountedIter + OwnIter> OwnListing for SwapIterEitherOrBoth<S, T> {
