@@ -1,5 +1,5 @@
 -- A table as the list of its groups: that it rises, what it has under a key, and what the loop of a group join makes of two tables.
-use Rattle.std.proofs.Common.{◌≡◌, ◌∙◌, ◌⊎◌, ℕ, ◌+◌, ◌<◌, suc, Bool, true, false, cond, List, [], ◌∷◌, ◌++◌, length, get_or, map, filter, All, Contains, Option, Some, None, option_map, append_assoc, arith, inl, inr, refl, sym, ap, ap₂, true≢false, subst}
+use Rattle.std.proofs.Common.{◌≡◌, ◌∙◌, ◌⊎◌, ℕ, ◌+◌, ◌<◌, suc, Bool, true, false, List, [], ◌∷◌, ◌++◌, length, get_or, map, filter, All, Contains, Option, Some, None, option_map, append_assoc, arith, inl, inr, refl, sym, ap, ap₂, true≢false, subst}
 use Rattle.std.specs.Prelude.{⊤, IsTrue, ◌↔◌, ◌≤◌, ◌&&◌, not}
 use Rattle.std.specs.Cmp.{IsTotalOrder, alike_right}
 use Rattle.std.specs.List.{IsAllAdjacentAnswer}
@@ -16,7 +16,7 @@ use Rattle.eob_both.specs.declared.either_or_both.EitherOrBoth.{EitherOrBoth}
 use Rattle.eob_both.specs.Places.{from_places, map_places}
 use Rattle.either_or_both.specs.Join.{Rising, IsJoin, value_under}
 use Rattle.either_or_both.proofs.MergeLemmas.{Up, absent_alike, alike_on, is_Equal, rising, up}
-use Rattle.eob_joins.specs.Groups.{AreGroups, HasGroupsOf, Ordered, OrderedLaw, IsGroupJoin, group_under, some_items, run_values, run_rest}
+use Rattle.eob_joins.specs.Groups.{AreGroups, HasGroupsOf, Ordered, OrderedLaw, IsGroupJoin, add_pair, group_under, key_runs, some_items, run_values, run_rest}
 
 by_test : {G : Type 0} (t : Bool) → (t ≡ true → G) → (t ≡ false → G) → G
 by_test true f g = f refl
@@ -53,50 +53,40 @@ module _ {K : Type 0} (cmp : K → K → Ordering) where
   low [] h = tt
   low (x ∷ xs) h = (tt, low_after x xs h)
 
-  -- the first pair x before groups: in the first of these where the keys are equal, and else in a group of its own
-  abbrev add_pair : {V : Type 0} → K × V → List (K × List V) → List (K × List V)
-  add_pair x [] = (x.0, x.1 ∷ []) ∷ []
-  add_pair x (g ∷ gs) = cond (is_eq (cmp x.0 g.0)) ((x.0, x.1 ∷ g.1) ∷ gs) ((x.0, x.1 ∷ []) ∷ g ∷ gs)
-
-  -- the runs of equal keys, each under its first key
-  abbrev pub groups : {V : Type 0} → List (K × V) → List (K × List V)
-  groups [] = []
-  groups (x ∷ xs) = add_pair x (groups xs)
-
   own_key : {V : Type 0} (xs : List (K × V)) (k : ℕ) (d : K × V) → k < length xs → Contains (keys_of xs) (get_or xs k d).0
   own_key xs k d h =
       let l : k < length (keys_of xs) = rw length-map h in
       subst (Contains (keys_of xs)) (get_or-map (λ e. e.0) xs k d) (Contains-get_or (keys_of xs) k d.0 l)
 
-  add_keys : {V : Type 0} (R : K → Type 0) (x : K × V) (gs : List (K × List V)) → R x.0 → All (λ g. R g.0) gs → All (λ g. R g.0) (add_pair x gs)
+  add_keys : {V : Type 0} (R : K → Type 0) (x : K × V) (gs : List (K × List V)) → R x.0 → All (λ g. R g.0) gs → All (λ g. R g.0) (add_pair cmp x gs)
   add_keys R x [] r h = All-cons (λ g. R g.0) (x.0, x.1 ∷ []) [] r (All-nil (λ g. R g.0))
   add_keys R x (g ∷ gs) r h =
       by_test (is_eq (cmp x.0 g.0))
       (λ e. rw e (All-cons (λ f. R f.0) (x.0, x.1 ∷ g.1) gs r (All-tail (λ f. R f.0) g gs h)))
       (λ e. rw e (All-cons (λ f. R f.0) (x.0, x.1 ∷ []) (g ∷ gs) r h))
 
-  groups_keys : {V : Type 0} (R : K → Type 0) (xs : List (K × V)) → All (λ x. R x.0) xs → All (λ g. R g.0) (groups xs)
+  groups_keys : {V : Type 0} (R : K → Type 0) (xs : List (K × V)) → All (λ x. R x.0) xs → All (λ g. R g.0) (key_runs cmp xs)
   groups_keys R [] h = All-nil (λ g. R g.0)
-  groups_keys R (x ∷ xs) h = add_keys R x (groups xs) (All-head (λ y. R y.0) x xs h) (groups_keys R xs (All-tail (λ y. R y.0) x xs h))
+  groups_keys R (x ∷ xs) h = add_keys R x (key_runs cmp xs) (All-head (λ y. R y.0) x xs h) (groups_keys R xs (All-tail (λ y. R y.0) x xs h))
 
   module _ (o : IsTotalOrder cmp) where
     less_on : (j k : K) → is_lt (cmp k j) ≡ false → is_eq (cmp j k) ≡ false → cmp j k ≡ Less
     less_on j k l n = only_Less (cmp j k) (cmp k j) (o.antisymm j k) l n
 
-    add_up : {V : Type 0} (P : K → Type 0) (x : K × V) (gs : List (K × List V)) → P x.0 → Up cmp (λ k. is_lt (cmp k x.0) ≡ false) gs → Up cmp P (add_pair x gs)
+    add_up : {V : Type 0} (P : K → Type 0) (x : K × V) (gs : List (K × List V)) → P x.0 → Up cmp (λ k. is_lt (cmp k x.0) ≡ false) gs → Up cmp P (add_pair cmp x gs)
     add_up P x [] p h = (p, tt)
     add_up P x (g ∷ gs) p h =
         by_test (is_eq (cmp x.0 g.0))
         (λ e. rw e (p, alike_on cmp o x.0 g.0 (is_Equal (cmp x.0 g.0) e) gs h.1))
         (λ e. rw e (p, (less_on x.0 g.0 h.0 e, h.1)))
 
-    groups_up : {V : Type 0} (P : K → Type 0) (xs : List (K × V)) → Low P xs → Up cmp P (groups xs)
+    groups_up : {V : Type 0} (P : K → Type 0) (xs : List (K × V)) → Low P xs → Up cmp P (key_runs cmp xs)
     groups_up P [] h = tt
-    groups_up P (x ∷ xs) h = add_up P x (groups xs) h.0 (groups_up (λ k. is_lt (cmp k x.0) ≡ false) xs h.1)
+    groups_up P (x ∷ xs) h = add_up P x (key_runs cmp xs) h.0 (groups_up (λ k. is_lt (cmp k x.0) ≡ false) xs h.1)
 
     -- what groups have under a key, after one more pair is put before them
     add_here : {V : Type 0} (k : K) (x : K × V) (gs : List (K × List V)) (vs : List V) → is_eq (cmp k x.0) ≡ true → Up cmp (λ j. is_lt (cmp j x.0) ≡ false) gs
-        → value_under cmp gs k ≡ some_items vs → value_under cmp (add_pair x gs) k ≡ Some (x.1 ∷ vs)
+        → value_under cmp gs k ≡ some_items vs → value_under cmp (add_pair cmp x gs) k ≡ Some (x.1 ∷ vs)
     add_here k x [] vs t h e = rw (t, none_back vs e) refl
     add_here k x (g ∷ gs) vs t h e =
         let alike : cmp k g.0 ≡ cmp x.0 g.0 = o.congr k x.0 g.0 (is_Equal (cmp k x.0) t) in
@@ -106,27 +96,38 @@ module _ {K : Type 0} (cmp : K → K → Ordering) where
         let none : value_under cmp (g ∷ gs) k ≡ None = absent_alike cmp o k x.0 t (g ∷ gs) (less_on x.0 g.0 h.0 s, h.1) in
         rw (s, t, none_back vs (sym none ∙ e)) refl)
 
-    add_there : {V : Type 0} (k : K) (x : K × V) (gs : List (K × List V)) → is_eq (cmp k x.0) ≡ false → value_under cmp (add_pair x gs) k ≡ value_under cmp gs k
+    add_there : {V : Type 0} (k : K) (x : K × V) (gs : List (K × List V)) → is_eq (cmp k x.0) ≡ false → value_under cmp (add_pair cmp x gs) k ≡ value_under cmp gs k
     add_there k x [] f = rw f refl
     add_there k x (g ∷ gs) f =
         by_test (is_eq (cmp x.0 g.0))
         (λ s. let alike : cmp k x.0 ≡ cmp k g.0 = alike_right o x.0 g.0 k (is_Equal (cmp x.0 g.0) s) in rw (s, f, ← alike, f) refl)
         (λ s. rw (s, f) refl)
 
-    groups_values : {V : Type 0} (P : K → Type 0) (xs : List (K × V)) → Low P xs → (k : K) → value_under cmp (groups xs) k ≡ group_under cmp xs k
+    groups_values : {V : Type 0} (P : K → Type 0) (xs : List (K × V)) → Low P xs → (k : K) → value_under cmp (key_runs cmp xs) k ≡ group_under cmp xs k
     groups_values P [] h k = refl
     groups_values P (x ∷ xs) h k =
         let Q : K → Type 0 = λ j. is_lt (cmp j x.0) ≡ false in
         by_test (is_eq (cmp k x.0))
-        (λ t. add_here k x (groups xs) (values_of (filter (λ y. is_eq (cmp k y.0)) xs)) t (groups_up Q xs h.1) (groups_values Q xs h.1 k) ∙ sym (rw t refl))
-        (λ f. add_there k x (groups xs) f ∙ groups_values Q xs h.1 k ∙ sym (rw f refl))
+        (λ t. add_here k x (key_runs cmp xs) (values_of (filter (λ y. is_eq (cmp k y.0)) xs)) t (groups_up Q xs h.1) (groups_values Q xs h.1 k) ∙ sym (rw t refl))
+        (λ f. add_there k x (key_runs cmp xs) f ∙ groups_values Q xs h.1 k ∙ sym (rw f refl))
 
-    pub AreGroups-groups : {V : Type 0} (p : List (K × V)) → Ordered cmp p → AreGroups cmp p (groups p)
-    AreGroups-groups p h = record {
-      rises = rising cmp (λ k. ⊤) (groups p) (groups_up (λ k. ⊤) p (low p h));
-      values = groups_values (λ k. ⊤) p (low p h);
+    AreGroups-low : {V : Type 0} (p : List (K × V)) → Low (λ k. ⊤) p → AreGroups cmp p (key_runs cmp p)
+    AreGroups-low p h = record {
+      rises = rising cmp (λ k. ⊤) (key_runs cmp p) (groups_up (λ k. ⊤) p h);
+      values = groups_values (λ k. ⊤) p h;
       keys = groups_keys (Contains (keys_of p)) p (own_key p);
     }
+
+    pub AreGroups-groups : {V : Type 0} (p : List (K × V)) → Ordered cmp p → AreGroups cmp p (key_runs cmp p)
+    AreGroups-groups p h = AreGroups-low p (low p h)
+
+    -- the same with the values read in another way
+    low_read : {V W : Type 0} (f : K × V → W) (P : K → Type 0) (xs : List (K × V)) → Low P xs → Low P (map (λ x. (x.0, f x)) xs)
+    low_read f P [] h = tt
+    low_read f P (x ∷ xs) h = (h.0, low_read f (λ k. is_lt (cmp k x.0) ≡ false) xs h.1)
+
+    pub AreGroups-read : {V W : Type 0} (f : K × V → W) (p : List (K × V)) → Ordered cmp p → AreGroups cmp (map (λ x. (x.0, f x)) p) (key_runs cmp (map (λ x. (x.0, f x)) p))
+    AreGroups-read f p h = AreGroups-low (map (λ x. (x.0, f x)) p) (low_read f (λ k. ⊤) p (low p h))
 
     same_values : {V : Type 0} (j k : K) → cmp j k ≡ Equal → (xs : List (K × V)) → run_values cmp j xs ≡ run_values cmp k xs
     same_values j k e [] = refl
@@ -137,12 +138,12 @@ module _ {K : Type 0} (cmp : K → K → Ordering) where
     same_rest j k e (x ∷ xs) = rw (o.congr j k x.0 e, same_rest j k e xs) refl
 
     -- a run at the front is the first group
-    pub run_on : {V : Type 0} (x : K × V) (xs : List (K × V)) → groups (x ∷ xs) ≡ (x.0, x.1 ∷ run_values cmp x.0 xs) ∷ groups (run_rest cmp x.0 xs)
+    pub run_on : {V : Type 0} (x : K × V) (xs : List (K × V)) → key_runs cmp (x ∷ xs) ≡ (x.0, x.1 ∷ run_values cmp x.0 xs) ∷ key_runs cmp (run_rest cmp x.0 xs)
     run_on x [] = refl
     run_on x (y ∷ ys) =
         by_test (is_eq (cmp x.0 y.0))
         (λ e. let s = is_Equal (cmp x.0 y.0) e in rw (run_on y ys, e, same_values x.0 y.0 s ys, same_rest x.0 y.0 s ys) refl)
-        (λ e. rw e (ap (add_pair x) (run_on y ys) ∙ rw e (ap (λ gs. (x.0, x.1 ∷ []) ∷ gs) (sym (run_on y ys)))))
+        (λ e. rw e (ap (add_pair cmp x) (run_on y ys) ∙ rw e (ap (λ gs. (x.0, x.1 ∷ []) ∷ gs) (sym (run_on y ys)))))
 
   run_shorter : {V : Type 0} (k : K) (xs : List (K × V)) → length (run_rest cmp k xs) ≤ length xs
   run_shorter k [] = omega arith
@@ -150,8 +151,8 @@ module _ {K : Type 0} (cmp : K → K → Ordering) where
 
   -- a turn of the loop: the first pair and its run leave the queue, and become the last group
   module _ (o : IsTotalOrder cmp) {V G : Type 0} (view : G → K × List V) (gs hs : List G) (g : G) (x : K × V) (xs ys zs : List (K × V)) (whole : List (K × List V)) where
-    pub more_groups : ys ≡ x ∷ xs → zs ≡ run_rest cmp x.0 xs → hs ≡ gs ++ g ∷ [] → view g ≡ (x.0, x.1 ∷ run_values cmp x.0 xs) → map view gs ++ groups ys ≡ whole → map view hs ++ groups zs ≡ whole
-    more_groups e f h v w = rw (h, f, map-append, append_assoc, v) (ap (λ ks. map view gs ++ ks) (sym (run_on o x xs) ∙ ap groups (sym e)) ∙ w)
+    pub more_groups : ys ≡ x ∷ xs → zs ≡ run_rest cmp x.0 xs → hs ≡ gs ++ g ∷ [] → view g ≡ (x.0, x.1 ∷ run_values cmp x.0 xs) → map view gs ++ key_runs cmp ys ≡ whole → map view hs ++ key_runs cmp zs ≡ whole
+    more_groups e f h v w = rw (h, f, map-append, append_assoc, v) (ap (λ ks. map view gs ++ ks) (sym (run_on o x xs) ∙ ap (key_runs cmp) (sym e)) ∙ w)
 
   pub fewer_left : {V : Type 0} (x : K × V) (xs ys zs : List (K × V)) → ys ≡ x ∷ xs → zs ≡ run_rest cmp x.0 xs → length zs < length ys
   fewer_left x xs ys zs e f = rw (e, f) (omega (arith, run_shorter x.0 xs))

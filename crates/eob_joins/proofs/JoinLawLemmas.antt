@@ -1,5 +1,5 @@
 -- Joins of tables that are cut at a key.
-use Rattle.std.proofs.Common.{◌≡◌, ◌∙◌, ◌⊎◌, true, List, [], ◌∷◌, ◌++◌, map, All, Contains, Option, Some, None, inl, inr, refl, sym, ap₂}
+use Rattle.std.proofs.Common.{◌≡◌, ◌∙◌, ◌⊎◌, true, List, [], ◌∷◌, ◌++◌, All, Contains, Option, Some, None, inl, inr, refl, sym, ap₂}
 use Rattle.std.specs.Prelude.{⊤}
 use Rattle.std.specs.Cmp.{IsTotalOrder}
 use Rattle.std.specs.Map.{keys_of}

@@ -15,7 +15,7 @@ use Rattle.eob_both.specs.declared.either_or_both.EitherOrBoth.{EitherOrBoth}
 use Rattle.eob_both.specs.declared.either_or_both.EitherOrBoth.TheVariants.{Left, Both, Right}
 use Rattle.eob_both.specs.Places.{from_places, left_place, right_place}
 use Rattle.indexmap.specs.IndexMap.{insert_all, insert_entry}
-use Rattle.eob_joins.specs.MapJoin.{IsMapJoin, IsMapOverlay, MapPartsLaw, part_of}
+use Rattle.eob_joins.specs.MapJoin.{IsMapJoin, IsMapOverlay, MapPartsLaw}
 
 -- the entries of the left map, each with its value as left place
 abbrev pub lefts_of : {K A B : Type 0} → List (K × A) → List (K × EitherOrBoth A B)

@@ -1,11 +1,14 @@
 //! Tests of tables whose keys repeat.
 
 use either_or_both::EitherOrBoth;
+use either_or_both::join::outer_join_lazily;
 use eob_joins::{
-    GroupRow, group_by_key, group_join, group_join_unordered, group_join_unordered_in, is_ordered,
+    GroupRow, group_by_key, group_join, group_join_slices, group_join_unordered,
+    group_join_unordered_in, groups_of, is_ordered,
 };
 use eob_testkit::memory::{RUNS, Refusing, Runs, Tokens};
 use std::alloc::{AllocError, Global};
+use std::collections::BTreeMap;
 use std::test::Fail;
 
 type Table = Vec<(u32, u32)>;
@@ -28,6 +31,41 @@ fn under(alloc: Global, table: &[(u32, u32)], key: u32) -> Result<Vec<u32>, Allo
         }
     }
     Ok(values)
+}
+
+// So many rows in the order of their keys, and under each key the last row first.
+fn ordered(alloc: Global, rows: u32, step: u32, low: u32) -> Result<Table, AllocError> {
+    let mut table = table(alloc, rows, step, low)?;
+    table.reverse();
+    table.sort_by(|pair, next| pair.0.cmp(&next.0))?;
+    Ok(table)
+}
+
+// The pairs that a table has under a key, by a look at each row.
+fn pairs_under(alloc: Global, table: &[(u32, u32)], key: u32) -> Result<Table, AllocError> {
+    let mut pairs = Vec::new(alloc);
+    for pair in table {
+        if pair.0 == key {
+            pairs.push(*pair)?;
+        }
+    }
+    Ok(pairs)
+}
+
+// Parts of two tables, of which one without pairs is absent.
+fn parts<'a>(
+    left: &'a [(u32, u32)],
+    right: &'a [(u32, u32)],
+) -> Option<EitherOrBoth<&'a [(u32, u32)], &'a [(u32, u32)]>> {
+    if left.is_empty() && right.is_empty() {
+        None
+    } else if left.is_empty() {
+        Some(EitherOrBoth::Right(right))
+    } else if right.is_empty() {
+        Some(EitherOrBoth::Left(left))
+    } else {
+        Some(EitherOrBoth::Both(left, right))
+    }
 }
 
 // Whether the cells of a row are these values, of which a side without any is absent.
@@ -106,6 +144,64 @@ fn groups_of_one_table(rt: HostRuntime) -> Result<(), Fail> {
     for (key, values) in &groups {
         assert_eq!(rt; *values, under(alloc, &was, *key)?);
     }
+    Ok(())
+}
+
+/// The parts of a slice, each key once with all its pairs, and a hint that has room for them.
+#[test]
+fn groups_of_one_slice(rt: HostRuntime) -> Result<(), Fail> {
+    let alloc = rt.alloc();
+    let list = ordered(alloc, 400, 35, 0)?;
+    assert!(rt; is_ordered(&list));
+    let mut groups = groups_of(&list);
+    for key in 0..97 {
+        assert_eq!(rt; groups.size_hint().0, 1);
+        assert!(rt; groups.size_hint().1 >= Some(97 - key as usize));
+        let pairs = pairs_under(alloc, &list, key)?;
+        assert!(rt; groups.next() == Some((&key, pairs.as_slice())));
+    }
+    assert_eq!(rt; groups.size_hint(), (0, Some(0)));
+    assert!(rt; groups.next().is_none());
+    Ok(())
+}
+
+/// Two slices key by key, with the parts of each.
+#[test]
+fn slices_key_by_key(rt: HostRuntime) -> Result<(), Fail> {
+    let alloc = rt.alloc();
+    let left = ordered(alloc, 400, 35, 0)?;
+    let right = ordered(alloc, 300, 11, 40)?;
+    assert!(rt; is_ordered(&left) && is_ordered(&right));
+    let mut rows = group_join_slices(&left, &right);
+    for key in 0..200 {
+        let a = pairs_under(alloc, &left, key)?;
+        let b = pairs_under(alloc, &right, key)?;
+        if let Some(cells) = parts(&a, &b) {
+            assert!(rt; rows.next() == Some((&key, cells)));
+        }
+    }
+    assert!(rt; rows.next().is_none());
+    Ok(())
+}
+
+/// A slice whose keys repeat beside an ordered map that has each key once.
+#[test]
+fn slice_beside_a_map(rt: HostRuntime) -> Result<(), Fail> {
+    let alloc = rt.alloc();
+    let orders = [(1, 'a'), (1, 'b'), (4, 'c')];
+    let mut customers = BTreeMap::new(alloc);
+    customers.insert(1, "one")?;
+    customers.insert(2, "two")?;
+    assert!(rt; is_ordered(&orders));
+    let mut rows = Vec::new(alloc);
+    for row in outer_join_lazily(&customers, groups_of(&orders)) {
+        rows.push(row)?;
+    }
+    let text = format!(in alloc; "{rows:?}")?;
+    assert_eq!(rt;
+        text.as_str(),
+        "[(1, Both(\"one\", [(1, 'a'), (1, 'b')])), (2, Left(\"two\")), (4, Right([(4, 'c')]))]"
+    );
     Ok(())
 }
 

@@ -1,8 +1,8 @@
 use Rattle.std.proofs.Common.{◌≡◌, [], Vec, append-nil, arith, sym, ap, subst}
 use Rattle.std.proofs.lemmas.Grind.{common_steps}
 use Rattle.either_or_both.specs.Join.{Rising}
-use Rattle.eob_joins.specs.Groups.{AreGroups, shown_group}
-use Rattle.eob_joins.proofs.GroupLemmas.{AreGroups-groups, fewer_left, groups, more_groups, rises_raw}
+use Rattle.eob_joins.specs.Groups.{AreGroups, key_runs, shown_group}
+use Rattle.eob_joins.proofs.GroupLemmas.{AreGroups-groups, fewer_left, more_groups, rises_raw}
 use Rattle.eob_joins.proofs.groups.group_by_key_in.Goals as goal
 
 pub groups-smaller : goal.groups-smaller
@@ -13,7 +13,7 @@ groups-smaller g c =
 pub groups-preserved : goal.groups-preserved
 groups-preserved g c =
     more_groups g.K.Ord.cmp g.met.K.Ord.total shown_group c.groups.groups.items c.push.new.self.items (c.in-Some.key, c.in_ok-values-in-Some.values) (c.in-Some.key, c.in-Some.first)
-    c.pop_front.new.self.items c.groups.list.items c.take_group.new.list.items (groups g.K.Ord.cmp c.args.list.items)
+    c.pop_front.new.self.items c.groups.list.items c.take_group.new.list.items (key_runs g.K.Ord.cmp c.args.list.items)
     c.in-Some.ensures.items c.in_ok-values-in-Some.ensures.rest c.in_ok-push-in-Some.ensures.items (ap (λ vs. (c.in-Some.key, vs)) c.in_ok-values-in-Some.ensures.values) c.groups.invariant
 
 pub returns-in-None-clause-groups : goal.returns-in-None-clause-groups

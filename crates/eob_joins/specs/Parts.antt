@@ -1,0 +1,37 @@
+-- An ordered table cut into the parts that have one key each.
+use Rattle.std.specs.Prelude.{◌≡◌, true, List, ◌++◌, Option, Some, All, Contains, filter, flat_map, map}
+use Rattle.std.specs.Borrow.{Bor}
+use Rattle.std.specs.Iterator.Runs.{Run, AllItems}
+use Rattle.std.specs.Map.{keys_of}
+use Rattle.std.specs.Map.Iter.{deref_pair}
+use Rattle.std.specs.Ordering.{is_eq}
+use Rattle.std.specs.declared.cmp.Ordering.{Ordering}
+use Rattle.either_or_both.specs.Join.{Rising, value_under}
+use Rattle.eob_joins.specs.Groups.{key_runs, some_items}
+use Rattle.eob_joins.specs.declared.parts.GroupRefs.{GroupRefs}
+
+module _ {K V : Type 0} (cmp : K → K → Ordering) where
+  -- the pairs that a table has under a key, in order, where there are some
+  abbrev pub part_under : List (K × V) → K → Option (List (K × V))
+  part_under xs k = some_items (filter (λ x. is_eq (cmp k x.0)) xs)
+
+  -- the parts of neighbours with equal keys, each under its first key
+  abbrev pub parts_of : List (K × V) → List (K × List (K × V))
+  parts_of xs = key_runs cmp (map (λ x. (x.0, x)) xs)
+
+  -- the parts that an iterator has still to give
+  abbrev pub parts_left : GroupRefs K V → List (K × List (K × V))
+  parts_left s = parts_of s.rest.now
+
+  -- the keys of gs rise, and are keys of xs; under each key gs has the pairs that xs has there; and one after the other they are xs
+  pub record AreParts (xs : List (K × V)) (gs : List (K × List (K × V))) : Type 0 where
+    pub rises : Rising cmp gs
+    pub values : (k : K) → value_under cmp gs k ≡ part_under xs k
+    pub keys : All (λ g. Contains (keys_of xs) g.0) gs
+    pub whole : flat_map (λ g. g.1) gs ≡ xs
+
+  -- p showed parts of the table, each with all pairs of its key; they are a beginning of its parts, and all of them where p ended
+  abbrev pub ShowsParts : {S : Type 0} {steps : S → Option (Bor K × Bor (List (K × V))) → S → Type 0} → List (K × V) → Run steps → Type 0
+  ShowsParts xs p = (p.whole ≡ true → AreParts xs (map deref_pair p.items)) × Rising cmp (map deref_pair p.items)
+      × AllItems p (λ g. part_under xs g.0.now ≡ Some g.1.now)
+      × ((rest : List (K × List (K × V))) × AreParts xs (map deref_pair p.items ++ rest))
