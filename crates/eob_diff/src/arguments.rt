@@ -35,6 +35,12 @@ pub enum Request<'a> {
         old: &'a str,
         changes: &'a str,
     },
+    /// Two versions of a table merged over their base.
+    Merge {
+        base: &'a str,
+        ours: &'a str,
+        theirs: &'a str,
+    },
     /// Two tables joined by key.
     Join {
         left: &'a str,
@@ -51,10 +57,11 @@ pub fn parse<'a>(
 ) -> Result<(Option<Settings<'a>>, Request<'a>), Error> {
     let command = Command::new(alloc, "eob_diff")
         .version("0.1.0")
-        .about("Compares tables of CSV by key.")
+        .about("Compares, changes, merges and joins tables of CSV by key.")
         .subcommand_required(true)
         .subcommand(diff_command(alloc)?)?
         .subcommand(apply_command(alloc)?)?
+        .subcommand(merge_command(alloc)?)?
         .subcommand(join_command(alloc)?)?;
     let matches = command.try_get_matches_from(words)?;
     match matches.subcommand() {
@@ -69,6 +76,11 @@ fn request_of<'a>(name: &str, matches: &ArgMatches<'a>) -> Request<'a> {
         "apply" => Request::Apply {
             old,
             changes: matches.get_str("CHANGES").unwrap_or("-"),
+        },
+        "merge" => Request::Merge {
+            base: matches.get_str("BASE").unwrap_or("-"),
+            ours: matches.get_str("OURS").unwrap_or("-"),
+            theirs: matches.get_str("THEIRS").unwrap_or("-"),
         },
         "join" => Request::Join {
             left: matches.get_str("LEFT").unwrap_or("-"),
@@ -109,6 +121,17 @@ fn apply_command<'a>(alloc: Global) -> Result<Command<'a>, AllocError> {
             "CHANGES",
             "What diff --format csv printed; - is the standard input",
         ))?;
+    with_settings(alloc, command)
+}
+
+fn merge_command<'a>(alloc: Global) -> Result<Command<'a>, AllocError> {
+    let command = Command::new(alloc, "merge")
+        .about(
+            "Prints two versions of a table merged over their base. Status 0: merged, 1: rows in conflict, 2: trouble.",
+        )
+        .arg(file(alloc, "BASE", "The base; - is the standard input"))?
+        .arg(file(alloc, "OURS", "Our version; - is the standard input"))?
+        .arg(file(alloc, "THEIRS", "Their version; - is the standard input"))?;
     with_settings(alloc, command)
 }
 

@@ -1,19 +1,23 @@
 //! `eob_diff`: what changed between two tables, tables joined, changed and merged by key.
 //!
-//! Here the process is handed to the run. What the command line asks for stands in `arguments`, how a request is answered in `run`.
+//! Here the process is handed to the run. What the command line asks for stands in `arguments`, how a request is answered in `answers`.
 #![tactic(auto)]
 
+mod answers;
 mod arguments;
 mod changes;
 mod fault;
 mod joined;
 mod lined_up;
+mod merged;
 mod patch;
 mod read;
 mod run;
 mod table;
 #[cfg(test)]
 mod tests;
+#[cfg(test)]
+mod tests_merge;
 mod written;
 
 use std::process::ExitCode;

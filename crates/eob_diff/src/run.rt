@@ -1,25 +1,13 @@
 //! From the process to the request, and from the answer to the process: the streams, and how the program ends.
 
-use crate::arguments::{Kind, Request, Settings, parse};
-use crate::changes::{changes_of, count, render};
+use crate::answers::{Answer, Opened, at, change, compare, join, merge};
+use crate::arguments::{Request, Settings, parse};
 use crate::fault::{Fault, Reason};
-use crate::joined::{JoinColumns, write_join};
-use crate::patch::{misfits, paired, patched};
 use crate::read::Source;
-use crate::table::{Cells, Columns, Rows, add_names, copy_cells};
-use crate::written::{write_changes, write_table};
 use either_or_both::Either;
-use std::alloc::{AllocError, Global};
-use std::io::{Read, Write};
+use std::io::Write;
 use std::rt::{Env, Files};
 use std::{fs, io};
-
-/// What stands on the output, and the status that the program ends with.
-#[derive(Drop)]
-pub struct Answer {
-    pub bytes: Vec<u8>,
-    pub status: u8,
-}
 
 // The status of trouble.
 const TROUBLE: u8 = 2;
@@ -71,23 +59,44 @@ fn answer_request<'a, R: Files + Input + AllocGlobal>(
     settings: Settings<'a>,
     request: Request<'a>,
 ) -> Result<Answer, Fault<'a>> {
-    let (first, second) = match request {
-        Request::Diff { old, new, .. } => (old, new),
-        Request::Apply { old, changes } => (old, changes),
-        Request::Join { left, right, .. } => (left, right),
-    };
-    if first == "-" && second == "-" {
-        return Err(Fault {
-            file: second,
-            reason: Reason::TwiceStdin,
-        });
-    }
-    let left = (first, open(rt, settings, first)?);
-    let right = (second, open(rt, settings, second)?);
     match request {
-        Request::Diff { csv, .. } => compare(rt.alloc(), settings, csv, left, right),
-        Request::Apply { .. } => change(rt.alloc(), settings, left, right),
-        Request::Join { kind, .. } => join(rt.alloc(), settings, kind, left, right),
+        Request::Diff { old, new, csv } => {
+            check_stdin(&[old, new])?;
+            let old = open(rt, settings, old)?;
+            let new = open(rt, settings, new)?;
+            compare(rt.alloc(), settings, csv, old, new)
+        }
+        Request::Apply { old, changes } => {
+            check_stdin(&[old, changes])?;
+            let old = open(rt, settings, old)?;
+            let changes = open(rt, settings, changes)?;
+            change(rt.alloc(), settings, old, changes)
+        }
+        Request::Merge { base, ours, theirs } => {
+            check_stdin(&[base, ours, theirs])?;
+            let base = open(rt, settings, base)?;
+            let ours = open(rt, settings, ours)?;
+            let theirs = open(rt, settings, theirs)?;
+            merge(rt.alloc(), settings, base, ours, theirs)
+        }
+        Request::Join { left, right, kind } => {
+            check_stdin(&[left, right])?;
+            let left = open(rt, settings, left)?;
+            let right = open(rt, settings, right)?;
+            join(rt.alloc(), settings, kind, left, right)
+        }
+    }
+}
+
+// One of the files at most is the standard input.
+fn check_stdin<'a>(files: &[&'a str]) -> Result<(), Fault<'a>> {
+    if files.iter().filter(|file| **file == "-").count() > 1 {
+        Err(Fault {
+            file: "-",
+            reason: Reason::TwiceStdin,
+        })
+    } else {
+        Ok(())
     }
 }
 
@@ -98,7 +107,7 @@ fn open<'a, R: Files + Input + AllocGlobal>(
     rt: &R,
     settings: Settings<'a>,
     file: &'a str,
-) -> Result<Source<Stream<R>>, Fault<'a>> {
+) -> Result<Opened<'a, Stream<R>>, Fault<'a>> {
     let stream = if file == "-" {
         Either::Right(rt.reader())
     } else {
@@ -110,158 +119,6 @@ fn open<'a, R: Files + Input + AllocGlobal>(
             }),
         }
     };
-    at(file, Source::open(rt.alloc(), stream, settings.delimiter))
-}
-
-fn at<'a, T: Drop>(file: &'a str, outcome: Result<T, Reason>) -> Result<T, Fault<'a>> {
-    match outcome {
-        Ok(value) => Ok(value),
-        Err(reason) => Err(Fault { file, reason }),
-    }
-}
-
-/// The answer to `diff`.
-pub fn compare<'a, A: Read + Drop, B: Read + Drop>(
-    alloc: Global,
-    settings: Settings<'a>,
-    csv: bool,
-    old: (&'a str, Source<A>),
-    new: (&'a str, Source<B>),
-) -> Result<Answer, Fault<'a>> {
-    let columns = columns_of(alloc, settings, &old.1.header, &new.1.header);
-    let columns = at(old.0, columns)?;
-    let left = at(old.0, old.1.read_rows(&columns))?;
-    let right = at(new.0, new.1.read_rows(&columns))?;
-    at(
-        new.0,
-        compared(alloc, settings.delimiter, csv, &columns, left, right),
-    )
-}
-
-fn compared(
-    alloc: Global,
-    delimiter: u8,
-    csv: bool,
-    columns: &Columns,
-    old: Rows<Cells, Cells>,
-    new: Rows<Cells, Cells>,
-) -> Result<Answer, Reason> {
-    let rows = old.pairs.len();
-    let changes = changes_of(alloc, old, new)?;
-    let bytes = if csv {
-        write_changes(alloc, delimiter, columns, &changes)?
-    } else {
-        render(alloc, columns, &changes, count(rows, &changes))?.into_bytes()
-    };
-    Ok(Answer {
-        bytes,
-        status: if changes.is_empty() { 0 } else { 1 },
-    })
-}
-
-/// The answer to `apply`.
-pub fn change<'a, A: Read + Drop, B: Read + Drop>(
-    alloc: Global,
-    settings: Settings<'a>,
-    old: (&'a str, Source<A>),
-    changes: (&'a str, Source<B>),
-) -> Result<Answer, Fault<'a>> {
-    let names = changes.1.header.get(1..).unwrap_or(&[]);
-    let columns = columns_of(alloc, settings, &old.1.header, names);
-    let columns = at(old.0, columns)?;
-    let rows = at(old.0, old.1.read_rows(&columns))?;
-    let (gone, come) = at(changes.0, changes.1.read_changes(&columns))?;
-    at(
-        changes.0,
-        changed(alloc, settings.delimiter, &columns, rows, (gone, come)),
-    )
-}
-
-fn changed(
-    alloc: Global,
-    delimiter: u8,
-    columns: &Columns,
-    old: Rows<Cells, Cells>,
-    changes: (Rows<Cells, Cells>, Rows<Cells, Cells>),
-) -> Result<Answer, Reason> {
-    let changes = paired(alloc, changes.0, changes.1)?;
-    let misfits = misfits(alloc, columns, &old, &changes)?;
-    if !misfits.is_empty() {
-        return Ok(Answer {
-            bytes: misfits.into_bytes(),
-            status: 1,
-        });
-    }
-    let rows = patched(alloc, old, changes)?;
-    Ok(Answer {
-        bytes: write_table(alloc, delimiter, columns, &rows)?,
-        status: 0,
-    })
-}
-
-/// The answer to `join`.
-pub fn join<'a, A: Read + Drop, B: Read + Drop>(
-    alloc: Global,
-    settings: Settings<'a>,
-    kind: Kind,
-    left: (&'a str, Source<A>),
-    right: (&'a str, Source<B>),
-) -> Result<Answer, Fault<'a>> {
-    let columns = at(
-        left.0,
-        join_columns(alloc, settings, &left.1.header, &right.1.header),
-    )?;
-    let left_rows = at(left.0, left.1.read_rows(&columns.left))?;
-    let right_rows = at(right.0, right.1.read_rows(&columns.right))?;
-    let joined = write_join(
-        alloc,
-        settings.delimiter,
-        kind,
-        &columns,
-        left_rows,
-        right_rows,
-    );
-    Ok(Answer {
-        bytes: at(right.0, joined)?,
-        status: 0,
-    })
-}
-
-fn join_columns(
-    alloc: Global,
-    settings: Settings<'_>,
-    left: &[Vec<u8>],
-    right: &[Vec<u8>],
-) -> Result<JoinColumns, Reason> {
-    let left = columns_of(alloc, settings, left, &[])?;
-    let key = copy_cells(alloc, &left.key)?;
-    let mut rest = Vec::new(alloc);
-    add_names(&mut rest, right, &key)?;
-    Ok(JoinColumns {
-        left,
-        right: Columns { key, rest },
-    })
-}
-
-// The columns of both tables: the key, and then all others.
-fn columns_of(
-    alloc: Global,
-    settings: Settings<'_>,
-    old: &[Vec<u8>],
-    new: &[Vec<u8>],
-) -> Result<Columns, Reason> {
-    let key = match settings.key {
-        Some(names) => {
-            let mut key = Vec::new(alloc);
-            for name in names.split(',') {
-                key.push(Vec::from_slice(alloc, name.as_bytes())?)?;
-            }
-            key
-        }
-        None => copy_cells(alloc, old.get(..1).unwrap_or(old))?,
-    };
-    let mut rest = Vec::new(alloc);
-    add_names(&mut rest, old, &key)?;
-    add_names(&mut rest, new, &key)?;
-    Ok(Columns { key, rest })
+    let source = at(file, Source::open(rt.alloc(), stream, settings.delimiter))?;
+    Ok((file, source))
 }

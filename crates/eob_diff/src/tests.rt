@@ -1,13 +1,13 @@
 //! Tests: tables of hundreds of rows made by a rule, changes made again, and what is said of inputs that are bad.
+use crate::answers::{Answer, change, compare, join, merge};
 use crate::arguments::{Kind, Settings};
 use crate::fault::{Fault, Reason};
 use crate::read::Source;
-use crate::run::{Answer, change, compare, join};
 use std::alloc::{AllocError, Global};
 use std::fmt::Write;
 use std::test::Fail;
 
-const PLAIN: Settings<'static> = Settings {
+pub const PLAIN: Settings<'static> = Settings {
     delimiter: b',',
     key: None,
 };
@@ -53,7 +53,7 @@ fn compared<'a>(alloc: Global, old: &[u8], new: &[u8], csv: bool) -> Result<Answ
     compare(alloc, PLAIN, csv, ("old", left), ("new", right))
 }
 
-fn opened<'a, 't>(
+pub fn opened<'a, 't>(
     alloc: Global,
     file: &'a str,
     text: &'t [u8],
