@@ -1,16 +1,17 @@
 //! The answer to each request, from tables whose headers are read.
 
-use crate::arguments::{Kind, Settings};
+use crate::arguments::{Form, Kind, Settings};
 use crate::changes::{changes_of, count, render};
 use crate::fault::{Fault, Reason};
 use crate::joined::{JoinColumns, write_join};
 use crate::merged::{merge_of, render_conflicts};
+use crate::order::Order;
 use crate::patch::{misfits, paired, patched};
 use crate::read::Source;
-use crate::table::{Cells, Columns, Rows, add_names, copy_cells};
+use crate::table::{Cells, Columns, Rows, copy_cells};
 use crate::written::{write_changes, write_table};
 use eob_joins::Merged;
-use std::alloc::Global;
+use std::alloc::{AllocError, Global};
 use std::io::Read;
 
 /// What stands on the output, and the status that the program ends with.
@@ -24,10 +25,16 @@ pub struct Answer {
 pub type Opened<'a, R> = (&'a str, Source<R>);
 
 /// The outcome, with the file that it is of.
-pub fn at<'a, T: Drop>(file: &'a str, outcome: Result<T, Reason>) -> Result<T, Fault<'a>> {
+pub fn at<'a, T: Drop, E: Drop>(file: &'a str, outcome: Result<T, E>) -> Result<T, Fault<'a>>
+where
+    Reason: From<E>,
+{
     match outcome {
         Ok(value) => Ok(value),
-        Err(reason) => Err(Fault { file, reason }),
+        Err(error) => Err(Fault {
+            file,
+            reason: Reason::from(error),
+        }),
     }
 }
 
@@ -39,28 +46,30 @@ pub fn compare<'a, A: Read + Drop, B: Read + Drop>(
     old: Opened<'a, A>,
     new: Opened<'a, B>,
 ) -> Result<Answer, Fault<'a>> {
-    let columns = columns_of(alloc, settings, &[&old.1.header, &new.1.header]);
-    let columns = at(old.0, columns)?;
-    let left = at(old.0, old.1.read_rows(&columns))?;
-    let right = at(new.0, new.1.read_rows(&columns))?;
+    let headers = [old.1.header.as_slice(), new.1.header.as_slice()];
+    let columns = at(old.0, columns_of(alloc, settings, &headers))?;
+    let mut order = order_of(alloc, settings);
+    let left = at(old.0, old.1.read_rows(&columns, &mut order))?;
+    let right = at(new.0, new.1.read_rows(&columns, &mut order))?;
     at(
         new.0,
-        compared(alloc, settings.delimiter, csv, &columns, left, right),
+        compared(alloc, settings.form, csv, &columns, &order, left, right),
     )
 }
 
 fn compared(
     alloc: Global,
-    delimiter: u8,
+    form: Form,
     csv: bool,
     columns: &Columns,
+    order: &Order,
     old: Rows<Cells, Cells>,
     new: Rows<Cells, Cells>,
 ) -> Result<Answer, Reason> {
     let rows = old.pairs.len();
-    let changes = changes_of(alloc, old, new)?;
+    let changes = order.arrange(changes_of(alloc, old, new)?)?;
     let bytes = if csv {
-        write_changes(alloc, delimiter, columns, &changes)?
+        write_changes(alloc, form, columns, &changes)?
     } else {
         render(alloc, columns, &changes, count(rows, &changes))?.into_bytes()
     };
@@ -77,21 +86,22 @@ pub fn change<'a, A: Read + Drop, B: Read + Drop>(
     old: Opened<'a, A>,
     changes: Opened<'a, B>,
 ) -> Result<Answer, Fault<'a>> {
-    let names = changes.1.header.get(1..).unwrap_or(&[]);
-    let columns = columns_of(alloc, settings, &[&old.1.header, names]);
-    let columns = at(old.0, columns)?;
-    let rows = at(old.0, old.1.read_rows(&columns))?;
-    let (gone, come) = at(changes.0, changes.1.read_changes(&columns))?;
+    let headers = [old.1.header.as_slice(), changes.1.header.as_slice()];
+    let columns = at(old.0, columns_of(alloc, settings, &headers))?;
+    let mut order = order_of(alloc, settings);
+    let rows = at(old.0, old.1.read_rows(&columns, &mut order))?;
+    let changed_rows = at(changes.0, changes.1.read_changes(&columns, &mut order))?;
     at(
         changes.0,
-        changed(alloc, settings.delimiter, &columns, rows, (gone, come)),
+        changed(alloc, settings.form, &columns, &order, rows, changed_rows),
     )
 }
 
 fn changed(
     alloc: Global,
-    delimiter: u8,
+    form: Form,
     columns: &Columns,
+    order: &Order,
     old: Rows<Cells, Cells>,
     changes: (Rows<Cells, Cells>, Rows<Cells, Cells>),
 ) -> Result<Answer, Reason> {
@@ -103,9 +113,9 @@ fn changed(
             status: 1,
         });
     }
-    let rows = patched(alloc, old, changes)?;
+    let rows = order.arrange(patched(alloc, old, changes)?)?;
     Ok(Answer {
-        bytes: write_table(alloc, delimiter, columns, &rows)?,
+        bytes: write_table(alloc, form, columns, &rows)?,
         status: 0,
     })
 }
@@ -118,43 +128,38 @@ pub fn merge<'a, A: Read + Drop, B: Read + Drop, C: Read + Drop>(
     ours: Opened<'a, B>,
     theirs: Opened<'a, C>,
 ) -> Result<Answer, Fault<'a>> {
-    let columns = columns_of(
-        alloc,
-        settings,
-        &[&base.1.header, &ours.1.header, &theirs.1.header],
-    );
-    let columns = at(base.0, columns)?;
-    let base_rows = at(base.0, base.1.read_rows(&columns))?;
-    let our_rows = at(ours.0, ours.1.read_rows(&columns))?;
-    let their_rows = at(theirs.0, theirs.1.read_rows(&columns))?;
+    let headers = [
+        base.1.header.as_slice(),
+        ours.1.header.as_slice(),
+        theirs.1.header.as_slice(),
+    ];
+    let columns = at(base.0, columns_of(alloc, settings, &headers))?;
+    // The base is not written: rows come out in the order of ours, and then in that of theirs.
+    let mut order = order_of(alloc, settings);
+    let our_rows = at(ours.0, ours.1.read_rows(&columns, &mut order))?;
+    let their_rows = at(theirs.0, theirs.1.read_rows(&columns, &mut order))?;
+    let base_rows = at(base.0, base.1.read_rows(&columns, &mut Order::by_key()))?;
+    let merge = merge_of(alloc, base_rows, our_rows, their_rows);
     at(
         theirs.0,
-        merged(
-            alloc,
-            settings.delimiter,
-            &columns,
-            base_rows,
-            our_rows,
-            their_rows,
-        ),
+        merged(alloc, settings.form, &columns, &order, merge),
     )
 }
 
 fn merged(
     alloc: Global,
-    delimiter: u8,
+    form: Form,
     columns: &Columns,
-    base: Rows<Cells, Cells>,
-    ours: Rows<Cells, Cells>,
-    theirs: Rows<Cells, Cells>,
+    order: &Order,
+    merge: Result<Merged<Cells, Cells>, AllocError>,
 ) -> Result<Answer, Reason> {
-    match merge_of(alloc, base, ours, theirs)? {
+    match merge? {
         Merged::Whole(rows) => Ok(Answer {
-            bytes: write_table(alloc, delimiter, columns, &rows)?,
+            bytes: write_table(alloc, form, columns, &order.arrange(rows)?)?,
             status: 0,
         }),
         Merged::Conflicts(rows) => Ok(Answer {
-            bytes: render_conflicts(alloc, columns, &rows)?.into_bytes(),
+            bytes: render_conflicts(alloc, columns, &order.arrange(rows)?)?.into_bytes(),
             status: 1,
         }),
     }
@@ -172,13 +177,15 @@ pub fn join<'a, A: Read + Drop, B: Read + Drop>(
         left.0,
         join_columns(alloc, settings, &left.1.header, &right.1.header),
     )?;
-    let left_rows = at(left.0, left.1.read_rows(&columns.left))?;
-    let right_rows = at(right.0, right.1.read_rows(&columns.right))?;
+    let mut order = order_of(alloc, settings);
+    let left_rows = at(left.0, left.1.read_rows(&columns.left, &mut order))?;
+    let right_rows = at(right.0, right.1.read_rows(&columns.right, &mut order))?;
     let joined = write_join(
         alloc,
-        settings.delimiter,
+        settings.form,
         kind,
         &columns,
+        &order,
         left_rows,
         right_rows,
     );
@@ -193,37 +200,40 @@ fn join_columns(
     settings: Settings<'_>,
     left: &[Vec<u8>],
     right: &[Vec<u8>],
-) -> Result<JoinColumns, Reason> {
+) -> Result<JoinColumns, AllocError> {
     let left = columns_of(alloc, settings, &[left])?;
     let key = copy_cells(alloc, &left.key)?;
-    let mut rest = Vec::new(alloc);
-    add_names(&mut rest, right, &key)?;
-    Ok(JoinColumns {
-        left,
-        right: Columns { key, rest },
-    })
+    let right = Columns::new(alloc, key, &[right])?;
+    Ok(JoinColumns { left, right })
 }
 
-// The columns of all tables: the key, and then the others, in the order of the headers.
+fn order_of(alloc: Global, settings: Settings<'_>) -> Order {
+    if settings.keeps_order {
+        Order::by_file(alloc)
+    } else {
+        Order::by_key()
+    }
+}
+
+// The columns of all tables, with the key that is set or else the first column.
 fn columns_of(
     alloc: Global,
     settings: Settings<'_>,
     headers: &[&[Vec<u8>]],
-) -> Result<Columns, Reason> {
-    let first: &[Vec<u8>] = headers.first().copied().unwrap_or(&[]);
-    let key = match settings.key {
+) -> Result<Columns, AllocError> {
+    let mut key = Vec::new(alloc);
+    match settings.key {
         Some(names) => {
-            let mut key = Vec::new(alloc);
             for name in names.split(',') {
                 key.push(Vec::from_slice(alloc, name.as_bytes())?)?;
             }
-            key
         }
-        None => copy_cells(alloc, first.get(..1).unwrap_or(first))?,
-    };
-    let mut rest = Vec::new(alloc);
-    for header in headers {
-        add_names(&mut rest, header, &key)?;
+        None => {
+            // An empty file with no header has no column.
+            if let Some(name) = headers.iter().filter_map(|header| header.first()).next() {
+                key.push(name.clone()?)?;
+            }
+        }
     }
-    Ok(Columns { key, rest })
+    Columns::new(alloc, key, headers)
 }

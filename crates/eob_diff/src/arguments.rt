@@ -1,13 +1,22 @@
 //! What the command line asks for.
 
-use clap::{Arg, ArgMatches, Command, Error};
+use clap::{Arg, ArgAction, ArgMatches, Command, Error};
 use std::alloc::{AllocError, Global};
 
-/// What all requests may set: the byte between cells, and the names of the columns that are the key.
+/// How tables are written: the byte between cells, and whether the first row is a header. Where it is not, columns are named by number.
+#[derive(Clone, Copy)]
+pub struct Form {
+    pub delimiter: u8,
+    pub has_header: bool,
+}
+
+/// What all requests may set: how tables are written, the names of the columns that are the key, and whether rows come out in the order
+/// of the files and not in that of their keys.
 #[derive(Clone, Copy)]
 pub struct Settings<'a> {
-    pub delimiter: u8,
+    pub form: Form,
     pub key: Option<&'a str>,
+    pub keeps_order: bool,
 }
 
 /// Which rows a join has, of which tables.
@@ -181,7 +190,24 @@ fn with_settings<'a>(alloc: Global, command: Command<'a>) -> Result<Command<'a>,
                 .value_name("BYTE")
                 .default_value(",")
                 .help("The byte between cells"),
-        )
+        )?
+        .arg(flag(
+            alloc,
+            "no-header",
+            "The first row is no header: columns are named 1, 2 and so on",
+        ))?
+        .arg(flag(
+            alloc,
+            "keep-order",
+            "Rows come out in the order of the files, and not in that of their keys",
+        ))
+}
+
+fn flag<'a>(alloc: Global, name: &'a str, help: &'a str) -> Arg<'a> {
+    Arg::new(alloc, name)
+        .long(name)
+        .action(ArgAction::SetTrue)
+        .help(help)
 }
 
 // The settings, or None where the delimiter is not one byte that may stand between cells.
@@ -192,7 +218,11 @@ fn settings_of<'a>(matches: &ArgMatches<'a>) -> Option<Settings<'a>> {
         _ => return None,
     };
     Some(Settings {
-        delimiter,
+        form: Form {
+            delimiter,
+            has_header: !matches.get_flag("no-header"),
+        },
         key: matches.get_str("key"),
+        keeps_order: matches.get_flag("keep-order"),
     })
 }

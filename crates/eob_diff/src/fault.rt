@@ -90,7 +90,7 @@ impl fmt::Display for Reason {
                 found,
             } => write!(
                 f,
-                "line {line}: {found} cells, and the header has {expected}"
+                "line {line}: {found} cells, and there are {expected} columns"
             ),
             Reason::RepeatedKey { key, first, second } => {
                 write!(f, "line {second}: the key ")?;

@@ -1,7 +1,8 @@
 //! Joins of two tables, written as CSV: an absent side has empty cells.
 
-use crate::arguments::Kind;
+use crate::arguments::{Form, Kind};
 use crate::fault::Reason;
+use crate::order::Order;
 use crate::table::{Cells, Columns, Rows, place_of};
 use crate::written::{Written, write_table};
 use either_or_both::EitherOrBoth;
@@ -19,46 +20,46 @@ pub struct JoinColumns {
 /// The join as CSV.
 pub fn write_join(
     alloc: Global,
-    delimiter: u8,
+    form: Form,
     kind: Kind,
     columns: &JoinColumns,
+    order: &Order,
     left: Rows<Cells, Cells>,
     right: Rows<Cells, Cells>,
 ) -> Result<Vec<u8>, Reason> {
-    let mut written = Written::new(alloc, delimiter);
+    let mut written = Written::new(alloc, form);
     match kind {
         Kind::Semi => {
-            let rows = semi_join(alloc, left.pairs, right.pairs)?;
-            return write_table(alloc, delimiter, &columns.left, &rows);
+            let rows = order.arrange(semi_join(alloc, left.pairs, right.pairs)?)?;
+            return write_table(alloc, form, &columns.left, &rows);
         }
         Kind::Anti => {
-            let rows = anti_join(alloc, left.pairs, right.pairs)?;
-            return write_table(alloc, delimiter, &columns.left, &rows);
+            let rows = order.arrange(anti_join(alloc, left.pairs, right.pairs)?)?;
+            return write_table(alloc, form, &columns.left, &rows);
         }
         Kind::Outer => {
-            written.put_cell(b"side")?;
-            put_heading(alloc, &mut written, columns)?;
-            for (key, cells) in outer_join(alloc, left.pairs, right.pairs)? {
+            put_heading(alloc, form, &mut written, kind, columns)?;
+            for (key, cells) in order.arrange(outer_join(alloc, left.pairs, right.pairs)?)? {
                 written.put_cell(side(&cells))?;
                 let cells = cells.as_ref();
                 put_row(&mut written, columns, &key, cells.left(), cells.right())?;
             }
         }
         Kind::Inner => {
-            put_heading(alloc, &mut written, columns)?;
-            for (key, (a, b)) in inner_join(alloc, left.pairs, right.pairs)? {
+            put_heading(alloc, form, &mut written, kind, columns)?;
+            for (key, (a, b)) in order.arrange(inner_join(alloc, left.pairs, right.pairs)?)? {
                 put_row(&mut written, columns, &key, Some(&a), Some(&b))?;
             }
         }
         Kind::Left => {
-            put_heading(alloc, &mut written, columns)?;
-            for (key, (a, b)) in left_join(alloc, left.pairs, right.pairs)? {
+            put_heading(alloc, form, &mut written, kind, columns)?;
+            for (key, (a, b)) in order.arrange(left_join(alloc, left.pairs, right.pairs)?)? {
                 put_row(&mut written, columns, &key, Some(&a), b.as_ref())?;
             }
         }
         Kind::Right => {
-            put_heading(alloc, &mut written, columns)?;
-            for (key, (b, a)) in left_join(alloc, right.pairs, left.pairs)? {
+            put_heading(alloc, form, &mut written, kind, columns)?;
+            for (key, (b, a)) in order.arrange(left_join(alloc, right.pairs, left.pairs)?)? {
                 put_row(&mut written, columns, &key, a.as_ref(), Some(&b))?;
             }
         }
@@ -75,8 +76,20 @@ fn side(cells: &EitherOrBoth<Cells, Cells>) -> &'static [u8] {
     }
 }
 
-// The names of the columns. One that both tables have is told apart by a word before it.
-fn put_heading(alloc: Global, written: &mut Written, columns: &JoinColumns) -> Result<(), Reason> {
+// The header, where tables have one. A name that both tables have is told apart by a word before it.
+fn put_heading(
+    alloc: Global,
+    form: Form,
+    written: &mut Written,
+    kind: Kind,
+    columns: &JoinColumns,
+) -> Result<(), Reason> {
+    if !form.has_header {
+        return Ok(());
+    }
+    if let Kind::Outer = kind {
+        written.put_cell(b"side")?;
+    }
     written.put(&columns.left.key)?;
     put_names(
         alloc,

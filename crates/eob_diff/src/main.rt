@@ -10,12 +10,15 @@ mod fault;
 mod joined;
 mod lined_up;
 mod merged;
+mod order;
 mod patch;
 mod read;
 mod run;
 mod table;
 #[cfg(test)]
 mod tests;
+#[cfg(test)]
+mod tests_form;
 #[cfg(test)]
 mod tests_merge;
 mod written;

@@ -1,56 +1,82 @@
 //! From a reader to a table: the header first, and then the rows under the columns that are asked for.
 
+use crate::arguments::Form;
 use crate::fault::Reason;
+use crate::order::Order;
 use crate::table::{Cells, Columns, Rows, place_of};
 use csv::{ByteRecord, Reader, ReaderBuilder};
 use either_or_both::join::is_rising;
 use std::alloc::{AllocError, Global};
 use std::io::Read;
 
-/// A reader whose header is read, and whose rows are not.
+/// A reader whose names of columns are known, and whose rows are not read.
 #[derive(Drop)]
 pub struct Source<R> {
     alloc: Global,
     reader: Reader<R>,
+    // The first row, where it is no header.
+    first: Option<ByteRecord>,
+    // How many cells stand before those of the columns: one of a table of changes, for the sign.
+    before: usize,
     pub header: Cells,
 }
 
 impl<R: Read + Drop> Source<R> {
-    /// Reads the header: names of columns, of which no two are the same.
-    pub fn open(alloc: Global, reader: R, delimiter: u8) -> Result<Self, Reason> {
+    /// Reads the header: names of columns, of which no two are the same. Where there is none, the columns have numbers for names, and an
+    /// empty file has no column.
+    pub fn open(alloc: Global, reader: R, form: Form) -> Result<Self, Reason> {
+        Source::open_after(alloc, reader, form, 0)
+    }
+
+    /// Reads the header of a table of changes, whose first column is the sign.
+    pub fn open_changes(alloc: Global, reader: R, form: Form) -> Result<Self, Reason> {
+        Source::open_after(alloc, reader, form, 1)
+    }
+
+    fn open_after(alloc: Global, reader: R, form: Form, before: usize) -> Result<Self, Reason> {
         let mut reader = ReaderBuilder::new()
-            .delimiter(delimiter)
+            .delimiter(form.delimiter)
             .has_headers(false)
             .from_reader(alloc, reader);
         let mut record = ByteRecord::new(alloc);
-        if !reader.read_byte_record(&mut record)? {
+        let is_there = reader.read_byte_record(&mut record)?;
+        if form.has_header && !is_there {
             return Err(Reason::NoHeader);
         }
-        let mut header: Cells = Vec::new(alloc);
-        for name in record.iter() {
-            let name = Vec::from_slice(alloc, name)?;
-            if place_of(&header, &name).is_some() {
-                return Err(Reason::RepeatedColumn(name));
-            }
-            header.push(name)?;
-        }
+        let header = if form.has_header {
+            names_of(alloc, &record, before)?
+        } else {
+            numbers(alloc, record.len().saturating_sub(before))?
+        };
         Ok(Source {
             alloc,
             reader,
+            first: if form.has_header || !is_there {
+                None
+            } else {
+                Some(record)
+            },
+            before,
             header,
         })
     }
 
     /// Reads the rows, and sorts them by key. A cell of a column that the header lacks is empty.
-    pub fn read_rows(mut self, columns: &Columns) -> Result<Rows<Cells, Cells>, Reason> {
-        let places = Places::new(self.alloc, &self.header, columns)?;
+    pub fn read_rows(
+        mut self,
+        columns: &Columns,
+        order: &mut Order,
+    ) -> Result<Rows<Cells, Cells>, Reason> {
+        let places = Places::new(self.alloc, &self.header, self.before, columns)?;
         let mut rows = Vec::new(self.alloc);
         let mut record = ByteRecord::new(self.alloc);
         for _ in 0..u64::MAX {
-            if !self.reader.read_byte_record(&mut record)? {
+            if !self.read_record(&mut record)? {
                 break;
             }
-            rows.push(places.pick_row(self.alloc, &record)?)?;
+            let row = places.pick_row(self.alloc, &record)?;
+            order.note(&row.0)?;
+            rows.push(row)?;
         }
         sorted(self.alloc, rows)
     }
@@ -59,16 +85,18 @@ impl<R: Read + Drop> Source<R> {
     pub fn read_changes(
         mut self,
         columns: &Columns,
+        order: &mut Order,
     ) -> Result<(Rows<Cells, Cells>, Rows<Cells, Cells>), Reason> {
-        let places = Places::new(self.alloc, &self.header, columns)?;
+        let places = Places::new(self.alloc, &self.header, self.before, columns)?;
         let mut gone = Vec::new(self.alloc);
         let mut come = Vec::new(self.alloc);
         let mut record = ByteRecord::new(self.alloc);
         for _ in 0..u64::MAX {
-            if !self.reader.read_byte_record(&mut record)? {
+            if !self.read_record(&mut record)? {
                 break;
             }
             let row = places.pick_row(self.alloc, &record)?;
+            order.note(&row.0)?;
             match record.get(0) {
                 Some(b"-") => gone.push(row)?,
                 Some(b"+") => come.push(row)?,
@@ -77,6 +105,40 @@ impl<R: Read + Drop> Source<R> {
         }
         Ok((sorted(self.alloc, gone)?, sorted(self.alloc, come)?))
     }
+
+    // Reads the next row, if there is one.
+    fn read_record(&mut self, record: &mut ByteRecord) -> Result<bool, Reason> {
+        match self.first.take() {
+            Some(first) => {
+                *record = first;
+                Ok(true)
+            }
+            None => Ok(self.reader.read_byte_record(record)?),
+        }
+    }
+}
+
+// The names in a header, behind the cells that stand before them.
+fn names_of(alloc: Global, record: &ByteRecord, before: usize) -> Result<Cells, Reason> {
+    let mut header: Cells = Vec::new(alloc);
+    for name in record.iter().skip(before) {
+        let name = Vec::from_slice(alloc, name)?;
+        if place_of(&header, &name).is_some() {
+            return Err(Reason::RepeatedColumn(name));
+        }
+        header.push(name)?;
+    }
+    Ok(header)
+}
+
+// The names of columns that have no header: 1, 2 and so on.
+fn numbers(alloc: Global, count: usize) -> Result<Cells, AllocError> {
+    let mut names = Vec::new(alloc);
+    for number in 0..count {
+        let name = format!(in alloc; "{}", number.saturating_add(1))?;
+        names.push(name.into_bytes())?;
+    }
+    Ok(names)
 }
 
 // Where the columns that are asked for stand in a header.
@@ -87,16 +149,21 @@ struct Places {
 }
 
 impl Places {
-    // The header has all columns of the key.
-    fn new(alloc: Global, header: &[Vec<u8>], columns: &Columns) -> Result<Self, Reason> {
+    // The header has all columns of the key, unless it has none, as of an empty file.
+    fn new(
+        alloc: Global,
+        header: &[Vec<u8>],
+        before: usize,
+        columns: &Columns,
+    ) -> Result<Self, Reason> {
         for name in &columns.key {
-            if place_of(header, name).is_none() {
+            if !header.is_empty() && place_of(header, name).is_none() {
                 return Err(Reason::NoColumn(name.clone()?));
             }
         }
         Ok(Places {
-            key: find_places(alloc, header, &columns.key)?,
-            rest: find_places(alloc, header, &columns.rest)?,
+            key: find_places(alloc, header, before, &columns.key)?,
+            rest: find_places(alloc, header, before, &columns.rest)?,
         })
     }
 
@@ -120,15 +187,16 @@ fn line_of(record: &ByteRecord) -> u64 {
     }
 }
 
-// Where each name stands in the header, if it stands there.
+// Where the cell of each name stands in a row, if the header has the name.
 fn find_places(
     alloc: Global,
     header: &[Vec<u8>],
+    before: usize,
     names: &[Vec<u8>],
 ) -> Result<Vec<Option<usize>>, AllocError> {
     let mut places = Vec::new(alloc);
     for name in names {
-        places.push(place_of(header, name))?;
+        places.push(place_of(header, name).map(|place| place.saturating_add(before)))?;
     }
     Ok(places)
 }

@@ -69,7 +69,7 @@ fn answer_request<'a, R: Files + Input + AllocGlobal>(
         Request::Apply { old, changes } => {
             check_stdin(&[old, changes])?;
             let old = open(rt, settings, old)?;
-            let changes = open(rt, settings, changes)?;
+            let changes = open_changes(rt, settings, changes)?;
             change(rt.alloc(), settings, old, changes)
         }
         Request::Merge { base, ours, theirs } => {
@@ -102,23 +102,38 @@ fn check_stdin<'a>(files: &[&'a str]) -> Result<(), Fault<'a>> {
 
 type Stream<R> = Either<<R as Files>::File, <R as Input>::Reader>;
 
-// The file, or the standard input where its name is `-`, with its header read.
+// A table, with its header read.
 fn open<'a, R: Files + Input + AllocGlobal>(
     rt: &R,
     settings: Settings<'a>,
     file: &'a str,
 ) -> Result<Opened<'a, Stream<R>>, Fault<'a>> {
-    let stream = if file == "-" {
-        Either::Right(rt.reader())
-    } else {
-        match fs::open(rt, file) {
-            Ok(opened) => Either::Left(opened),
-            Err(error) => return Err(Fault {
-                file,
-                reason: Reason::Io(error),
-            }),
-        }
-    };
-    let source = at(file, Source::open(rt.alloc(), stream, settings.delimiter))?;
+    let stream = at(file, stream_of(rt, file))?;
+    let source = at(file, Source::open(rt.alloc(), stream, settings.form))?;
     Ok((file, source))
+}
+
+// A table of changes, with its header read.
+fn open_changes<'a, R: Files + Input + AllocGlobal>(
+    rt: &R,
+    settings: Settings<'a>,
+    file: &'a str,
+) -> Result<Opened<'a, Stream<R>>, Fault<'a>> {
+    let stream = at(file, stream_of(rt, file))?;
+    let source = at(
+        file,
+        Source::open_changes(rt.alloc(), stream, settings.form),
+    )?;
+    Ok((file, source))
+}
+
+// The file, or the standard input where its name is `-`.
+fn stream_of<R: Files + Input>(rt: &R, file: &str) -> Result<Stream<R>, Reason> {
+    if file == "-" {
+        return Ok(Either::Right(rt.reader()));
+    }
+    match fs::open(rt, file) {
+        Ok(opened) => Ok(Either::Left(opened)),
+        Err(error) => Err(Reason::Io(error)),
+    }
 }

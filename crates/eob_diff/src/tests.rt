@@ -1,15 +1,21 @@
 //! Tests: tables of hundreds of rows made by a rule, changes made again, and what is said of inputs that are bad.
 use crate::answers::{Answer, change, compare, join, merge};
-use crate::arguments::{Kind, Settings};
+use crate::arguments::{Form, Kind, Settings};
 use crate::fault::{Fault, Reason};
 use crate::read::Source;
 use std::alloc::{AllocError, Global};
 use std::fmt::Write;
 use std::test::Fail;
 
-pub const PLAIN: Settings<'static> = Settings {
+pub const COMMAS: Form = Form {
     delimiter: b',',
+    has_header: true,
+};
+
+pub const PLAIN: Settings<'static> = Settings {
+    form: COMMAS,
     key: None,
+    keeps_order: false,
 };
 
 // Cells of every shape: plain, empty, with a comma, with quotes, with line ends, with spaces, beyond ASCII.
@@ -58,7 +64,7 @@ pub fn opened<'a, 't>(
     file: &'a str,
     text: &'t [u8],
 ) -> Result<Source<&'t [u8]>, Fault<'a>> {
-    match Source::open(alloc, text, b',') {
+    match Source::open(alloc, text, COMMAS) {
         Ok(source) => Ok(source),
         Err(reason) => Err(Fault { file, reason }),
     }
@@ -66,8 +72,8 @@ pub fn opened<'a, 't>(
 
 // The answer to `apply` of two texts, which are good.
 fn applied(alloc: Global, old: &[u8], changes: &[u8]) -> Result<Answer, Reason> {
-    let left = Source::open(alloc, old, b',')?;
-    let right = Source::open(alloc, changes, b',')?;
+    let left = Source::open(alloc, old, COMMAS)?;
+    let right = Source::open_changes(alloc, changes, COMMAS)?;
     match change(alloc, PLAIN, ("old", left), ("changes", right)) {
         Ok(answer) => Ok(answer),
         Err(fault) => Err(fault.reason),
@@ -153,7 +159,7 @@ fn bad_inputs_are_named(rt: HostRuntime) -> Result<(), Fail> {
         (
             good,
             b"id,a\n1,x\n2\n",
-            "eob_diff: new: line 3: 1 cells, and the header has 2",
+            "eob_diff: new: line 3: 1 cells, and there are 2 columns",
         ),
         (
             b"id,a\n7,x\n8,y\n7,z\n",

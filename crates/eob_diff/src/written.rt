@@ -1,9 +1,9 @@
 //! Tables written as CSV, whole, in memory.
 
+use crate::arguments::Form;
 use crate::fault::Reason;
 use crate::table::{Cells, Columns};
 use csv::{Writer, WriterBuilder};
-use either_or_both::EitherOrBoth;
 use eob_joins::Change;
 use std::alloc::Global;
 
@@ -15,10 +15,10 @@ pub struct Written {
 
 impl Written {
     /// No row yet.
-    pub fn new(alloc: Global, delimiter: u8) -> Self {
+    pub fn new(alloc: Global, form: Form) -> Self {
         Written {
             writer: WriterBuilder::new()
-                .delimiter(delimiter)
+                .delimiter(form.delimiter)
                 .from_writer(Vec::new(alloc)),
         }
     }
@@ -51,29 +51,33 @@ impl Written {
         }
     }
 
-    fn put_signed(&mut self, sign: &[u8], key: &[Vec<u8>], rest: &[Vec<u8>]) -> Result<(), Reason> {
-        self.put_cell(sign)?;
-        self.put(key)?;
-        self.put(rest)?;
+    /// Puts the cells of a whole row, in the order of the columns, and ends it.
+    pub fn put_row(
+        &mut self,
+        columns: &Columns,
+        key: &[Vec<u8>],
+        rest: &[Vec<u8>],
+    ) -> Result<(), Reason> {
+        for place in &columns.order {
+            self.put_cell(place.cell(key, rest))?;
+        }
         self.end_row()
     }
 }
 
-/// A table: its header and its rows.
+/// A table: its header, if it has one, and its rows.
 pub fn write_table(
     alloc: Global,
-    delimiter: u8,
+    form: Form,
     columns: &Columns,
     rows: &[(Cells, Cells)],
 ) -> Result<Vec<u8>, Reason> {
-    let mut written = Written::new(alloc, delimiter);
-    written.put(&columns.key)?;
-    written.put(&columns.rest)?;
-    written.end_row()?;
+    let mut written = Written::new(alloc, form);
+    if form.has_header {
+        written.put_row(columns, &columns.key, &columns.rest)?;
+    }
     for row in rows {
-        written.put(&row.0)?;
-        written.put(&row.1)?;
-        written.end_row()?;
+        written.put_row(columns, &row.0, &row.1)?;
     }
     written.finish()
 }
@@ -81,20 +85,23 @@ pub fn write_table(
 /// Changes, as `apply` reads them: a row that goes begins with `-`, one that comes with `+`.
 pub fn write_changes(
     alloc: Global,
-    delimiter: u8,
+    form: Form,
     columns: &Columns,
     changes: &[(Cells, Change<Cells>)],
 ) -> Result<Vec<u8>, Reason> {
-    let mut written = Written::new(alloc, delimiter);
-    written.put_signed(b"change", &columns.key, &columns.rest)?;
+    let mut written = Written::new(alloc, form);
+    if form.has_header {
+        written.put_cell(b"change")?;
+        written.put_row(columns, &columns.key, &columns.rest)?;
+    }
     for row in changes {
-        match &row.1 {
-            EitherOrBoth::Left(old) => written.put_signed(b"-", &row.0, old)?,
-            EitherOrBoth::Both(old, new) => {
-                written.put_signed(b"-", &row.0, old)?;
-                written.put_signed(b"+", &row.0, new)?;
-            }
-            EitherOrBoth::Right(new) => written.put_signed(b"+", &row.0, new)?,
+        if let Some(old) = row.1.as_ref().left() {
+            written.put_cell(b"-")?;
+            written.put_row(columns, &row.0, old)?;
+        }
+        if let Some(new) = row.1.as_ref().right() {
+            written.put_cell(b"+")?;
+            written.put_row(columns, &row.0, new)?;
         }
     }
     written.finish()

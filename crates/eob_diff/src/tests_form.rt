@@ -1,0 +1,135 @@
+//! Tests: tables with no header, and rows in the order of the files.
+use crate::answers::{Answer, change, compare, join, merge};
+use crate::arguments::{Form, Kind, Settings};
+use crate::fault::{Fault, Reason};
+use crate::read::Source;
+use crate::tests::{COMMAS, PLAIN};
+use std::alloc::Global;
+use std::test::Fail;
+
+const NUMBERED: Settings<'static> = Settings {
+    form: Form {
+        delimiter: b';',
+        has_header: false,
+    },
+    key: Some("2"),
+    keeps_order: false,
+};
+
+const IN_ORDER: Settings<'static> = Settings {
+    form: COMMAS,
+    key: None,
+    keeps_order: true,
+};
+
+// The answer to `diff` as CSV.
+fn compared<'a>(
+    alloc: Global,
+    settings: Settings<'a>,
+    old: &[u8],
+    new: &[u8],
+) -> Result<Answer, Fault<'a>> {
+    let left = opened(alloc, settings, old)?;
+    let right = opened(alloc, settings, new)?;
+    compare(alloc, settings, true, ("old", left), ("new", right))
+}
+
+fn opened<'a, 't>(
+    alloc: Global,
+    settings: Settings<'a>,
+    text: &'t [u8],
+) -> Result<Source<&'t [u8]>, Fault<'a>> {
+    at(Source::open(alloc, text, settings.form))
+}
+
+fn at<'a, T: Drop>(outcome: Result<T, Reason>) -> Result<T, Fault<'a>> {
+    match outcome {
+        Ok(value) => Ok(value),
+        Err(reason) => Err(Fault {
+            file: "file",
+            reason,
+        }),
+    }
+}
+
+// The answer to `apply`.
+fn applied<'a>(
+    alloc: Global,
+    settings: Settings<'a>,
+    old: &[u8],
+    changes: &[u8],
+) -> Result<Answer, Fault<'a>> {
+    let left = opened(alloc, settings, old)?;
+    let right = at(Source::open_changes(alloc, changes, settings.form))?;
+    change(alloc, settings, ("old", left), ("changes", right))
+}
+
+/// With no header the first row is a row, columns are named by number, and none is written. An empty file is a table of no rows.
+#[test]
+fn columns_with_no_header_have_numbers(rt: HostRuntime) -> Result<(), Fail> {
+    let alloc = rt.alloc();
+    let old: &[u8] = b"x;2;p\ny;1;q\n";
+    let new: &[u8] = b"z;3;r\ny;1;s\n";
+    let cases: [(&[u8], &[u8], &[u8], &[u8]); 3] = [
+        (
+            old,
+            new,
+            b"-;y;1;q\n+;y;1;s\n-;x;2;p\n+;z;3;r\n",
+            b"y;1;s\nz;3;r\n",
+        ),
+        (b"", old, b"+;y;1;q\n+;x;2;p\n", b"y;1;q\nx;2;p\n"),
+        (old, b"", b"-;y;1;q\n-;x;2;p\n", b""),
+    ];
+    for (old, new, changes, made) in cases {
+        let answer = compared(alloc, NUMBERED, old, new).or(Err("diff"))?;
+        assert_eq!(rt; answer.status, 1);
+        assert!(rt; answer.bytes.as_slice() == changes);
+        let answer = applied(alloc, NUMBERED, old, changes).or(Err("apply"))?;
+        assert_eq!(rt; answer.status, 0);
+        assert!(rt; answer.bytes.as_slice() == made);
+    }
+    Ok(())
+}
+
+/// A column may have any name, also that of the sign of changes; and columns are written in the order of the headers.
+#[test]
+fn columns_keep_their_names_and_order(rt: HostRuntime) -> Result<(), Fail> {
+    let alloc = rt.alloc();
+    let settings = Settings {
+        key: Some("id"),
+        ..PLAIN
+    };
+    let old: &[u8] = b"change,id\nx,1\n";
+    let new: &[u8] = b"change,id,more\ny,1,z\n";
+    let answer = compared(alloc, settings, old, new).or(Err("diff"))?;
+    let changes: &[u8] = b"change,change,id,more\n-,x,1,\n+,y,1,z\n";
+    assert!(rt; answer.bytes.as_slice() == changes);
+    let answer = applied(alloc, settings, old, changes).or(Err("apply"))?;
+    assert!(rt; answer.bytes.as_slice() == new);
+    Ok(())
+}
+
+/// In the order of the files each command gives the rows of the first in its order, and then those of the next.
+#[test]
+fn rows_keep_the_order_of_the_files(rt: HostRuntime) -> Result<(), Fail> {
+    let alloc = rt.alloc();
+    let old: &[u8] = b"id,a\n5,p\n1,p\n3,p\n";
+    let new: &[u8] = b"id,a\n4,p\n3,q\n2,p\n5,q\n";
+    let answer = compared(alloc, IN_ORDER, old, new).or(Err("diff"))?;
+    let changes: &[u8] = b"change,id,a\n-,5,p\n+,5,q\n-,1,p\n-,3,p\n+,3,q\n+,4,p\n+,2,p\n";
+    assert!(rt; answer.bytes.as_slice() == changes);
+    let answer = applied(alloc, IN_ORDER, old, changes).or(Err("apply"))?;
+    assert!(rt; answer.bytes.as_slice() == b"id,a\n5,q\n3,q\n4,p\n2,p\n".as_slice());
+    let left = opened(alloc, IN_ORDER, old).or(Err("left"))?;
+    let right = opened(alloc, IN_ORDER, new).or(Err("right"))?;
+    let answer = join(alloc, IN_ORDER, Kind::Right, ("l", left), ("r", right)).or(Err("join"))?;
+    let wanted = b"id,left.a,right.a\n5,p,q\n3,p,q\n4,,p\n2,,p\n".as_slice();
+    assert!(rt; answer.bytes.as_slice() == wanted);
+    let base = opened(alloc, IN_ORDER, b"id,a\n1,p\n3,p\n5,p\n").or(Err("base"))?;
+    let ours = opened(alloc, IN_ORDER, old).or(Err("ours"))?;
+    let theirs = opened(alloc, IN_ORDER, new).or(Err("theirs"))?;
+    let answer = merge(alloc, IN_ORDER, ("b", base), ("o", ours), ("t", theirs));
+    let answer = answer.or(Err("merge"))?;
+    assert!(rt; answer.bytes.as_slice() == b"id,a\n5,q\n3,q\n4,p\n2,p\n".as_slice());
+    Ok(())
+}
