@@ -1,14 +1,14 @@
 //! The answer to each request, from tables whose headers are read.
 
 use crate::arguments::{Form, Kind, Settings};
-use crate::changes::{changes_of, count, render};
+use crate::changes::{changes_of, count, count_rows, render, row_changes};
 use crate::fault::{Fault, Reason};
 use crate::joined::{JoinColumns, write_join};
 use crate::merged::{merge_of, render_conflicts};
 use crate::order::Order;
 use crate::patch::{misfits, paired, patched};
 use crate::read::Source;
-use crate::table::{Cells, Columns, Rows, copy_cells};
+use crate::table::{Cells, Columns, Group, Rows, copy_cells};
 use crate::written::{write_changes, write_table};
 use eob_joins::Merged;
 use std::alloc::{AllocError, Global};
@@ -49,8 +49,14 @@ pub fn compare<'a, A: Read + Drop, B: Read + Drop>(
     let headers = [old.1.header.as_slice(), new.1.header.as_slice()];
     let columns = at(old.0, columns_of(alloc, settings, &headers))?;
     let mut order = order_of(alloc, settings);
-    let left = at(old.0, old.1.read_rows(&columns, &mut order))?;
-    let right = at(new.0, new.1.read_rows(&columns, &mut order))?;
+    let left = at(
+        old.0,
+        old.1.read_rows(&columns, &mut order, settings.groups),
+    )?;
+    let right = at(
+        new.0,
+        new.1.read_rows(&columns, &mut order, settings.groups),
+    )?;
     at(
         new.0,
         compared(alloc, settings.form, csv, &columns, &order, left, right),
@@ -63,14 +69,15 @@ fn compared(
     csv: bool,
     columns: &Columns,
     order: &Order,
-    old: Rows<Cells, Cells>,
-    new: Rows<Cells, Cells>,
+    old: Rows<Cells, Group>,
+    new: Rows<Cells, Group>,
 ) -> Result<Answer, Reason> {
-    let rows = old.pairs.len();
+    let rows = count_rows(&old.pairs);
     let changes = order.arrange(changes_of(alloc, old, new)?)?;
     let bytes = if csv {
         write_changes(alloc, form, columns, &changes)?
     } else {
+        let changes = row_changes(alloc, &changes)?;
         render(alloc, columns, &changes, count(rows, &changes))?.into_bytes()
     };
     Ok(Answer {
@@ -89,8 +96,16 @@ pub fn change<'a, A: Read + Drop, B: Read + Drop>(
     let headers = [old.1.header.as_slice(), changes.1.header.as_slice()];
     let columns = at(old.0, columns_of(alloc, settings, &headers))?;
     let mut order = order_of(alloc, settings);
-    let rows = at(old.0, old.1.read_rows(&columns, &mut order))?;
-    let changed_rows = at(changes.0, changes.1.read_changes(&columns, &mut order))?;
+    let rows = at(
+        old.0,
+        old.1.read_rows(&columns, &mut order, settings.groups),
+    )?;
+    let changed_rows = at(
+        changes.0,
+        changes
+            .1
+            .read_changes(&columns, &mut order, settings.groups),
+    )?;
     at(
         changes.0,
         changed(alloc, settings.form, &columns, &order, rows, changed_rows),
@@ -102,8 +117,8 @@ fn changed(
     form: Form,
     columns: &Columns,
     order: &Order,
-    old: Rows<Cells, Cells>,
-    changes: (Rows<Cells, Cells>, Rows<Cells, Cells>),
+    old: Rows<Cells, Group>,
+    changes: (Rows<Cells, Group>, Rows<Cells, Group>),
 ) -> Result<Answer, Reason> {
     let changes = paired(alloc, changes.0, changes.1)?;
     let misfits = misfits(alloc, columns, &old, &changes)?;
@@ -136,9 +151,19 @@ pub fn merge<'a, A: Read + Drop, B: Read + Drop, C: Read + Drop>(
     let columns = at(base.0, columns_of(alloc, settings, &headers))?;
     // The base is not written: rows come out in the order of ours, and then in that of theirs.
     let mut order = order_of(alloc, settings);
-    let our_rows = at(ours.0, ours.1.read_rows(&columns, &mut order))?;
-    let their_rows = at(theirs.0, theirs.1.read_rows(&columns, &mut order))?;
-    let base_rows = at(base.0, base.1.read_rows(&columns, &mut Order::by_key()))?;
+    let our_rows = at(
+        ours.0,
+        ours.1.read_rows(&columns, &mut order, settings.groups),
+    )?;
+    let their_rows = at(
+        theirs.0,
+        theirs.1.read_rows(&columns, &mut order, settings.groups),
+    )?;
+    let base_rows = at(
+        base.0,
+        base.1
+            .read_rows(&columns, &mut Order::by_key(), settings.groups),
+    )?;
     let merge = merge_of(alloc, base_rows, our_rows, their_rows);
     at(
         theirs.0,
@@ -151,7 +176,7 @@ fn merged(
     form: Form,
     columns: &Columns,
     order: &Order,
-    merge: Result<Merged<Cells, Cells>, AllocError>,
+    merge: Result<Merged<Cells, Group>, AllocError>,
 ) -> Result<Answer, Reason> {
     match merge? {
         Merged::Whole(rows) => Ok(Answer {
@@ -178,8 +203,16 @@ pub fn join<'a, A: Read + Drop, B: Read + Drop>(
         join_columns(alloc, settings, &left.1.header, &right.1.header),
     )?;
     let mut order = order_of(alloc, settings);
-    let left_rows = at(left.0, left.1.read_rows(&columns.left, &mut order))?;
-    let right_rows = at(right.0, right.1.read_rows(&columns.right, &mut order))?;
+    let left_rows = at(
+        left.0,
+        left.1.read_rows(&columns.left, &mut order, settings.groups),
+    )?;
+    let right_rows = at(
+        right.0,
+        right
+            .1
+            .read_rows(&columns.right, &mut order, settings.groups),
+    )?;
     let joined = write_join(
         alloc,
         settings.form,

@@ -10,13 +10,14 @@ pub struct Form {
     pub has_header: bool,
 }
 
-/// What all requests may set: how tables are written, the names of the columns that are the key, and whether rows come out in the order
-/// of the files and not in that of their keys.
+/// What all requests may set: how tables are written, the names of the columns that are the key, whether rows come out in the order of the
+/// files and not in that of their keys, and whether rows with the same key are a group.
 #[derive(Clone, Copy)]
 pub struct Settings<'a> {
     pub form: Form,
     pub key: Option<&'a str>,
     pub keeps_order: bool,
+    pub groups: bool,
 }
 
 /// Which rows a join has, of which tables.
@@ -200,6 +201,11 @@ fn with_settings<'a>(alloc: Global, command: Command<'a>) -> Result<Command<'a>,
             alloc,
             "keep-order",
             "Rows come out in the order of the files, and not in that of their keys",
+        ))?
+        .arg(flag(
+            alloc,
+            "group",
+            "Keys may repeat: rows with the same key are a group",
         ))
 }
 
@@ -224,5 +230,6 @@ fn settings_of<'a>(matches: &ArgMatches<'a>) -> Option<Settings<'a>> {
         },
         key: matches.get_str("key"),
         keeps_order: matches.get_flag("keep-order"),
+        groups: matches.get_flag("group"),
     })
 }

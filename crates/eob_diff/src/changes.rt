@@ -4,14 +4,14 @@ ghost use Rattle.eob_joins.specs.Changes.{changed};
 ghost use Rattle.eob_joins.specs.Tables.{IsKeptOfJoin};
 
 use crate::lined_up::{Grid, Shown, line_up};
-use crate::table::{Cells, Columns, Rows};
+use crate::table::{Cells, Columns, Group, Rows};
 use either_or_both::EitherOrBoth;
-use eob_joins::{Change, diff};
+use eob_joins::{Change, diff, group_join_unordered};
 use std::alloc::{AllocError, Global};
 use std::fmt::Write;
 
-/// The rows that changed, by key.
-pub type Changes = Vec<(Cells, Change<Cells>)>;
+/// A row that changed, by key.
+pub type RowChange<'a> = (&'a Cells, Change<&'a Cells>);
 
 /// How many rows were added, removed, changed and left as they were.
 #[derive(Clone, Copy)]
@@ -33,8 +33,69 @@ pub fn changes_of<K: Ord + Drop, V: Eq + Drop>(
     diff(alloc, old.pairs, new.pairs)
 }
 
+/// The rows that changed: of the groups under a key those that one version has more often, and of these one beside the other.
+pub fn row_changes<'a>(
+    alloc: Global,
+    changes: &'a [(Cells, Change<Group>)],
+) -> Result<Vec<RowChange<'a>>, AllocError> {
+    let mut rows = Vec::new(alloc);
+    for change in changes {
+        let (gone, come) = lone_rows(
+            alloc,
+            rows_of(change.1.as_ref().left()),
+            rows_of(change.1.as_ref().right()),
+        )?;
+        for row in EitherOrBoth::Both(gone, come).into_iter_swap() {
+            rows.push((&change.0, row))?;
+        }
+    }
+    Ok(rows)
+}
+
+fn rows_of(group: Option<&Group>) -> &[Cells] {
+    match group {
+        Some(rows) => rows,
+        None => &[],
+    }
+}
+
+// The rows that the old group has more often than the new one, and those that it has less often.
+fn lone_rows<'a>(
+    alloc: Global,
+    old: &'a [Cells],
+    new: &'a [Cells],
+) -> Result<(Vec<&'a Cells>, Vec<&'a Cells>), AllocError> {
+    let mut gone = Vec::new(alloc);
+    let mut come = Vec::new(alloc);
+    for (row, marks) in group_join_unordered(alloc, marked(alloc, old)?, marked(alloc, new)?)? {
+        let (before, after) = marks.unzip();
+        let before = before.map_or(0, |marks| marks.len());
+        let after = after.map_or(0, |marks| marks.len());
+        for _ in after..before {
+            gone.push(row)?;
+        }
+        for _ in before..after {
+            come.push(row)?;
+        }
+    }
+    Ok((gone, come))
+}
+
+fn marked<'a>(alloc: Global, rows: &'a [Cells]) -> Result<Vec<(&'a Cells, ())>, AllocError> {
+    rows.iter().map(|row| (row, ())).collect(alloc)
+}
+
+/// How many rows a table has.
+pub fn count_rows(pairs: &[(Cells, Group)]) -> usize {
+    let mut count: usize = 0;
+    for pair in pairs {
+        count = count.saturating_add(pair.1.len());
+    }
+    count
+}
+
 /// The counts of changes to a table that had this many rows.
-pub fn count(old_rows: usize, changes: &[(Cells, Change<Cells>)]) -> Counts {
+pub fn count(old_rows: usize, changes: &[RowChange<'_>]) -> Counts {
     let added = changes.iter().filter(|row| row.1.is_right()).count();
     let removed = changes.iter().filter(|row| row.1.is_left()).count();
     let changed = changes.iter().filter(|row| row.1.is_both()).count();
@@ -50,7 +111,7 @@ pub fn count(old_rows: usize, changes: &[(Cells, Change<Cells>)]) -> Counts {
 pub fn render(
     alloc: Global,
     columns: &Columns,
-    changes: &[(Cells, Change<Cells>)],
+    changes: &[RowChange<'_>],
     counts: Counts,
 ) -> Result<String, AllocError> {
     let mut text = String::new(alloc);
@@ -58,7 +119,7 @@ pub fn render(
         let mut grid: Grid = Vec::new(alloc);
         grid.push(heading(alloc, columns)?)?;
         for row in changes {
-            grid.push(line_of(alloc, &row.0, &row.1)?)?;
+            grid.push(line_of(alloc, row)?)?;
         }
         text = line_up(alloc, &grid)?;
     }
@@ -81,11 +142,8 @@ pub fn heading(alloc: Global, columns: &Columns) -> Result<Vec<String>, AllocErr
 }
 
 // The line of a row that changed.
-fn line_of(
-    alloc: Global,
-    key: &[Vec<u8>],
-    change: &Change<Cells>,
-) -> Result<Vec<String>, AllocError> {
+fn line_of(alloc: Global, row: &RowChange<'_>) -> Result<Vec<String>, AllocError> {
+    let (key, change) = *row;
     let mut line = Vec::new(alloc);
     line.push(String::from_str(alloc, mark(change))?)?;
     for cell in key {
@@ -107,7 +165,7 @@ fn line_of(
 }
 
 // What is said of a row that changed.
-fn mark(change: &Change<Cells>) -> &'static str {
+fn mark(change: Change<&Cells>) -> &'static str {
     match change {
         EitherOrBoth::Left(_) => "removed",
         EitherOrBoth::Both(..) => "changed",

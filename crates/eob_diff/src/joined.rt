@@ -3,7 +3,7 @@
 use crate::arguments::{Form, Kind};
 use crate::fault::Reason;
 use crate::order::Order;
-use crate::table::{Cells, Columns, Rows, place_of};
+use crate::table::{Cells, Columns, Group, Rows, place_of};
 use crate::written::{Written, write_table};
 use either_or_both::EitherOrBoth;
 use either_or_both::join::outer_join;
@@ -24,8 +24,8 @@ pub fn write_join(
     kind: Kind,
     columns: &JoinColumns,
     order: &Order,
-    left: Rows<Cells, Cells>,
-    right: Rows<Cells, Cells>,
+    left: Rows<Cells, Group>,
+    right: Rows<Cells, Group>,
 ) -> Result<Vec<u8>, Reason> {
     let mut written = Written::new(alloc, form);
     match kind {
@@ -39,28 +39,28 @@ pub fn write_join(
         }
         Kind::Outer => {
             put_heading(alloc, form, &mut written, kind, columns)?;
-            for (key, cells) in order.arrange(outer_join(alloc, left.pairs, right.pairs)?)? {
-                written.put_cell(side(&cells))?;
-                let cells = cells.as_ref();
-                put_row(&mut written, columns, &key, cells.left(), cells.right())?;
+            for (key, rows) in order.arrange(outer_join(alloc, left.pairs, right.pairs)?)? {
+                let word = Some(side(&rows));
+                let (a, b) = rows.as_ref().unzip();
+                put_rows(&mut written, columns, word, &key, (a, b))?;
             }
         }
         Kind::Inner => {
             put_heading(alloc, form, &mut written, kind, columns)?;
             for (key, (a, b)) in order.arrange(inner_join(alloc, left.pairs, right.pairs)?)? {
-                put_row(&mut written, columns, &key, Some(&a), Some(&b))?;
+                put_rows(&mut written, columns, None, &key, (Some(&a), Some(&b)))?;
             }
         }
         Kind::Left => {
             put_heading(alloc, form, &mut written, kind, columns)?;
             for (key, (a, b)) in order.arrange(left_join(alloc, left.pairs, right.pairs)?)? {
-                put_row(&mut written, columns, &key, Some(&a), b.as_ref())?;
+                put_rows(&mut written, columns, None, &key, (Some(&a), b.as_ref()))?;
             }
         }
         Kind::Right => {
             put_heading(alloc, form, &mut written, kind, columns)?;
             for (key, (b, a)) in order.arrange(left_join(alloc, right.pairs, left.pairs)?)? {
-                put_row(&mut written, columns, &key, a.as_ref(), Some(&b))?;
+                put_rows(&mut written, columns, None, &key, (a.as_ref(), Some(&b)))?;
             }
         }
     }
@@ -68,7 +68,7 @@ pub fn write_join(
 }
 
 // Which of the tables have a row.
-fn side(cells: &EitherOrBoth<Cells, Cells>) -> &'static [u8] {
+fn side(cells: &EitherOrBoth<Group, Group>) -> &'static [u8] {
     match cells {
         EitherOrBoth::Left(_) => b"left",
         EitherOrBoth::Both(..) => b"both",
@@ -126,22 +126,36 @@ fn put_names(
     Ok(())
 }
 
-// A row, with empty cells for a side that is absent.
-fn put_row(
+// Each row of the left side with each row of the right one. An absent side is one row of empty cells.
+fn put_rows(
     written: &mut Written,
     columns: &JoinColumns,
+    word: Option<&[u8]>,
     key: &[Vec<u8>],
-    left: Option<&Cells>,
-    right: Option<&Cells>,
+    sides: (Option<&Group>, Option<&Group>),
 ) -> Result<(), Reason> {
-    written.put(key)?;
-    put_side(written, left, columns.left.rest.len())?;
-    put_side(written, right, columns.right.rest.len())?;
-    written.end_row()
+    let (left, right) = sides;
+    for a in 0..left.map_or(1, |rows| rows.len()) {
+        for b in 0..right.map_or(1, |rows| rows.len()) {
+            if let Some(word) = word {
+                written.put_cell(word)?;
+            }
+            written.put(key)?;
+            put_side(written, left, a, columns.left.rest.len())?;
+            put_side(written, right, b, columns.right.rest.len())?;
+            written.end_row()?;
+        }
+    }
+    Ok(())
 }
 
-fn put_side(written: &mut Written, cells: Option<&Cells>, width: usize) -> Result<(), Reason> {
-    match cells {
+fn put_side(
+    written: &mut Written,
+    side: Option<&Group>,
+    place: usize,
+    width: usize,
+) -> Result<(), Reason> {
+    match side.and_then(|rows| rows.get(place)) {
         Some(cells) => written.put(cells)?,
         None => {
             for _ in 0..width {

@@ -4,8 +4,8 @@ ghost use Rattle.eob_joins.specs.Versions.{IsMerge, IsMergeByKey};
 
 use crate::changes::heading;
 use crate::lined_up::{Grid, line_up};
-use crate::patch::version;
-use crate::table::{Cells, Columns, Rows};
+use crate::patch::put_version;
+use crate::table::{Cells, Columns, Group, Rows};
 use either_or_both::EitherOrBoth;
 use eob_joins::{Merged, Versions, merge_versions};
 use std::alloc::{AllocError, Global};
@@ -28,7 +28,7 @@ pub fn merge_of<K: Ord + Drop, V: Eq + Drop>(
 pub fn render_conflicts(
     alloc: Global,
     columns: &Columns,
-    rows: &[(Cells, Versions<Cells>)],
+    rows: &[(Cells, Versions<Group>)],
 ) -> Result<String, AllocError> {
     let mut grid: Grid = Vec::new(alloc);
     grid.push(heading(alloc, columns)?)?;
@@ -38,9 +38,9 @@ pub fn render_conflicts(
             Some(sides) => sides.as_ref().unzip(),
             None => (None, None),
         };
-        grid.push(version(alloc, "base", &row.0, base)?)?;
-        grid.push(version(alloc, "ours", &row.0, ours)?)?;
-        grid.push(version(alloc, "theirs", &row.0, theirs)?)?;
+        put_version(alloc, &mut grid, "base", &row.0, base)?;
+        put_version(alloc, &mut grid, "ours", &row.0, ours)?;
+        put_version(alloc, &mut grid, "theirs", &row.0, theirs)?;
     }
     line_up(alloc, &grid)
 }

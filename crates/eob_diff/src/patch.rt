@@ -6,7 +6,7 @@ ghost use Rattle.eob_joins.specs.Tables.{IsKeptOfJoin};
 
 use crate::changes::heading;
 use crate::lined_up::{Grid, Shown, line_up};
-use crate::table::{Cells, Columns, Rows};
+use crate::table::{Cells, Columns, Group, Rows};
 use either_or_both::join::{outer_join, outer_join_slices};
 use eob_joins::{Change, apply};
 use std::alloc::{AllocError, Global};
@@ -38,8 +38,8 @@ pub fn patched<K: Ord + Drop, V: Drop>(
 pub fn misfits(
     alloc: Global,
     columns: &Columns,
-    old: &Rows<Cells, Cells>,
-    changes: &Rows<Cells, Change<Cells>>,
+    old: &Rows<Cells, Group>,
+    changes: &Rows<Cells, Change<Group>>,
 ) -> Result<String, AllocError> {
     let mut grid: Grid = Vec::new(alloc);
     for (key, row) in outer_join_slices(&old.pairs, &changes.pairs) {
@@ -50,33 +50,47 @@ pub fn misfits(
                 if grid.is_empty() {
                     grid.push(heading(alloc, columns)?)?;
                 }
-                grid.push(version(alloc, "table", key, has)?)?;
-                grid.push(version(alloc, "change", key, wants)?)?;
+                put_version(alloc, &mut grid, "table", key, has)?;
+                put_version(alloc, &mut grid, "change", key, wants)?;
             }
         }
     }
     line_up(alloc, &grid)
 }
 
-/// A version of a row, under a key.
-pub fn version(
+/// Puts a version of the rows under a key, a line each.
+pub fn put_version(
     alloc: Global,
+    grid: &mut Grid,
     name: &str,
     key: &[Vec<u8>],
-    cells: Option<&Cells>,
-) -> Result<Vec<String>, AllocError> {
+    group: Option<&Group>,
+) -> Result<(), AllocError> {
+    match group {
+        Some(rows) => {
+            for cells in rows {
+                let mut line = line_under(alloc, name, key)?;
+                for cell in cells {
+                    line.push(format!(in alloc; "{}", Shown(cell))?)?;
+                }
+                grid.push(line)?;
+            }
+        }
+        None => {
+            let mut line = line_under(alloc, name, key)?;
+            line.push(String::from_str(alloc, "(no row)")?)?;
+            grid.push(line)?;
+        }
+    }
+    Ok(())
+}
+
+// A line that begins with the name of a version and the cells of a key.
+fn line_under(alloc: Global, name: &str, key: &[Vec<u8>]) -> Result<Vec<String>, AllocError> {
     let mut line = Vec::new(alloc);
     line.push(String::from_str(alloc, name)?)?;
     for cell in key {
         line.push(format!(in alloc; "{}", Shown(cell))?)?;
-    }
-    match cells {
-        Some(cells) => {
-            for cell in cells {
-                line.push(format!(in alloc; "{}", Shown(cell))?)?;
-            }
-        }
-        None => line.push(String::from_str(alloc, "(no row)")?)?,
     }
     Ok(line)
 }

@@ -1,11 +1,14 @@
 //! From a reader to a table: the header first, and then the rows under the columns that are asked for.
+ghost use Rattle.std.specs.Prelude.{IfOk};
+ghost use Rattle.eob_joins.specs.Groups.{Ordered};
 
 use crate::arguments::Form;
 use crate::fault::Reason;
 use crate::order::Order;
-use crate::table::{Cells, Columns, Rows, place_of};
+use crate::table::{Cells, Columns, Group, Rows, place_of};
 use csv::{ByteRecord, Reader, ReaderBuilder};
 use either_or_both::join::is_rising;
+use eob_joins::group_by_key;
 use std::alloc::{AllocError, Global};
 use std::io::Read;
 
@@ -61,12 +64,14 @@ impl<R: Read + Drop> Source<R> {
         })
     }
 
-    /// Reads the rows, and sorts them by key. A cell of a column that the header lacks is empty.
+    /// Reads the rows, and gathers them by key, of which no two rows have the same unless keys may repeat. A cell of a column that the
+    /// header lacks is empty.
     pub fn read_rows(
         mut self,
         columns: &Columns,
         order: &mut Order,
-    ) -> Result<Rows<Cells, Cells>, Reason> {
+        repeats: bool,
+    ) -> Result<Rows<Cells, Group>, Reason> {
         let places = Places::new(self.alloc, &self.header, self.before, columns)?;
         let mut rows = Vec::new(self.alloc);
         let mut record = ByteRecord::new(self.alloc);
@@ -78,15 +83,16 @@ impl<R: Read + Drop> Source<R> {
             order.note(&row.0)?;
             rows.push(row)?;
         }
-        sorted(self.alloc, rows)
+        gathered(self.alloc, rows, repeats)
     }
 
-    /// Reads the rows of changes, and sorts them by key: those whose first cell is `-`, which go, and those where it is `+`, which come.
+    /// Reads the rows of changes, and gathers them by key: those whose first cell is `-`, which go, and those where it is `+`, which come.
     pub fn read_changes(
         mut self,
         columns: &Columns,
         order: &mut Order,
-    ) -> Result<(Rows<Cells, Cells>, Rows<Cells, Cells>), Reason> {
+        repeats: bool,
+    ) -> Result<(Rows<Cells, Group>, Rows<Cells, Group>), Reason> {
         let places = Places::new(self.alloc, &self.header, self.before, columns)?;
         let mut gone = Vec::new(self.alloc);
         let mut come = Vec::new(self.alloc);
@@ -103,7 +109,10 @@ impl<R: Read + Drop> Source<R> {
                 _ => return Err(Reason::NoSign(line_of(&record))),
             }
         }
-        Ok((sorted(self.alloc, gone)?, sorted(self.alloc, come)?))
+        Ok((
+            gathered(self.alloc, gone, repeats)?,
+            gathered(self.alloc, come, repeats)?,
+        ))
     }
 
     // Reads the next row, if there is one.
@@ -214,16 +223,22 @@ fn pick(alloc: Global, record: &ByteRecord, places: &[Option<usize>]) -> Result<
     Ok(cells)
 }
 
-// The rows in the order of their keys, of which no two are the same.
-fn sorted(
+// The rows by key. Where keys may not repeat, no two have the same.
+fn gathered(
     alloc: Global,
     mut rows: Vec<(Cells, (u64, Cells))>,
-) -> Result<Rows<Cells, Cells>, Reason> {
+    repeats: bool,
+) -> Result<Rows<Cells, Group>, Reason> {
+    if repeats {
+        return Ok(grouped(alloc, rows)?);
+    }
     rows.sort_by(|row, next| row.0.cmp(&next.0))?;
     let mut pairs = Vec::with_capacity(alloc, rows.len())?;
     let mut lines = Vec::with_capacity(alloc, rows.len())?;
     for (key, (line, cells)) in rows {
-        pairs.push((key, cells))?;
+        let mut group = Vec::with_capacity(alloc, 1)?;
+        group.push(cells)?;
+        pairs.push((key, group))?;
         lines.push(line)?;
     }
     if is_rising(&pairs) {
@@ -233,10 +248,33 @@ fn sorted(
     }
 }
 
+// The rows in groups by key, each in the order of its cells.
+fn grouped(
+    alloc: Global,
+    rows: Vec<(Cells, (u64, Cells))>,
+) -> Result<Rows<Cells, Group>, AllocError> {
+    let mut pairs = Vec::with_capacity(alloc, rows.len())?;
+    for (key, (_line, cells)) in rows {
+        pairs.push((key, cells))?;
+    }
+    pairs.sort_by(|row, next| row.1.cmp(&next.1))?;
+    let pairs = in_order(pairs)?;
+    let pairs = group_by_key(alloc, pairs)?;
+    Ok(Rows { pairs })
+}
+
+// The rows in the order of their keys, those under a key as they stood.
+fn in_order<K: Ord + Drop, V: Drop>(mut rows: Vec<(K, V)>) -> Result<Vec<(K, V)>, AllocError>
+    ensures { IfOk result (λ sorted. Ordered K.cmp sorted.items) }
+{
+    rows.sort_by(|row, next| row.0.cmp(&next.0))?;
+    Ok(rows)
+}
+
 // The first key that stands twice, with both of its lines.
 fn repeated_key(
     alloc: Global,
-    pairs: &[(Cells, Cells)],
+    pairs: &[(Cells, Group)],
     lines: &[u64],
 ) -> Result<Reason, AllocError> {
     let mut key: Cells = Vec::new(alloc);

@@ -16,6 +16,7 @@ pub const PLAIN: Settings<'static> = Settings {
     form: COMMAS,
     key: None,
     keeps_order: false,
+    groups: false,
 };
 
 // Cells of every shape: plain, empty, with a comma, with quotes, with line ends, with spaces, beyond ASCII.

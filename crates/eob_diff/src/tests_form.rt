@@ -14,12 +14,14 @@ const NUMBERED: Settings<'static> = Settings {
     },
     key: Some("2"),
     keeps_order: false,
+    groups: false,
 };
 
 const IN_ORDER: Settings<'static> = Settings {
     form: COMMAS,
     key: None,
     keeps_order: true,
+    groups: false,
 };
 
 // The answer to `diff` as CSV.

@@ -2,7 +2,7 @@
 
 use crate::arguments::Form;
 use crate::fault::Reason;
-use crate::table::{Cells, Columns};
+use crate::table::{Cells, Columns, Group};
 use csv::{Writer, WriterBuilder};
 use eob_joins::Change;
 use std::alloc::Global;
@@ -63,6 +63,23 @@ impl Written {
         }
         self.end_row()
     }
+
+    // Puts rows under a key, with a sign before each.
+    fn put_signed(
+        &mut self,
+        sign: &[u8],
+        columns: &Columns,
+        key: &[Vec<u8>],
+        group: Option<&Group>,
+    ) -> Result<(), Reason> {
+        if let Some(rows) = group {
+            for rest in rows {
+                self.put_cell(sign)?;
+                self.put_row(columns, key, rest)?;
+            }
+        }
+        Ok(())
+    }
 }
 
 /// A table: its header, if it has one, and its rows.
@@ -70,14 +87,16 @@ pub fn write_table(
     alloc: Global,
     form: Form,
     columns: &Columns,
-    rows: &[(Cells, Cells)],
+    rows: &[(Cells, Group)],
 ) -> Result<Vec<u8>, Reason> {
     let mut written = Written::new(alloc, form);
     if form.has_header {
         written.put_row(columns, &columns.key, &columns.rest)?;
     }
     for row in rows {
-        written.put_row(columns, &row.0, &row.1)?;
+        for rest in &row.1 {
+            written.put_row(columns, &row.0, rest)?;
+        }
     }
     written.finish()
 }
@@ -87,7 +106,7 @@ pub fn write_changes(
     alloc: Global,
     form: Form,
     columns: &Columns,
-    changes: &[(Cells, Change<Cells>)],
+    changes: &[(Cells, Change<Group>)],
 ) -> Result<Vec<u8>, Reason> {
     let mut written = Written::new(alloc, form);
     if form.has_header {
@@ -95,14 +114,9 @@ pub fn write_changes(
         written.put_row(columns, &columns.key, &columns.rest)?;
     }
     for row in changes {
-        if let Some(old) = row.1.as_ref().left() {
-            written.put_cell(b"-")?;
-            written.put_row(columns, &row.0, old)?;
-        }
-        if let Some(new) = row.1.as_ref().right() {
-            written.put_cell(b"+")?;
-            written.put_row(columns, &row.0, new)?;
-        }
+        let (old, new) = row.1.as_ref().unzip();
+        written.put_signed(b"-", columns, &row.0, old)?;
+        written.put_signed(b"+", columns, &row.0, new)?;
     }
     written.finish()
 }

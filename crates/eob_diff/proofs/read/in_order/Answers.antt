@@ -1,0 +1,10 @@
+use Rattle.std.proofs.lemmas.List.Sorted.{answers_always, ranks_by}
+use Rattle.std.proofs.Common.{rules}
+use Rattle.eob_joins.proofs.GroupLemmas.{below, ordered_sorted}
+use Rattle.eob_diff.proofs.read.in_order.Goals as goal
+
+pub returns : goal.returns
+returns g c =
+    let cmp = g.K.Ord.cmp in
+    ordered_sorted cmp g.met.K.Ord.total c.sort_by.new.self.items
+    (c.in_ok-sort_by.ensures.sorted (below cmp g.met.K.Ord.total) (ranks_by g.met.K.Ord.total (λ x. x.0)) (answers_always _ _ _ (λ f a r f' h. search rules)))
