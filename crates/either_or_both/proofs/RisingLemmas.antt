@@ -18,7 +18,7 @@ use Rattle.std.proofs.lemmas.Map.Keys.{IsDistinct-from_sorted}
 use Rattle.std.proofs.lemmas.Map.Made.{update_all_none}
 use Rattle.eob_both.specs.Places.{from_places, map_places}
 use Rattle.either_or_both.specs.Join.{Rising, value_under}
-use Rattle.either_or_both.specs.JoinLaws.{deref_joined, RisingKeysLaw, RisingLaw, RisingMapLaw, SortedRisesLaw, ShownRisesLaw, ShownJoinLaw}
+use Rattle.either_or_both.specs.JoinLaws.{deref_joined, RisingEqMapLaw, RisingKeysLaw, RisingLaw, RisingMapLaw, SortedRisesLaw, ShownRisesLaw, ShownJoinLaw}
 use Rattle.either_or_both.proofs.MergeLemmas.{Up, up, up_weaker, rising}
 
 module _ {K : Type 0} (cmp : K → K → Ordering) where
@@ -54,6 +54,9 @@ module _ {K : Type 0} (cmp : K → K → Ordering) where
 
     pub rising_map : (V : Type 0) → RisingMapLaw cmp V
     rising_map V xs h k = update_all_none (eq_by_cmp_equiv o) (eq_by_cmp cmp) (λ x y. refl) xs k (rising_keys V xs h).1
+
+    pub rising_eq_map : (V : Type 0) (eq : K → K → Bool) → ((x y : K) → eq x y ≡ is_eq (cmp x y)) → RisingEqMapLaw cmp V eq
+    rising_eq_map V eq matches xs h k = update_all_none (eq_by_cmp_equiv o) eq matches xs k (rising_keys V xs h).1
 
   -- the order of references
   abbrev shown : Bor K → Bor K → Ordering

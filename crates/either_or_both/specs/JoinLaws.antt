@@ -1,5 +1,5 @@
 -- What follows for every full outer join of two lists whose keys rise.
-use Rattle.std.specs.Prelude.{◌≡◌, ◌↔◌, ℕ, ◌+◌, true, IsSome, MatchOption, Option, Some, None, List, length, map, All, count_by, is_none, is_some}
+use Rattle.std.specs.Prelude.{◌≡◌, ◌↔◌, ℕ, Bool, ◌+◌, true, IsSome, MatchOption, Option, Some, None, List, length, map, All, count_by, is_none, is_some}
 use Rattle.std.specs.Borrow.{Bor}
 use Rattle.std.specs.Iterator.Runs.{SomeRun}
 use Rattle.std.specs.List.{AllAdjacentBelow, AllZip, IsDistinct}
@@ -106,6 +106,10 @@ module _ {K : Type 0} (cmp : K → K → Ordering) where
     -- a map into which the pairs of a rising list are put in turn has under each key what the list has
     abbrev pub RisingMapLaw : Type 0
     RisingMapLaw = (xs : List (K × V)) → Rising cmp xs → (k : K) → update_all (eq_by_cmp cmp) (λ _. None) xs k ≡ value_under cmp xs k
+
+    -- the same of a map that tells keys apart by eq
+    abbrev pub RisingEqMapLaw : (K → K → Bool) → Type 0
+    RisingEqMapLaw eq = (xs : List (K × V)) → Rising cmp xs → (k : K) → update_all eq (λ _. None) xs k ≡ value_under cmp xs k
 
 -- a call that answered r is a run: of no item where r is None, and else of that one
 abbrev pub IsCallRun : {S A : Type 0} → (S → Option A → S → Type 0) → S → Option A → Type 0

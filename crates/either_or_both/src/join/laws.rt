@@ -3,7 +3,7 @@ ghost use Rattle.std.specs.Prelude.{◌≡◌, map};
 ghost use Rattle.std.specs.Option.{option_or};
 ghost use Rattle.either_or_both.specs.Join.{IsJoin, value_under};
 ghost use Rattle.either_or_both.specs.JoinLaws.{IsCallRun, JoinBothLaw, JoinCountsLaw, JoinFlipLaw, JoinLengthLaw, JoinPlacesLaw};
-ghost use Rattle.either_or_both.specs.JoinLaws.{JoinSidesLaw, OneJoinLaw, RisingKeysLaw, RisingLaw, RisingMapLaw, ShownJoinLaw};
+ghost use Rattle.either_or_both.specs.JoinLaws.{JoinSidesLaw, OneJoinLaw, RisingEqMapLaw, RisingKeysLaw, RisingLaw, RisingMapLaw, ShownJoinLaw};
 ghost use Rattle.either_or_both.specs.JoinLaws.{ShownRisesLaw, SortedRisesLaw, overlaid};
 
 use crate::EitherOrBoth;
@@ -71,6 +71,12 @@ pub fn law_rising_keys<K: Ord, V>()
 /// `collect`.
 pub fn law_rising_map<K: Ord, V>()
     ensures { RisingMapLaw K.cmp V }
+{}
+
+/// A rising list that is collected into a hashed map, or into one in the order of insertion, is found there: the map has under each
+/// key what the list has. Called before `collect`.
+pub fn law_rising_hash_map<K: Ord, V>()
+    ensures { RisingEqMapLaw K.cmp V K.eq }
 {}
 
 /// What a clause says of the runs of an iterator, it says of the first call of `next`. Called before that call, on the iterator.
