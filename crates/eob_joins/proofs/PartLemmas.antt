@@ -2,6 +2,7 @@
 use Rattle.std.proofs.Common.{◌≡◌, ◌∙◌, ℕ, ◌+◌, ◌≤◌, zero, suc, Bool, List, [], ◌∷◌, ◌++◌, length, take, drop, map, filter, All, Contains, Option, Some, append-nil, arith, refl, sym, ap, ap₂, subst}
 use Rattle.std.specs.Prelude.{⊤, IfSome, flat_map}
 use Rattle.std.proofs.iter.runs.Made.{each, took}
+use Rattle.std.proofs.lemmas.List.{length-append, length-map}
 use Rattle.std.specs.Borrow.{Bor}
 use Rattle.std.specs.Cmp.{IsTotalOrder}
 use Rattle.std.specs.Iterator.{Yields, YieldsFirstBy}
@@ -130,8 +131,9 @@ module _ {K V : Type 0} (cmp : K → K → Ordering) where
         let split : parts_of cmp xs ≡ map deref_pair p.items ++ rest = sym (ap (parts_left cmp) from ∙ e) ∙ calls_take p.items p.from calls.0 calls.1 in
         let all : AreParts cmp xs (map deref_pair p.items ++ rest) = subst (AreParts cmp xs) split (AreParts-parts xs h) in
         let own = own_parts cmp o (part_under cmp xs) (map deref_pair p.items ++ rest) (λ k. ⊤) (λ j k t l. tt) (λ k t. sym (all.values k)) (up cmp _ all.rises) in (
-          λ b. subst (AreParts cmp xs) (ap (λ r. map deref_pair p.items ++ r) (calls.2 b).1.0 ∙ append-nil (map deref_pair p.items)) all,
+          omega (arith, parts_most xs, ap length split, length-append (map deref_pair p.items) rest, length-map p.items deref_pair, p.long),
+          λ b. sym (split ∙ ap (λ r. map deref_pair p.items ++ r) (calls.2 b).1.0 ∙ append-nil (map deref_pair p.items)),
           rising cmp (λ k. ⊤) (map deref_pair p.items) (up_before cmp o (λ k. ⊤) (map deref_pair p.items) rest (up cmp _ all.rises)),
           each p (λ g. part_under cmp xs g.0.now ≡ Some g.1.now) (shown_at (λ g. part_under cmp xs g.0 ≡ Some g.1) p.items rest own),
-          (rest, all),
+          (rest, sym split),
         )

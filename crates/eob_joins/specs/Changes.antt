@@ -1,5 +1,6 @@
 -- What changed between two versions of a table, and a table with changes made to it.
 use Rattle.std.specs.Prelude.{◌≡◌, Bool, true, List, Option, Some, None, if◌then◌else◌}
+use Rattle.std.specs.List.{AllZip}
 use Rattle.std.specs.declared.cmp.Ordering.{Ordering}
 use Rattle.std.specs.declared.cmp.Ordering.TheVariants.{Equal}
 use Rattle.eob_both.specs.declared.either_or_both.EitherOrBoth.{EitherOrBoth}
@@ -26,3 +27,8 @@ module _ {K : Type 0} (cmp : K → K → Ordering) where
   ApplyDiffLaw {V} eq = ((j k : K) → cmp j k ≡ Equal → j ≡ k) → ((v w : V) → eq v w ≡ true → v ≡ w)
       → (p q rs : List (K × V)) (ds : List (K × EitherOrBoth V V)) → Rising cmp p → Rising cmp q
       → IsKeptOfJoin cmp (changed eq) p q ds → IsKeptOfJoin cmp applied p ds rs → rs ≡ q
+
+  -- where rs is p with the changes from p to q made to it, its keys and its values count as equal to those of q, pair by pair
+  abbrev pub PatchedLaw : {V : Type 0} → (V → V → Bool) → Type 0
+  PatchedLaw {V} eq = (p q rs : List (K × V)) (ds : List (K × EitherOrBoth V V)) → Rising cmp p → Rising cmp q
+      → IsKeptOfJoin cmp (changed eq) p q ds → IsKeptOfJoin cmp applied p ds rs → AllZip (λ x y. (cmp x.0 y.0 ≡ Equal) × (eq x.1 y.1 ≡ true)) rs q

@@ -1,5 +1,5 @@
 -- An ordered table cut into the parts that have one key each.
-use Rattle.std.specs.Prelude.{◌≡◌, true, List, ◌++◌, Option, Some, All, Contains, filter, flat_map, map}
+use Rattle.std.specs.Prelude.{◌≡◌, ◌≤◌, true, List, length, ◌++◌, Option, Some, All, Contains, filter, flat_map, map}
 use Rattle.std.specs.Borrow.{Bor}
 use Rattle.std.specs.Iterator.Runs.{Run, AllItems}
 use Rattle.std.specs.Map.{keys_of}
@@ -30,8 +30,9 @@ module _ {K V : Type 0} (cmp : K → K → Ordering) where
     pub keys : All (λ g. Contains (keys_of xs) g.0) gs
     pub whole : flat_map (λ g. g.1) gs ≡ xs
 
-  -- p showed parts of the table, each with all pairs of its key; they are a beginning of its parts, and all of them where p ended
+  -- p showed parts of the table, each with all pairs of its key, no more than the table has pairs; they begin its parts, and are all of
+  -- them where p ended
   abbrev pub ShowsParts : {S : Type 0} {steps : S → Option (Bor K × Bor (List (K × V))) → S → Type 0} → List (K × V) → Run steps → Type 0
-  ShowsParts xs p = (p.whole ≡ true → AreParts xs (map deref_pair p.items)) × Rising cmp (map deref_pair p.items)
+  ShowsParts xs p = (p.len ≤ length xs) × (p.whole ≡ true → map deref_pair p.items ≡ parts_of xs) × Rising cmp (map deref_pair p.items)
       × AllItems p (λ g. part_under xs g.0.now ≡ Some g.1.now)
-      × ((rest : List (K × List (K × V))) × AreParts xs (map deref_pair p.items ++ rest))
+      × ((rest : List (K × List (K × V))) × (map deref_pair p.items ++ rest ≡ parts_of xs))

@@ -1,7 +1,7 @@
 //! Two versions of a table: what changed between them, and the new version made again of the old one and the changes.
 ghost use Rattle.std.specs.Prelude.{◌≡◌, IfOk, option_map};
 ghost use Rattle.either_or_both.specs.Join.{Rising};
-ghost use Rattle.eob_joins.specs.Changes.{ApplyDiffLaw, applied, changed};
+ghost use Rattle.eob_joins.specs.Changes.{ApplyDiffLaw, PatchedLaw, applied, changed};
 ghost use Rattle.eob_joins.specs.Tables.{IsKeptByKey, IsKeptOfJoin};
 
 use either_or_both::EitherOrBoth;
@@ -137,4 +137,10 @@ fn applied_row<K: Drop, V: Drop>(row: (K, EitherOrBoth<V, Change<V>>)) -> Option
 /// and values too.
 pub fn law_apply_diff<K: Ord, V: Eq>()
     ensures { ApplyDiffLaw K.cmp V.eq }
+{}
+
+/// The changes from one version of a table to another, made to the first, give a table whose keys and values count as equal to those
+/// of the second, pair by pair.
+pub fn law_patched<K: Ord, V: Eq>()
+    ensures { PatchedLaw K.cmp V.eq }
 {}

@@ -10,6 +10,8 @@ mod closures;
 mod keys;
 mod layers;
 mod lined_up;
+mod matched;
+mod patched;
 mod readers;
 mod readme;
 mod report;
@@ -17,6 +19,7 @@ mod serialized;
 mod settings;
 #[cfg(test)]
 mod tests;
+mod three_tables;
 mod upsert;
 mod writing;
 

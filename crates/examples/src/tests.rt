@@ -6,15 +6,19 @@ use crate::closures::{feed_both, map_left_by};
 use crate::keys::{number_of, put_number, sort};
 use crate::layers::settings;
 use crate::lined_up::{lined_up, lined_up_at_ends, lined_up_reversed};
+use crate::matched::{inventory, on_sale, sold_out};
+use crate::patched::caught_up;
 use crate::readers::{next_line, opened};
 use crate::readme::{full_outer_join, joined_if_rising, port, side_by_side, split};
 use crate::report::{parse_table, render};
 use crate::serialized::{Row, from_json, to_json};
 use crate::settings::{Layer, Settings, resolve};
+use crate::three_tables::joined;
 use crate::upsert::set_right;
 use crate::writing::{count_right, raise_left};
 use either_or_both::EitherOrBoth;
 use either_or_both::EitherOrBoth::{Both, Left, Right};
+use either_or_both::join::is_rising;
 use indexmap::IndexMap;
 use std::alloc::{AllocError, Global};
 use std::collections::BTreeMap;
@@ -280,5 +284,70 @@ fn of_accounts(rt: HostRuntime) -> Result<(), Fail> {
         "[(\"ann\", Both([7, 5], [9])), (\"bob\", Right([1])), (\"eve\", Left([12]))]"
     );
     assert_eq!(rt; count_unpaid(&rows), 1);
+    Ok(())
+}
+
+/// Articles that are in stock, all of them, and those that have run out.
+#[test]
+fn of_matched_tables(rt: HostRuntime) -> Result<(), Fail> {
+    let alloc = rt.alloc();
+    let articles = vec![in alloc; (1, "pen"), (2, "ink"), (4, "pad")]?;
+    let stock = vec![in alloc; (2, 40), (3, 9), (4, 7)]?;
+    assert!(rt; is_rising(&articles) && is_rising(&stock));
+    assert_eq!(rt;
+        on_sale(alloc, articles.clone()?, stock.clone()?)?,
+        vec![in alloc; (2, ("ink", 40)), (4, ("pad", 7))]?
+    );
+    assert_eq!(rt;
+        inventory(alloc, articles.clone()?, stock.clone()?)?,
+        vec![in alloc;
+            (1, ("pen", None)),
+            (2, ("ink", Some(40))),
+            (4, ("pad", Some(7)))
+        ]?
+    );
+    assert_eq!(rt;
+        sold_out(alloc, articles, stock)?,
+        vec![in alloc; (1, "pen")]?
+    );
+    Ok(())
+}
+
+/// A copy of the old version becomes the new one; what a copy has beside it stays.
+#[test]
+fn of_a_copy(rt: HostRuntime) -> Result<(), Fail> {
+    let alloc = rt.alloc();
+    let old = vec![in alloc; (1, 'a'), (2, 'b'), (3, 'c')]?;
+    let new = vec![in alloc; (1, 'a'), (3, 'd'), (4, 'e')]?;
+    let copy = vec![in alloc; (1, 'a'), (2, 'b'), (3, 'c'), (9, 'z')]?;
+    assert!(rt; is_rising(&old) && is_rising(&new) && is_rising(&copy));
+    assert_eq!(rt;
+        caught_up(alloc, old.clone()?, old.clone()?, new.clone()?)?,
+        new
+    );
+    assert_eq!(rt;
+        caught_up(alloc, copy, old, new)?,
+        vec![in alloc; (1, 'a'), (3, 'd'), (4, 'e'), (9, 'z')]?
+    );
+    Ok(())
+}
+
+/// Three tables as one.
+#[test]
+fn of_three_tables(rt: HostRuntime) -> Result<(), Fail> {
+    let alloc = rt.alloc();
+    let first = vec![in alloc; (1, 'a'), (3, 'b')]?;
+    let second = vec![in alloc; (1, "x"), (2, "y")]?;
+    let third = vec![in alloc; (1, 7), (2, 8), (3, 9), (4, 10)]?;
+    assert!(rt; is_rising(&first) && is_rising(&second) && is_rising(&third));
+    assert_eq!(rt;
+        joined(alloc, first, second, third)?,
+        vec![in alloc;
+            (1, Both('a', Both("x", 7))),
+            (2, Right(Both("y", 8))),
+            (3, Both('b', Right(9))),
+            (4, Right(Right(10)))
+        ]?
+    );
     Ok(())
 }
