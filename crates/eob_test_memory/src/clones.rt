@@ -59,9 +59,9 @@ fn list<'a>(memory: Memory<'a>, tokens: &Tokens) -> Result<List<'a>, AllocError>
     Ok(list)
 }
 
-/// Each variant of both enums, and their walks.
+/// Each variant of both enums, and their walks: a clone is made whole, or where memory is refused is dropped.
 #[test]
-fn of_values_and_walks(rt: HostRuntime) -> Result<(), Fail> {
+fn values_and_walks_are_cloned(rt: HostRuntime) -> Result<(), Fail> {
     let alloc = rt.alloc();
     let m = &Refusing::new(alloc);
     let t = &Tokens::new(alloc)?;
@@ -180,9 +180,9 @@ fn check_cloned<V: ClonedPlaces>(
     Ok(())
 }
 
-/// Each variant of both enums, through references and through references for writing.
+/// The same of each variant of both enums through references, and through references for writing.
 #[test]
-fn of_references(rt: HostRuntime) -> Result<(), Fail> {
+fn places_are_cloned_through_references(rt: HostRuntime) -> Result<(), Fail> {
     let alloc = rt.alloc();
     let m = &Refusing::new(alloc);
     let t = &Tokens::new(alloc)?;
@@ -205,7 +205,7 @@ impl Clone for Stubborn {
 
 /// A clone that refuses by itself is handed on: what was borrowed is as it was.
 #[test]
-fn of_stubborn_values(rt: HostRuntime) {
+fn clone_that_refuses_by_itself_is_handed_on(rt: HostRuntime) {
     let left = 1;
     let right = Stubborn;
     let refused: Result<EitherOrBoth<i32, Stubborn>, AllocError> = Both(&left, &right).cloned();

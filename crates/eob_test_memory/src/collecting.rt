@@ -75,7 +75,7 @@ type BTreeMaps<M> = EitherOrBoth<BTreeMap<One, One, M>>;
 
 /// Lists and sets, from values of `EitherOrBoth`. A hashed set has one value a side here, since its order is not told.
 #[test]
-fn of_values(rt: HostRuntime) -> Result<(), Fail> {
+fn lists_and_sets_are_collected(rt: HostRuntime) -> Result<(), Fail> {
     let alloc = rt.alloc();
     let m = &Refusing::new(alloc);
     let t = &Tokens::new(alloc)?;
@@ -96,7 +96,7 @@ fn of_values(rt: HostRuntime) -> Result<(), Fail> {
 
 /// Lists and sets, from values of `Either`.
 #[test]
-fn of_values_of_either(rt: HostRuntime) -> Result<(), Fail> {
+fn lists_and_sets_are_collected_from_either(rt: HostRuntime) -> Result<(), Fail> {
     let alloc = rt.alloc();
     let m = &Refusing::new(alloc);
     let t = &Tokens::new(alloc)?;
@@ -115,7 +115,7 @@ fn of_values_of_either(rt: HostRuntime) -> Result<(), Fail> {
 
 /// Maps, from values of `EitherOrBoth`.
 #[test]
-fn of_entries(rt: HostRuntime) -> Result<(), Fail> {
+fn maps_are_collected(rt: HostRuntime) -> Result<(), Fail> {
     let alloc = rt.alloc();
     let m = &Refusing::new(alloc);
     let t = &Tokens::new(alloc)?;
@@ -135,7 +135,7 @@ fn of_entries(rt: HostRuntime) -> Result<(), Fail> {
 
 /// Maps, from values of `Either`.
 #[test]
-fn of_entries_of_either(rt: HostRuntime) -> Result<(), Fail> {
+fn maps_are_collected_from_either(rt: HostRuntime) -> Result<(), Fail> {
     let alloc = rt.alloc();
     let m = &Refusing::new(alloc);
     let t = &Tokens::new(alloc)?;
@@ -155,7 +155,7 @@ fn of_entries_of_either(rt: HostRuntime) -> Result<(), Fail> {
 
 /// Where the first request is refused the source was asked for one value alone.
 #[test]
-fn source_is_asked_once(rt: HostRuntime) -> Result<(), Fail> {
+fn source_is_asked_no_more_after_a_refusal(rt: HostRuntime) -> Result<(), Fail> {
     let memory = &Refusing::new(rt.alloc());
     let watch = Watch::new(memory);
     let items: [EitherOrBoth<u8>; 3] = [Left(1), Left(2), Left(3)];

@@ -4,7 +4,7 @@
 use either_or_both::EitherOrBoth;
 use either_or_both::EitherOrBoth::{Both, Left};
 use either_or_both::laws::{End, drive_swap_in};
-use eob_testkit::memory::{RUNS, Refusing, Runs, Tokens};
+use eob_testkit::memory::{RUNS, Refusing, Tokens};
 use std::alloc::{AllocError, Global};
 use std::rc::Rc;
 use std::test::Fail;
@@ -23,30 +23,6 @@ fn drive<'a>(
     drive_swap_in(memory, pair, ends)
 }
 
-/// Where memory is refused, the pair, what it still has to give and what it has given are dropped.
-#[test]
-fn driving(rt: HostRuntime) -> Result<(), Fail> {
-    let memory = Refusing::new(rt.alloc());
-    let tokens = Tokens::new(rt.alloc())?;
-    let runs = Runs::new(rt.alloc(), &memory, &tokens);
-    let ends = [End::Back, End::Front, End::Back, End::Back, End::Front];
-    for number in 1..RUNS {
-        memory.refuse(0);
-        let mut left = Vec::new(&memory);
-        left.push(tokens.one()?)?;
-        left.push(tokens.two()?)?;
-        let mut right = Vec::new(&memory);
-        right.push(tokens.three()?)?;
-        memory.refuse(number);
-        let want = "([Some(Left(2)), Some(Both(1, 3)), None, None, None], 0)";
-        if runs.is_whole(drive(&memory, Both(left, right), &ends), want)? {
-            return Ok(());
-        }
-    }
-    Err("each run was refused")?;
-    Ok(())
-}
-
 // One of the three numbers, in turn.
 fn item(tokens: &Tokens, place: u16) -> Result<Rc<u8>, AllocError> {
     match place % 3 {
@@ -56,9 +32,10 @@ fn item(tokens: &Tokens, place: u16) -> Result<Rc<u8>, AllocError> {
     }
 }
 
-/// Sides of three hundred and of two hundred values are driven past their end, from the front and the back in turn.
+/// Sides of three hundred and of two hundred values are driven past their end, from the front and the back in turn. Where memory is
+/// refused, the pair, what it still has to give and what it has given are dropped.
 #[test]
-fn driving_many(rt: HostRuntime) -> Result<(), Fail> {
+fn walk_is_driven_past_its_end(rt: HostRuntime) -> Result<(), Fail> {
     let memory = Refusing::new(rt.alloc());
     let tokens = Tokens::new(rt.alloc())?;
     let mut ends = Vec::new(rt.alloc());

@@ -87,6 +87,7 @@ fn give_up_held(
     Ok(())
 }
 
+/// Whatever ends were called, and however often, the values that are alive are those from before the walk was made.
 #[test]
 fn walks_that_are_given_up(rt: HostRuntime) -> Result<(), Fail> {
     let alloc = rt.alloc();

@@ -48,10 +48,10 @@ fn check(
     Ok(())
 }
 
-/// A vector grows by three hundred values on each side. All requests after the refused one are refused too, since std's own `extend` asks a second time, for
-/// less, where its first request is refused.
+/// A vector grows by three hundred values on each side. All requests after the refused one are refused too, since std's own `extend`
+/// asks a second time, for less, where its first request is refused.
 #[test]
-fn of_vectors(rt: HostRuntime) -> Result<(), Fail> {
+fn vectors_are_extended(rt: HostRuntime) -> Result<(), Fail> {
     let alloc = rt.alloc();
     let memory = Refusing::new(alloc);
     let tokens = Tokens::new(alloc)?;

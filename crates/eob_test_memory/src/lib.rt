@@ -6,6 +6,8 @@
 #![tactic(auto)]
 
 #[cfg(test)]
+mod again;
+#[cfg(test)]
 mod clones;
 #[cfg(test)]
 mod collecting;
@@ -16,8 +18,4 @@ mod drops;
 #[cfg(test)]
 mod extending;
 #[cfg(test)]
-mod joining;
-#[cfg(test)]
 mod many;
-#[cfg(test)]
-mod regrouping;

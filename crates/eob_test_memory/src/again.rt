@@ -1,13 +1,12 @@
-//! Tests: regrouping and collecting again, with each request for memory refused in turn.
+//! Tests: collecting again, with each request for memory refused in turn.
 //!
-//! What is tested are their forms with any allocator, with memory of the tests' own. The first run of each is refused, so that none
-//! hands its values on unwalked.
+//! What is tested is its form with any allocator, with memory of the tests' own.
 ghost use Rattle.std.specs.Prelude.{List};
 ghost use Rattle.eob_both.specs.declared.either_or_both.EitherOrBoth as enum;
 
 use either_or_both::EitherOrBoth;
-use either_or_both::EitherOrBoth::{Both, Left, Right};
-use either_or_both::laws::{Walked, recollect_in, regroup_in};
+use either_or_both::EitherOrBoth::Both;
+use either_or_both::laws::{Walked, recollect_in};
 use eob_testkit::memory::{RUNS, Refusing, Runs, Source, Tokens, Watch};
 use indexmap::{IndexMap, IndexSet};
 use std::alloc::Global;
@@ -23,27 +22,6 @@ type Hasher = BuildHasherDefault<FoldHasher>;
 
 type One = Rc<u8>;
 
-/// The values of a list that is regrouped are dropped where memory is refused.
-#[test]
-fn regrouping(rt: HostRuntime) -> Result<(), Fail> {
-    let memory = Refusing::new(rt.alloc());
-    let tokens = Tokens::new(rt.alloc())?;
-    let runs = Runs::new(rt.alloc(), &memory, &tokens);
-    for number in 1..RUNS {
-        memory.refuse(0);
-        let mut list = Vec::new(&memory);
-        list.push(Left(tokens.one()?))?;
-        list.push(Right(tokens.two()?))?;
-        list.push(Left(tokens.three()?))?;
-        memory.refuse(number);
-        if runs.is_whole(regroup_in(&memory, list), "[Both(1, 2), Left(3)]")? {
-            return Ok(());
-        }
-    }
-    Err("each run was refused")?;
-    Ok(())
-}
-
 // Makes a pair of containers with nothing refused, and collects it again with each request refused in turn.
 fn check<'a, C: Walked + FromIterator<C::Item, Alloc = Memory<'a>> + Drop>(
     alloc: Global,
@@ -56,8 +34,10 @@ where
     C::Item: Clone + Drop,
     EitherOrBoth<C, C>: FromIterator<EitherOrBoth<C::Item, C::Item>, Alloc = Memory<'a>> + Debug,
     requires made { (xs : List C.Item) → C.can_from_iter xs }
-    requires any { (xs : List (enum.EitherOrBoth C.Item C.Item)) → ⟦<EitherOrBoth<C, C> as FromIterator<EitherOrBoth<C::Item, C::Item>>>⟧.can_from_iter xs }
-    requires whole { (v : enum.EitherOrBoth C C) → ⟦<EitherOrBoth<C, C> as FromIterator<EitherOrBoth<C::Item, C::Item>>>⟧.is_complete v }
+    requires any { (xs : List (enum.EitherOrBoth C.Item C.Item))
+        → ⟦<EitherOrBoth<C, C> as FromIterator<EitherOrBoth<C::Item, C::Item>>>⟧.can_from_iter xs }
+    requires whole { (v : enum.EitherOrBoth C C)
+        → ⟦<EitherOrBoth<C, C> as FromIterator<EitherOrBoth<C::Item, C::Item>>>⟧.is_complete v }
 {
     let runs = Runs::new(alloc, memory, tokens);
     let (left, right) = sides;
@@ -95,7 +75,7 @@ type OrderedMap<M> = BTreeMap<One, One, M>;
 /// A pair that is handed in is dropped where memory is refused, of each shape of lists and sets. A hashed one has one value a side
 /// here, since its order is not told.
 #[test]
-fn collecting_values_again(rt: HostRuntime) -> Result<(), Fail> {
+fn lists_and_sets_are_collected_again(rt: HostRuntime) -> Result<(), Fail> {
     let alloc = rt.alloc();
     let m = &Refusing::new(alloc);
     let t = &Tokens::new(alloc)?;
@@ -111,7 +91,7 @@ fn collecting_values_again(rt: HostRuntime) -> Result<(), Fail> {
 
 /// The same of each shape of maps.
 #[test]
-fn collecting_entries_again(rt: HostRuntime) -> Result<(), Fail> {
+fn maps_are_collected_again(rt: HostRuntime) -> Result<(), Fail> {
     let alloc = rt.alloc();
     let m = &Refusing::new(alloc);
     let t = &Tokens::new(alloc)?;
