@@ -205,7 +205,8 @@ pub fn cloned_back(v: &EitherOrBoth<u8, char>) -> Result<EitherOrBoth<u8, char>,
 pub fn cloned_texts(
     v: &EitherOrBoth<String, char>,
 ) -> Result<EitherOrBoth<String, char>, AllocError>
-    ensures { IfOk result (λ c. option_map (λ s. string_bytes s) (left_place c) ≡ option_map (λ s. string_bytes s) (left_place v.now)) }
+    ensures { IfOk result (λ c. option_map (λ s. string_bytes s) (left_place c)
+        ≡ option_map (λ s. string_bytes s) (left_place v.now)) }
 {
     v.clone()
 }
@@ -268,7 +269,8 @@ pub fn in_turn() -> u32
 pub fn transpose_ok_where_none_errs(
     v: EitherOrBoth<Result<u8, char>, Result<u16, char>>,
 ) -> Result<EitherOrBoth<u8, u16>, EitherOrBoth<char>>
-    ensures ok { IsOk result ↔ (((e : _) → left_place v ≡ Some (Err e) → ⊥) × ((e : _) → right_place v ≡ Some (Err e) → ⊥)) }
+    ensures ok { IsOk result ↔ (((e : _) → left_place v ≡ Some (Err e) → ⊥)
+        × ((e : _) → right_place v ≡ Some (Err e) → ⊥)) }
 {
     v.transpose()
 }
@@ -517,7 +519,8 @@ pub fn print_any<L: Display + Drop, R: Display + Drop>(
 
 /// The text of the refusal.
 pub fn print_refusal(alloc: Global) -> Result<String, AllocError>
-    ensures { IfOk result (λ s. string_bytes s ≡ codes "Either the left, right or both values must be present") }
+    ensures { IfOk result (λ s. string_bytes s
+        ≡ codes "Either the left, right or both values must be present") }
 {
     TryFromOptionsError.to_string(alloc)
 }
@@ -534,7 +537,8 @@ pub fn collect_list<L: Drop, R: Drop>(
 
 /// A lone left value collected into vectors.
 pub fn collect_one(alloc: Global, l: u8) -> Result<EitherOrBoth<Vec<u8>, Vec<char>>, AllocError>
-    ensures { IfOk result (λ v. option_map (λ l. l.items) (left_place v) ≡ Some (l ∷ []) × right_place v ≡ None) }
+    ensures { IfOk result (λ v. option_map (λ l. l.items) (left_place v) ≡ Some (l ∷ [])
+        × right_place v ≡ None) }
 {
     let one: EitherOrBoth<u8, char> = EitherOrBoth::Left(l);
     [one].into_iter().collect(alloc)
@@ -607,7 +611,9 @@ pub fn number_of(v: EitherOrBoth<u32, char>) -> u32
 
 /// A left value alone.
 pub fn number_alone(v: EitherOrBoth<u32, char>) -> EitherOrBoth<u32, char>
-    ensures { MatchPlaces v (λ l _. result ≡ EitherOrBoth.Left l) (λ l. result ≡ EitherOrBoth.Left l) (λ r. result ≡ EitherOrBoth.Left r) }
+    ensures { MatchPlaces v (λ l _. result ≡ EitherOrBoth.Left l)
+        (λ l. result ≡ EitherOrBoth.Left l)
+        (λ r. result ≡ EitherOrBoth.Left r) }
 {
     v.into_left(|r| r as u32)
 }
@@ -628,7 +634,9 @@ pub fn as_result_or(v: EitherOrBoth<u8, char>) -> Result<char, bool>
 
 /// A chain of getters.
 pub fn chain(v: EitherOrBoth<u8, char>) -> EitherOrBoth<u16, char>
-    ensures { MatchPlaces v (λ l _. result ≡ EitherOrBoth.Left (l + 2)) (λ l. result ≡ EitherOrBoth.Left (l + 2)) (λ r. result ≡ EitherOrBoth.Right r) }
+    ensures { MatchPlaces v (λ l _. result ≡ EitherOrBoth.Left (l + 2))
+        (λ l. result ≡ EitherOrBoth.Left (l + 2))
+        (λ r. result ≡ EitherOrBoth.Right r) }
 {
     v.left_and_then(|l| EitherOrBoth::Left(l as u16 + 2))
 }

@@ -43,8 +43,10 @@ pub fn last_given<K: Hash + Eq + Drop, V: Copy + Drop, W: Drop>(
     entries: Vec<EitherOrBoth<(K, V), (K, W)>>,
     key: &K,
 ) -> Result<Option<V>, AllocError>
-    ensures some { IfOk result (λ r. (v : V) → (r ≡ Some v) ↔ IsLastValue K.eq (lefts entries.items) key.now v) }
-    ensures none { IfOk result (λ r. (r ≡ None) ↔ (is_member K.eq (keys_of (lefts entries.items)) key.now ≡ false)) }
+    ensures some { IfOk result (λ r. (v : V) → (r ≡ Some v)
+        ↔ IsLastValue K.eq (lefts entries.items) key.now v) }
+    ensures none { IfOk result (λ r. (r ≡ None)
+        ↔ (is_member K.eq (keys_of (lefts entries.items)) key.now ≡ false)) }
 {
     law_last_value::<K, V>();
     get_from_hash_map(alloc, entries, key)
@@ -71,8 +73,10 @@ pub fn get_from_btree_map(
     entries: Vec<EitherOrBoth<(u8, char), (u8, bool)>>,
     key: u8,
 ) -> Result<Option<char>, AllocError>
-    ensures some { IfOk result (λ r. (v : ℕ) → (r ≡ Some v) ↔ IsLastValue (eq_by_cmp nat_cmp) (lefts entries.items) key v) }
-    ensures none { IfOk result (λ r. (r ≡ None) ↔ (is_member (eq_by_cmp nat_cmp) (keys_of (lefts entries.items)) key ≡ false)) }
+    ensures some { IfOk result (λ r. (v : ℕ) → (r ≡ Some v)
+        ↔ IsLastValue (eq_by_cmp nat_cmp) (lefts entries.items) key v) }
+    ensures none { IfOk result (λ r. (r ≡ None)
+        ↔ (is_member (eq_by_cmp nat_cmp) (keys_of (lefts entries.items)) key ≡ false)) }
 {
     law_last_value_by_order::<u8, char>();
     let pair: EitherOrBoth<BTreeMap<u8, char>, BTreeMap<u8, bool>> = entries
@@ -186,7 +190,8 @@ pub fn first_comes_first(
     values: Vec<EitherOrBoth<u8, char>>,
 ) -> Result<Vec<u8>, AllocError>
     ensures order { IfOk result (λ ks. StandByFirstPlaces nat_eq (lefts values.items) ks.items) }
-    ensures same { IfOk result (λ ks. (k : ℕ) → is_member nat_eq ks.items k ≡ is_member nat_eq (lefts values.items) k) }
+    ensures same { IfOk result (λ ks. (k : ℕ) → is_member nat_eq ks.items k
+        ≡ is_member nat_eq (lefts values.items) k) }
 {
     law_first_items::<u8>();
     values_in_order(alloc, values)
@@ -198,7 +203,8 @@ pub fn rising_entries(
     entries: Vec<EitherOrBoth<(u8, char), (u8, bool)>>,
 ) -> Result<Vec<(u8, char)>, AllocError>
     ensures rising { IfOk result (λ es. IsStrictlySortedBy nat_cmp (keys_of es.items)) }
-    ensures last { IfOk result (λ es. (k : ℕ) → lookup (is_at (nat_cmp k)) es.items ≡ last_value (eq_by_cmp nat_cmp) (lefts entries.items) k) }
+    ensures last { IfOk result (λ es. (k : ℕ) → lookup (is_at (nat_cmp k)) es.items
+        ≡ last_value (eq_by_cmp nat_cmp) (lefts entries.items) k) }
 {
     let pair: EitherOrBoth<BTreeMap<u8, char>, BTreeMap<u8, bool>> = entries
         .into_iter()
@@ -305,7 +311,8 @@ pub fn both_stand(alloc: Global, values: Vec<EitherOrBoth<u8, char>>) -> Result<
 
 /// The left side alone stands where it alone has values.
 pub fn left_alone_stands(alloc: Global, values: Vec<Either<u8, char>>) -> Result<bool, AllocError>
-    ensures { IfOk result (λ r. IsTrue r ↔ ((either.lefts values.items ≡ [] → ⊥) × (either.rights values.items ≡ []))) }
+    ensures { IfOk result (λ r. IsTrue r
+        ↔ ((either.lefts values.items ≡ [] → ⊥) × (either.rights values.items ≡ []))) }
 {
     let pair: EitherOrBoth<HashSet<u8>, HashSet<char>> = values.into_iter().collect(alloc)?;
     Ok(pair.is_left())
@@ -329,7 +336,9 @@ pub fn setting(
     entries: Vec<EitherOrBoth<(u8, char), (u8, char)>>,
     key: u8,
 ) -> Result<Option<char>, AllocError>
-    ensures { IfOk result (λ r. r ≡ option_or (last_value nat_eq (lefts entries.items) key) (last_value nat_eq (rights entries.items) key)) }
+    ensures { IfOk result (λ r. r
+        ≡ option_or (last_value nat_eq (lefts entries.items) key)
+        (last_value nat_eq (rights entries.items) key)) }
 {
     let pair: EitherOrBoth<HashMap<u8, char>, HashMap<u8, char>> = entries
         .into_iter()
@@ -348,7 +357,9 @@ pub fn came_on_both_sides(
     values: Vec<Either<u8, u8>>,
     value: u8,
 ) -> Result<bool, AllocError>
-    ensures { IfOk result (λ r. IsTrue r ↔ ((is_member nat_eq (either.lefts values.items) value ≡ true) × (is_member nat_eq (either.rights values.items) value ≡ true))) }
+    ensures { IfOk result (λ r. IsTrue r
+        ↔ ((is_member nat_eq (either.lefts values.items) value ≡ true)
+        × (is_member nat_eq (either.rights values.items) value ≡ true))) }
 {
     let pair: EitherOrBoth<HashSet<u8>, HashSet<u8>> = values.into_iter().collect(alloc)?;
     match pair {

@@ -179,7 +179,8 @@ pub fn cloned_back(v: &Either<u8, char>) -> Result<Either<u8, char>, AllocError>
 pub fn transpose_ok_where_none_errs(
     v: Either<Result<u8, char>, Result<u16, char>>,
 ) -> Result<Either<u8, u16>, Either<char>>
-    ensures { IsOk result ↔ (((e : _) → left_place v ≡ Some (Err e) → ⊥) × ((e : _) → right_place v ≡ Some (Err e) → ⊥)) }
+    ensures { IsOk result ↔ (((e : _) → left_place v ≡ Some (Err e) → ⊥)
+        × ((e : _) → right_place v ≡ Some (Err e) → ⊥)) }
 {
     v.transpose()
 }
@@ -304,7 +305,8 @@ pub fn collect_list<L: Drop, R: Drop>(
     alloc: Global,
     xs: Vec<Either<L, R>>,
 ) -> Result<EitherOrBoth<Vec<L>, Vec<R>>, AllocError>
-    ensures { IfOk result (λ v. both.map_places (λ l. l.items) (λ r. r.items) v ≡ pair_of (lefts xs.items) (rights xs.items)) }
+    ensures { IfOk result (λ v. both.map_places (λ l. l.items) (λ r. r.items) v
+        ≡ pair_of (lefts xs.items) (rights xs.items)) }
 {
     xs.into_iter().collect(alloc)
 }

@@ -39,7 +39,8 @@ pub fn two_slices<'a, T, U>(
     b: &'a [U],
     ends: &[End],
 ) -> Result<Driven<EitherOrBoth<&'a T, &'a U>>, AllocError>
-    ensures { IfOk result (λ d. map (option_map (map_places same_ref same_ref)) d.answers.items ≡ answers (aligned (map ref_to a.now) (map ref_to b.now)) ends.now) }
+    ensures { IfOk result (λ d. map (option_map (map_places same_ref same_ref)) d.answers.items
+        ≡ answers (aligned (map ref_to a.now) (map ref_to b.now)) ends.now) }
 {
     drive_swap_listed(alloc, EitherOrBoth::Both(a, b), ends)
 }
@@ -51,7 +52,8 @@ pub fn numbered<T: Drop>(
     queue: VecDeque<T>,
     ends: &[End],
 ) -> Result<Driven<EitherOrBoth<usize, T>>, AllocError>
-    ensures { IfOk result (λ d. d.answers.items ≡ answers (aligned (range_with_len 0 n) queue.items) ends.now) }
+    ensures { IfOk result (λ d. d.answers.items
+        ≡ answers (aligned (range_with_len 0 n) queue.items) ends.now) }
 {
     drive_swap_owned(alloc, EitherOrBoth::Both(0..n, queue), ends)
 }
@@ -64,7 +66,8 @@ pub fn three_vectors<T: Drop, U: Drop, V: Drop>(
     c: Vec<V>,
     ends: &[End],
 ) -> Result<Driven<EitherOrBoth<EitherOrBoth<T, U>, V>>, AllocError>
-    ensures { IfOk result (λ d. d.answers.items ≡ answers (aligned (aligned a.items b.items) (reverse c.items)) ends.now) }
+    ensures { IfOk result (λ d. d.answers.items
+        ≡ answers (aligned (aligned a.items b.items) (reverse c.items)) ends.now) }
 {
     let first_two = EitherOrBoth::Both(a, b).into_iter_swap();
     drive_swap_owned(

@@ -1,6 +1,7 @@
 //! Uses of the full outer join: reports on two versions of a table, layered settings, and joins of many kinds of source.
-ghost use Rattle.std.specs.Prelude.{◌≡◌, ◌+◌, ◌-◌, ◌<◌, ◌^◌, IfOk, IfSome, count_by, length, false, is_none, is_some, map, option_map, unwrap_or};
+ghost use Rattle.std.specs.Prelude.{◌≡◌, ◌+◌, ◌-◌, ◌<◌, ◌≤◌, ◌^◌, IfOk, IfSome, count_by, length, false, is_none, is_some, map, option_map, unwrap_or};
 ghost use Rattle.std.specs.BTreeMap.{get};
+ghost use Rattle.std.specs.HashMap.{get_by};
 ghost use Rattle.std.specs.Option.{option_or, option_zip};
 ghost use Rattle.either_or_both.specs.Places.{from_places, left_place, right_place};
 ghost use Rattle.either_or_both.specs.Join.{IsJoin, Rising, value_under};
@@ -9,11 +10,13 @@ ghost use Rattle.either_or_both.specs.OuterJoin.{ShowsPlaces};
 
 use either_or_both::EitherOrBoth;
 use either_or_both::join::{
-    law_join_overlaid, law_rising_map, law_sorted_rises, outer_join, outer_join_lazily,
-    outer_join_slices,
+    law_join_overlaid, law_rising_hash_map, law_rising_map, law_sorted_rises, outer_join,
+    outer_join_lazily, outer_join_slices,
 };
+use indexmap::IndexMap;
 use std::alloc::{AllocError, Global};
 use std::collections::BTreeMap;
+use std::hash::Hash;
 
 /// The join of two lists, through the walk.
 pub fn walk_of_lists<K: Ord + Drop, A: Drop, B: Drop>(
@@ -104,6 +107,31 @@ pub fn map_of_join<K: Ord + Drop, A: Drop, B: Drop>(
     outer_join_lazily(left, right).collect(alloc)
 }
 
+/// The join of two lists as a map in the order of the keys, which has under each key what the two lists have there.
+pub fn index_map_of_join<K: Ord + Hash + Drop, A: Drop, B: Drop>(
+    alloc: Global,
+    left: Vec<(K, A)>,
+    right: Vec<(K, B)>,
+) -> Result<IndexMap<K, EitherOrBoth<A, B>>, AllocError>
+    requires left { Rising K.cmp left.items }
+    requires right { Rising K.cmp right.items }
+    ensures { IfOk result (λ rows. (k : _) → get_by (K.eq k) rows
+        ≡ from_places (value_under K.cmp left.items k) (value_under K.cmp right.items k)) }
+{
+    law_rising_hash_map::<K, EitherOrBoth<A, B>>();
+    outer_join_lazily(left, right).collect(alloc)
+}
+
+/// How many rows the join of two tables has that are written out. The attribute opens `Rising`, which is then found of them.
+#[tactic(auto, unfolding(either_or_both::specs::Join::Rising))]
+pub fn count_written_rows() -> usize
+    ensures { result ≤ 3 }
+{
+    let left = [(1, 'a'), (3, 'b')];
+    let right = [(3, 'y')];
+    outer_join_slices(&left, &right).count()
+}
+
 /// How many keys of a table were added, removed, changed and left as they were.
 #[derive(Debug, Clone, Copy, PartialEq, Eq)]
 pub struct ChangeCounts {
@@ -147,7 +175,8 @@ fn is_same<V: Eq>(cells: &EitherOrBoth<V, V>) -> bool
 /// How many keys have the same value in both lists.
 pub fn count_same<K, V: Eq>(joined: &[(K, EitherOrBoth<V, V>)]) -> usize
     ensures { result ≡ count_by (λ row. unwrap_or
-        (option_map (λ v. V.eq v.0 v.1) (option_zip (left_place row.1) (right_place row.1))) false) joined.now }
+        (option_map (λ v. V.eq v.0 v.1) (option_zip (left_place row.1) (right_place row.1))) false)
+        joined.now }
 {
     joined.iter().filter(|row| is_same(&row.1)).count()
 }

@@ -58,7 +58,8 @@ pub fn skip_shown(reader: &mut Either<&[u8], Cursor<Vec<u8>>>) -> io::Result<usi
 
 /// The rest of any reader.
 pub fn read_rest<R: Read>(reader: &mut R, buf: &mut Vec<u8>) -> io::Result<usize>
-    ensures bytes { OnOk result (IfSome (R.remaining reader.old) (λ xs. buf.new.items ≡ buf.old.items ++ xs)) }
+    ensures bytes { OnOk result (IfSome (R.remaining reader.old)
+        (λ xs. buf.new.items ≡ buf.old.items ++ xs)) }
     ensures end { OnOk result (IsAtEnd (R.remaining reader.new)) }
 {
     reader.read_to_end(buf)
@@ -69,7 +70,8 @@ pub fn rest_of_either(
     reader: &mut Either<&[u8], Cursor<Vec<u8>>>,
     buf: &mut Vec<u8>,
 ) -> io::Result<usize>
-    ensures left { OnOk result (IfSome (left_place reader.old) (λ l. buf.new.items ≡ buf.old.items ++ l.now)) }
+    ensures left { OnOk result (IfSome (left_place reader.old)
+        (λ l. buf.new.items ≡ buf.old.items ++ l.now)) }
     ensures right { OnOk result (IfSome (right_place reader.old)
         (λ r. buf.new.items ≡ buf.old.items ++ drop (cursor_position r) (cursor_inner r).items)) }
 {
@@ -78,7 +80,8 @@ pub fn rest_of_either(
 
 /// Writes two texts to any writer.
 pub fn write_two<W: Write>(writer: &mut W, first: &[u8], second: &[u8]) -> io::Result<()>
-    ensures { OnOk result (Appends (W.contents writer.old) (W.contents writer.new) (first.now ++ second.now)) }
+    ensures { OnOk result (Appends
+        (W.contents writer.old) (W.contents writer.new) (first.now ++ second.now)) }
 {
     writer.write_all(first)?;
     writer.write_all(second)
@@ -99,11 +102,15 @@ pub fn write_two_to_either(
 /// One write to one of two vectors, of which the first bytes are appended to the one that is there.
 pub fn write_to_either(writer: &mut Either<Vec<u8>, Vec<u8>>, bytes: &[u8]) -> io::Result<usize>
     ensures left { MatchResult result
-        (λ n. option_map (λ v. v.items) (left_place writer.new) ≡ option_map (λ v. v.items ++ take n bytes.now) (left_place writer.old))
-        (λ _. option_map (λ v. v.items) (left_place writer.new) ≡ option_map (λ v. v.items) (left_place writer.old)) }
+        (λ n. option_map (λ v. v.items) (left_place writer.new)
+        ≡ option_map (λ v. v.items ++ take n bytes.now) (left_place writer.old))
+        (λ _. option_map (λ v. v.items) (left_place writer.new)
+        ≡ option_map (λ v. v.items) (left_place writer.old)) }
     ensures right { MatchResult result
-        (λ n. option_map (λ v. v.items) (right_place writer.new) ≡ option_map (λ v. v.items ++ take n bytes.now) (right_place writer.old))
-        (λ _. option_map (λ v. v.items) (right_place writer.new) ≡ option_map (λ v. v.items) (right_place writer.old)) }
+        (λ n. option_map (λ v. v.items) (right_place writer.new)
+        ≡ option_map (λ v. v.items ++ take n bytes.now) (right_place writer.old))
+        (λ _. option_map (λ v. v.items) (right_place writer.new)
+        ≡ option_map (λ v. v.items) (right_place writer.old)) }
 {
     writer.write(bytes)
 }
@@ -117,8 +124,10 @@ pub fn go_to(cursor: &mut Either<Cursor<Vec<u8>>, Cursor<Vec<u8>>>, place: u64) 
 
 /// Prints a number into one of two texts.
 pub fn print_to_either(text: &mut Either<String, String>, word: &str) -> std::fmt::Result
-    ensures left { OnOk result (option_map string_bytes (left_place text.new) ≡ option_map (λ s. string_bytes s ++ word.now) (left_place text.old)) }
-    ensures right { OnOk result (option_map string_bytes (right_place text.new) ≡ option_map (λ s. string_bytes s ++ word.now) (right_place text.old)) }
+    ensures left { OnOk result (option_map string_bytes (left_place text.new)
+        ≡ option_map (λ s. string_bytes s ++ word.now) (left_place text.old)) }
+    ensures right { OnOk result (option_map string_bytes (right_place text.new)
+        ≡ option_map (λ s. string_bytes s ++ word.now) (right_place text.old)) }
 {
     std::fmt::Write::write_str(text, word)
 }
@@ -151,9 +160,11 @@ pub fn extended<I: IntoIterator<Item = u8>>(
     pair: &mut Either<Vec<u8>, Vec<u8>>,
     source: I,
 ) -> Result<(), AllocError>
-    requires { (it : I.IntoIter) → I.into_iter_gives source it → I.IntoIter.can_next it × IsFinite (I.IntoIter.remaining it) }
+    requires { (it : I.IntoIter) → I.into_iter_gives source it
+        → I.IntoIter.can_next it × IsFinite (I.IntoIter.remaining it) }
     ensures ran { (it : I.IntoIter) × (xs : List ℕ) × I.into_iter_gives source it
-        × MatchResult result (λ _. Drains I.IntoIter.next_gives it xs) (λ _. (rest : I.IntoIter) × Yields I.IntoIter.next_gives it xs rest)
+        × MatchResult result (λ _. Drains I.IntoIter.next_gives it xs)
+        (λ _. (rest : I.IntoIter) × Yields I.IntoIter.next_gives it xs rest)
         × MapsPlace (λ v w. w.items ≡ v.items ++ xs) (left_place pair.old) (left_place pair.new)
         × MapsPlace (λ v w. w.items ≡ v.items ++ xs) (right_place pair.old) (right_place pair.new) }
     ensures variant { is_some (left_place pair.new) ≡ is_some (left_place pair.old) }

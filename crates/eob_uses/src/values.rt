@@ -110,7 +110,9 @@ pub fn wrapped_items<T: Drop, U: Drop>(
     alloc: Global,
     v: Either<Vec<T>, Vec<U>>,
 ) -> Result<Vec<Either<T, U>>, AllocError>
-    ensures { IfOk result (λ xs. MatchPlaces v (λ l. xs.items ≡ map (λ x. Left x) l.items) (λ r. xs.items ≡ map (λ y. Right y) r.items)) }
+    ensures { IfOk result (λ xs. MatchPlaces v
+        (λ l. xs.items ≡ map (λ x. Left x) l.items)
+        (λ r. xs.items ≡ map (λ y. Right y) r.items)) }
 {
     v.into_iter_swap().collect(alloc)
 }

@@ -31,7 +31,10 @@ pub fn pair_side_by_side<T: Drop, U: Drop>(
     alloc: Global,
     pair: EitherOrBoth<Vec<T>, Vec<U>>,
 ) -> Result<Vec<EitherOrBoth<T, U>>, AllocError>
-    ensures { IfOk result (λ v. MatchPlaces pair (λ a b. v.items ≡ aligned a.items b.items) (λ a. v.items ≡ aligned a.items []) (λ b. v.items ≡ aligned [] b.items)) }
+    ensures { IfOk result (λ v. MatchPlaces pair
+        (λ a b. v.items ≡ aligned a.items b.items)
+        (λ a. v.items ≡ aligned a.items [])
+        (λ b. v.items ≡ aligned [] b.items)) }
 {
     pair.into_iter_swap().collect(alloc)
 }
@@ -92,7 +95,8 @@ pub fn keys_beside_evens<V>(
     keys: &BTreeMap<u32, V>,
     b: &[u32],
 ) -> Result<Vec<EitherOrBoth<u32, u32>>, AllocError>
-    ensures { IfOk result (λ v. v.items ≡ aligned (map (λ e. e.0) keys.now.entries) (filter (λ x. x % 2 == 0) b.now)) }
+    ensures { IfOk result (λ v. v.items
+        ≡ aligned (map (λ e. e.0) keys.now.entries) (filter (λ x. x % 2 == 0) b.now)) }
 {
     EitherOrBoth::Both(
         keys.keys().copied(),
@@ -160,7 +164,10 @@ pub fn lent_side_by_side<'a, T, U>(
     alloc: Global,
     pair: &'a EitherOrBoth<Vec<T>, Vec<U>>,
 ) -> Result<Vec<EitherOrBoth<&'a T, &'a U>>, AllocError>
-    ensures { IfOk result (λ v. MatchPlaces pair.now (λ a b. map (map_places deref deref) v.items ≡ aligned a.items b.items) (λ a. map (map_places deref deref) v.items ≡ aligned a.items []) (λ b. map (map_places deref deref) v.items ≡ aligned [] b.items)) }
+    ensures { IfOk result (λ v. MatchPlaces pair.now
+        (λ a b. map (map_places deref deref) v.items ≡ aligned a.items b.items)
+        (λ a. map (map_places deref deref) v.items ≡ aligned a.items [])
+        (λ b. map (map_places deref deref) v.items ≡ aligned [] b.items)) }
 {
     law_aligned_refs::<T, U>();
     pair.iter_swap().collect(alloc)
@@ -183,7 +190,10 @@ pub fn lent_in_turn<'a, T>(
     alloc: Global,
     pair: &'a EitherOrBoth<Vec<T>, Vec<T>>,
 ) -> Result<Vec<&'a T>, AllocError>
-    ensures { IfOk result (λ v. MatchPlaces pair.now (λ a b. map deref v.items ≡ a.items ++ b.items) (λ a. map deref v.items ≡ a.items) (λ b. map deref v.items ≡ b.items)) }
+    ensures { IfOk result (λ v. MatchPlaces pair.now
+        (λ a b. map deref v.items ≡ a.items ++ b.items)
+        (λ a. map deref v.items ≡ a.items)
+        (λ b. map deref v.items ≡ b.items)) }
 {
     pair.iter_chain().collect(alloc)
 }
@@ -228,7 +238,8 @@ pub fn counted_by_a_loop<T: Drop, U: Drop>(a: Vec<T>, b: Vec<U>) -> usize
 
 /// The paired walk over any two iterators.
 pub fn walk_of_both<L: Iterator, R: Iterator>(left: L, right: R) -> SwapIterEitherOrBoth<L, R>
-    ensures { SwapsRuns (λ l s. s ≡ l) (λ r t. t ≡ r) L.next_gives R.next_gives (EitherOrBoth.Both left right) result }
+    ensures { SwapsRuns (λ l s. s ≡ l) (λ r t. t ≡ r)
+        L.next_gives R.next_gives (EitherOrBoth.Both left right) result }
 {
     EitherOrBoth::Both(left, right).into_iter_swap()
 }
