@@ -43,7 +43,8 @@ pub fn lined_up_at_ends(
     right: &[char],
     filler: char,
 ) -> Result<Vec<(char, char)>, AllocError>
-    ensures { IfOk result (λ v. v.items ≡ map (filled filler) (aligned (reverse left.now) (reverse right.now))) }
+    ensures { IfOk result (λ v. v.items
+        ≡ map (filled filler) (aligned (reverse left.now) (reverse right.now))) }
 {
     EitherOrBoth::Both(left.iter().rev().copied(), right.iter().rev().copied())
         .into_iter_swap()

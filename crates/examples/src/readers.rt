@@ -11,7 +11,8 @@ use std::io::{BufRead, Cursor};
 
 /// What is stored where there is some, else what is given.
 pub fn opened(stored: Option<Vec<u8>>, given: &[u8]) -> Either<&[u8], Cursor<Vec<u8>>>
-    ensures { of_held (λ l. l.now) (λ r. drop (cursor_position r) (cursor_inner r).items) result ≡ unwrap_or (option_map (λ v. v.items) stored) given.now }
+    ensures { of_held (λ l. l.now) (λ r. drop (cursor_position r) (cursor_inner r).items) result
+        ≡ unwrap_or (option_map (λ v. v.items) stored) given.now }
 {
     match stored {
         Some(bytes) => Either::Right(Cursor::new(bytes)),
@@ -24,8 +25,11 @@ pub fn next_line(
     reader: &mut Either<&[u8], Cursor<Vec<u8>>>,
     line: &mut Vec<u8>,
 ) -> io::Result<usize>
-    ensures left { OnOk result (IfSome (left_place reader.old) (λ l. line.new.items ≡ line.old.items ++ take_through 10 l.now)) }
-    ensures right { OnOk result (IfSome (right_place reader.old) (λ r. line.new.items ≡ line.old.items ++ take_through 10 (drop (cursor_position r) (cursor_inner r).items))) }
+    ensures left { OnOk result (IfSome (left_place reader.old)
+        (λ l. line.new.items ≡ line.old.items ++ take_through 10 l.now)) }
+    ensures right { OnOk result (IfSome (right_place reader.old)
+        (λ r. line.new.items
+        ≡ line.old.items ++ take_through 10 (drop (cursor_position r) (cursor_inner r).items))) }
 {
     reader.read_until(10, line)
 }

@@ -15,7 +15,8 @@ pub fn set_right(
     value: u8,
 ) -> Result<(), AllocError>
     ensures right { OnOk result (option_and_then right_place (get nat_cmp table.new key) ≡ Some value) }
-    ensures left { OnOk result (option_and_then left_place (get nat_cmp table.new key) ≡ option_and_then left_place (get nat_cmp table.old key)) }
+    ensures left { OnOk result (option_and_then left_place (get nat_cmp table.new key)
+        ≡ option_and_then left_place (get nat_cmp table.old key)) }
     ensures others { (k : _) → (k ≡ key → ⊥) → get nat_cmp table.new k ≡ get nat_cmp table.old k }
 {
     match table.get_mut(&key) {
