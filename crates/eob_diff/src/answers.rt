@@ -1,14 +1,15 @@
 //! The answer to each request, from tables whose headers are read.
 
 use crate::arguments::{Form, Kind, Settings};
-use crate::changes::{changes_of, count, count_rows, render, row_changes};
+use crate::changes::{ColumnChanges, changes_of, count_rows, report};
+use crate::columns::{columns_of, join_columns};
 use crate::fault::{Fault, Reason};
-use crate::joined::{JoinColumns, write_join};
+use crate::joined::write_join;
 use crate::merged::{merge_of, render_conflicts};
 use crate::order::Order;
 use crate::patch::{misfits, paired, patched};
 use crate::read::Source;
-use crate::table::{Cells, Columns, Group, Rows, copy_cells};
+use crate::table::{Cells, Columns, Group, Rows};
 use crate::written::{write_changes, write_table};
 use eob_joins::Merged;
 use std::alloc::{AllocError, Global};
@@ -48,6 +49,10 @@ pub fn compare<'a, A: Read + Drop, B: Read + Drop>(
 ) -> Result<Answer, Fault<'a>> {
     let headers = [old.1.header.as_slice(), new.1.header.as_slice()];
     let columns = at(old.0, columns_of(alloc, settings, &headers))?;
+    let said = at(
+        new.0,
+        ColumnChanges::new(alloc, &old.1.header, &new.1.header),
+    )?;
     let mut order = order_of(alloc, settings);
     let left = at(
         old.0,
@@ -57,32 +62,24 @@ pub fn compare<'a, A: Read + Drop, B: Read + Drop>(
         new.0,
         new.1.read_rows(&columns, &mut order, settings.groups),
     )?;
-    at(
-        new.0,
-        compared(alloc, settings.form, csv, &columns, &order, left, right),
-    )
-}
-
-fn compared(
-    alloc: Global,
-    form: Form,
-    csv: bool,
-    columns: &Columns,
-    order: &Order,
-    old: Rows<Cells, Group>,
-    new: Rows<Cells, Group>,
-) -> Result<Answer, Reason> {
-    let rows = count_rows(&old.pairs);
-    let changes = order.arrange(changes_of(alloc, old, new)?)?;
+    let rows = count_rows(&left.pairs);
+    let changes = at(new.0, changes_of(alloc, left, right))?;
+    let changes = at(new.0, order.arrange(changes))?;
     let bytes = if csv {
-        write_changes(alloc, form, columns, &changes)?
+        at(
+            new.0,
+            write_changes(alloc, settings.form, &columns, &changes),
+        )?
     } else {
-        let changes = row_changes(alloc, &changes)?;
-        render(alloc, columns, &changes, count(rows, &changes))?.into_bytes()
+        at(new.0, report(alloc, &columns, &said.text, rows, &changes))?
     };
     Ok(Answer {
         bytes,
-        status: if changes.is_empty() { 0 } else { 1 },
+        status: if changes.is_empty() && !said.has_lone {
+            0
+        } else {
+            1
+        },
     })
 }
 
@@ -228,45 +225,10 @@ pub fn join<'a, A: Read + Drop, B: Read + Drop>(
     })
 }
 
-fn join_columns(
-    alloc: Global,
-    settings: Settings<'_>,
-    left: &[Vec<u8>],
-    right: &[Vec<u8>],
-) -> Result<JoinColumns, AllocError> {
-    let left = columns_of(alloc, settings, &[left])?;
-    let key = copy_cells(alloc, &left.key)?;
-    let right = Columns::new(alloc, key, &[right])?;
-    Ok(JoinColumns { left, right })
-}
-
 fn order_of(alloc: Global, settings: Settings<'_>) -> Order {
     if settings.keeps_order {
         Order::by_file(alloc)
     } else {
         Order::by_key()
     }
-}
-
-// The columns of all tables, with the key that is set or else the first column.
-fn columns_of(
-    alloc: Global,
-    settings: Settings<'_>,
-    headers: &[&[Vec<u8>]],
-) -> Result<Columns, AllocError> {
-    let mut key = Vec::new(alloc);
-    match settings.key {
-        Some(names) => {
-            for name in names.split(',') {
-                key.push(Vec::from_slice(alloc, name.as_bytes())?)?;
-            }
-        }
-        None => {
-            // An empty file with no header has no column.
-            if let Some(name) = headers.iter().filter_map(|header| header.first()).next() {
-                key.push(name.clone()?)?;
-            }
-        }
-    }
-    Columns::new(alloc, key, headers)
 }

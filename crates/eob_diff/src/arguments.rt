@@ -11,13 +11,14 @@ pub struct Form {
 }
 
 /// What all requests may set: how tables are written, the names of the columns that are the key, whether rows come out in the order of the
-/// files and not in that of their keys, and whether rows with the same key are a group.
+/// files and not in that of their keys, whether rows with the same key are a group, and whether tables are read as they rise.
 #[derive(Clone, Copy)]
 pub struct Settings<'a> {
     pub form: Form,
     pub key: Option<&'a str>,
     pub keeps_order: bool,
     pub groups: bool,
+    pub rises: bool,
 }
 
 /// Which rows a join has, of which tables.
@@ -116,7 +117,8 @@ fn diff_command<'a>(alloc: Global) -> Result<Command<'a>, AllocError> {
         .about("Prints the rows that changed. Status 0: none did, 1: some did, 2: trouble.")
         .arg(file(alloc, "OLD", "The old table; - is the standard input"))?
         .arg(file(alloc, "NEW", "The new table; - is the standard input"))?
-        .arg(format)?;
+        .arg(format)?
+        .arg(sorted_flag(alloc)?)?;
     with_settings(alloc, command)
 }
 
@@ -158,7 +160,8 @@ fn join_command<'a>(alloc: Global) -> Result<Command<'a>, AllocError> {
         .about("Prints two tables joined by key as CSV. Status 0, or 2: trouble.")
         .arg(file(alloc, "LEFT", "The left table; - is the standard input"))?
         .arg(file(alloc, "RIGHT", "The right table; - is the standard input"))?
-        .arg(kind)?;
+        .arg(kind)?
+        .arg(sorted_flag(alloc)?)?;
     with_settings(alloc, command)
 }
 
@@ -209,6 +212,15 @@ fn with_settings<'a>(alloc: Global, command: Command<'a>) -> Result<Command<'a>,
         ))
 }
 
+fn sorted_flag<'a>(alloc: Global) -> Result<Arg<'a>, AllocError> {
+    let sorted = flag(
+        alloc,
+        "sorted",
+        "The keys of both tables rise: they are joined as they are read, in memory that does not grow",
+    );
+    sorted.conflicts_with("group")?.conflicts_with("keep-order")
+}
+
 fn flag<'a>(alloc: Global, name: &'a str, help: &'a str) -> Arg<'a> {
     Arg::new(alloc, name)
         .long(name)
@@ -231,5 +243,6 @@ fn settings_of<'a>(matches: &ArgMatches<'a>) -> Option<Settings<'a>> {
         key: matches.get_str("key"),
         keeps_order: matches.get_flag("keep-order"),
         groups: matches.get_flag("group"),
+        rises: matches.get_flag("sorted"),
     })
 }

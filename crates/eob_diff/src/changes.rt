@@ -4,22 +4,22 @@ ghost use Rattle.eob_joins.specs.Changes.{changed};
 ghost use Rattle.eob_joins.specs.Tables.{IsKeptOfJoin};
 
 use crate::lined_up::{Grid, Shown, line_up};
-use crate::table::{Cells, Columns, Group, Rows};
+use crate::table::{Cells, Columns, Group, Rows, place_of};
 use either_or_both::EitherOrBoth;
 use eob_joins::{Change, diff, group_join_unordered};
 use std::alloc::{AllocError, Global};
 use std::fmt::Write;
 
-/// A row that changed, by key.
-pub type RowChange<'a> = (&'a Cells, Change<&'a Cells>);
+// A row that changed, by key.
+type RowChange<'a> = (&'a Cells, Change<&'a Cells>);
 
-/// How many rows were added, removed, changed and left as they were.
+// How many rows were added, removed, changed and left as they were.
 #[derive(Clone, Copy)]
-pub struct Counts {
-    pub added: usize,
-    pub removed: usize,
-    pub changed: usize,
-    pub same: usize,
+struct Counts {
+    added: usize,
+    removed: usize,
+    changed: usize,
+    same: usize,
 }
 
 /// The rows of the join of both tables that changed, which are all that is printed.
@@ -33,8 +33,23 @@ pub fn changes_of<K: Ord + Drop, V: Eq + Drop>(
     diff(alloc, old.pairs, new.pairs)
 }
 
-/// The rows that changed: of the groups under a key those that one version has more often, and of these one beside the other.
-pub fn row_changes<'a>(
+/// The changes as text that a person reads: what is said of columns, the rows that changed, and the counts. The old table had this many
+/// rows.
+pub fn report(
+    alloc: Global,
+    columns: &Columns,
+    said: &str,
+    old_rows: usize,
+    changes: &[(Cells, Change<Group>)],
+) -> Result<Vec<u8>, AllocError> {
+    let changes = row_changes(alloc, changes)?;
+    let mut text = String::from_str(alloc, said)?;
+    text.push_str(&render(alloc, columns, &changes, count(old_rows, &changes))?)?;
+    Ok(text.into_bytes())
+}
+
+// The rows that changed: of the groups under a key those that one version has more often, and of these one beside the other.
+fn row_changes<'a>(
     alloc: Global,
     changes: &'a [(Cells, Change<Group>)],
 ) -> Result<Vec<RowChange<'a>>, AllocError> {
@@ -94,8 +109,8 @@ pub fn count_rows(pairs: &[(Cells, Group)]) -> usize {
     count
 }
 
-/// The counts of changes to a table that had this many rows.
-pub fn count(old_rows: usize, changes: &[RowChange<'_>]) -> Counts {
+// The counts of changes to a table that had this many rows.
+fn count(old_rows: usize, changes: &[RowChange<'_>]) -> Counts {
     let added = changes.iter().filter(|row| row.1.is_right()).count();
     let removed = changes.iter().filter(|row| row.1.is_left()).count();
     let changed = changes.iter().filter(|row| row.1.is_both()).count();
@@ -107,8 +122,8 @@ pub fn count(old_rows: usize, changes: &[RowChange<'_>]) -> Counts {
     }
 }
 
-/// The changes as a table that a person reads, and the counts.
-pub fn render(
+// The rows that changed as a table, and the counts.
+fn render(
     alloc: Global,
     columns: &Columns,
     changes: &[RowChange<'_>],
@@ -129,6 +144,48 @@ pub fn render(
         counts.added, counts.removed, counts.changed, counts.same
     )?;
     Ok(text)
+}
+
+/// What became of the columns: a line for each that one version alone has, and for another order of those that both have.
+#[derive(Drop)]
+pub struct ColumnChanges {
+    pub text: String,
+    pub has_lone: bool,
+}
+
+impl ColumnChanges {
+    /// Compares the columns of two headers. One that is empty, as of an empty file, says nothing of columns.
+    pub fn new(
+        alloc: Global,
+        old: &[Vec<u8>],
+        new: &[Vec<u8>],
+    ) -> Result<ColumnChanges, AllocError> {
+        let mut text = String::new(alloc);
+        if old.is_empty() || new.is_empty() {
+            return Ok(ColumnChanges {
+                text,
+                has_lone: false,
+            });
+        }
+        for name in new.iter().filter(|name| place_of(old, name).is_none()) {
+            writeln!(text, "column {} added", Shown(name))?;
+        }
+        for name in old.iter().filter(|name| place_of(new, name).is_none()) {
+            writeln!(text, "column {} removed", Shown(name))?;
+        }
+        let has_lone = !text.is_empty();
+        if !is_same_order(old, new) {
+            writeln!(text, "columns in another order")?;
+        }
+        Ok(ColumnChanges { text, has_lone })
+    }
+}
+
+// Whether the names that both headers have stand in the same order.
+fn is_same_order(old: &[Vec<u8>], new: &[Vec<u8>]) -> bool {
+    let shared = old.iter().filter(|name| place_of(new, name).is_some());
+    let shared_of_new = new.iter().filter(|name| place_of(old, name).is_some());
+    shared.zip(shared_of_new).all(|(name, other)| name == other)
 }
 
 /// The names of the columns, behind an empty cell.

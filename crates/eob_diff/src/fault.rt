@@ -26,6 +26,8 @@ pub enum Reason {
         found: u64,
     },
     NoSign(u64),
+    NotRising(u64),
+    NeedsCsv,
     TwiceStdin,
     RepeatedKey {
         key: Vec<Vec<u8>>,
@@ -43,6 +45,12 @@ impl From<AllocError> for Reason {
 impl<T: Drop> From<AllocFailed<T>> for Reason {
     fn from(_refused: AllocFailed<T>) -> Self {
         Reason::NoMemory
+    }
+}
+
+impl From<io::Error> for Reason {
+    fn from(error: io::Error) -> Self {
+        Reason::Io(error)
     }
 }
 
@@ -83,6 +91,13 @@ impl fmt::Display for Reason {
             Reason::NoColumn(name) => write!(f, "line 1: no column {}", Shown(name)),
             Reason::RepeatedColumn(name) => { write!(f, "line 1: two columns {}", Shown(name)) }
             Reason::NoSign(line) => write!(f, "line {line}: the first cell is neither - nor +"),
+            Reason::NotRising(line) => {
+                write!(
+                    f,
+                    "line {line}: the key is not greater than the one before it"
+                )
+            }
+            Reason::NeedsCsv => write!(f, "the changes come with --format csv alone"),
             Reason::TwiceStdin => write!(f, "the standard input is one table only"),
             Reason::CellCount {
                 line,

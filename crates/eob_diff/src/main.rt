@@ -6,6 +6,7 @@
 mod answers;
 mod arguments;
 mod changes;
+mod columns;
 mod fault;
 mod joined;
 mod lined_up;
@@ -14,17 +15,24 @@ mod order;
 mod patch;
 mod read;
 mod run;
+mod sorted;
 mod table;
 #[cfg(test)]
 mod tests;
 #[cfg(test)]
+mod tests_faults;
+#[cfg(test)]
 mod tests_form;
 #[cfg(test)]
+mod tests_groups;
+#[cfg(test)]
 mod tests_merge;
+#[cfg(test)]
+mod tests_sorted;
 mod written;
 
 use std::process::ExitCode;
 
 fn main(rt: HostRuntime) -> ExitCode {
-    ExitCode::from(run::run(&rt))
+    ExitCode::from(run::run(&rt, &mut rt.stdout()))
 }

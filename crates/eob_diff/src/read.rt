@@ -72,7 +72,7 @@ impl<R: Read + Drop> Source<R> {
         order: &mut Order,
         repeats: bool,
     ) -> Result<Rows<Cells, Group>, Reason> {
-        let places = Places::new(self.alloc, &self.header, self.before, columns)?;
+        let places = self.places(columns)?;
         let mut rows = Vec::new(self.alloc);
         let mut record = ByteRecord::new(self.alloc);
         for _ in 0..u64::MAX {
@@ -93,7 +93,7 @@ impl<R: Read + Drop> Source<R> {
         order: &mut Order,
         repeats: bool,
     ) -> Result<(Rows<Cells, Group>, Rows<Cells, Group>), Reason> {
-        let places = Places::new(self.alloc, &self.header, self.before, columns)?;
+        let places = self.places(columns)?;
         let mut gone = Vec::new(self.alloc);
         let mut come = Vec::new(self.alloc);
         let mut record = ByteRecord::new(self.alloc);
@@ -115,8 +115,13 @@ impl<R: Read + Drop> Source<R> {
         ))
     }
 
-    // Reads the next row, if there is one.
-    fn read_record(&mut self, record: &mut ByteRecord) -> Result<bool, Reason> {
+    /// Where the cells of these columns stand in a row.
+    pub fn places(&self, columns: &Columns) -> Result<Places, Reason> {
+        Places::new(self.alloc, &self.header, self.before, columns)
+    }
+
+    /// Reads the next row, if there is one.
+    pub fn read_record(&mut self, record: &mut ByteRecord) -> Result<bool, Reason> {
         match self.first.take() {
             Some(first) => {
                 *record = first;
@@ -150,9 +155,9 @@ fn numbers(alloc: Global, count: usize) -> Result<Cells, AllocError> {
     Ok(names)
 }
 
-// Where the columns that are asked for stand in a header.
+/// Where the columns that are asked for stand in a row.
 #[derive(Drop)]
-struct Places {
+pub struct Places {
     key: Vec<Option<usize>>,
     rest: Vec<Option<usize>>,
 }
@@ -176,8 +181,8 @@ impl Places {
         })
     }
 
-    // The key of a record, its line, and its other cells.
-    fn pick_row(
+    /// The key of a record, its line, and its other cells.
+    pub fn pick_row(
         &self,
         alloc: Global,
         record: &ByteRecord,
@@ -223,8 +228,8 @@ fn pick(alloc: Global, record: &ByteRecord, places: &[Option<usize>]) -> Result<
     Ok(cells)
 }
 
-// The rows by key. Where keys may not repeat, no two have the same.
-fn gathered(
+/// The rows by key. Where keys may not repeat, no two have the same.
+pub fn gathered(
     alloc: Global,
     mut rows: Vec<(Cells, (u64, Cells))>,
     repeats: bool,

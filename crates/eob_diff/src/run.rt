@@ -4,6 +4,7 @@ use crate::answers::{Answer, Opened, at, change, compare, join, merge};
 use crate::arguments::{Request, Settings, parse};
 use crate::fault::{Fault, Reason};
 use crate::read::Source;
+use crate::sorted::{compare_sorted, join_sorted};
 use either_or_both::Either;
 use std::io::Write;
 use std::rt::{Env, Files};
@@ -12,8 +13,12 @@ use std::{fs, io};
 // The status of trouble.
 const TROUBLE: u8 = 2;
 
-/// Answers the command line, and returns the status. An answer is written whole or not at all.
-pub fn run<R: Files + Env + Input + Print + Eprint + AllocGlobal>(rt: &R) -> u8 {
+/// Answers the command line on the output, and returns the status. Unless tables are read as they rise, nothing is written before the
+/// whole answer is known.
+pub fn run<R: Files + Env + Input + Print + Eprint + AllocGlobal, W: Write>(
+    rt: &R,
+    output: &mut W,
+) -> u8 {
     let alloc = rt.alloc();
     let words: Vec<String> = match std::env::args(rt) {
         Ok(words) => match words.collect(alloc) {
@@ -32,17 +37,62 @@ pub fn run<R: Files + Env + Input + Print + Eprint + AllocGlobal>(rt: &R) -> u8 
     let Some(settings) = settings else {
         return trouble(rt, "--delimiter", Reason::BadDelimiter);
     };
-    match answer_request(rt, settings, request) {
-        Ok(answer) => match write_whole(rt, &answer.bytes) {
-            Ok(()) => answer.status,
-            Err(error) => trouble(rt, "the standard output", Reason::Io(error)),
-        },
+    let outcome = if settings.rises {
+        stream_request(rt, settings, request, output)
+    } else {
+        write_request(rt, settings, request, output)
+    };
+    match outcome {
+        Ok(status) => status,
         Err(fault) => trouble(rt, fault.file, fault.reason),
     }
 }
 
-fn write_whole<R: Print>(rt: &R, bytes: &[u8]) -> io::Result<()> {
-    let mut output = io::writer(rt);
+// Writes the answer to a request, all of it or nothing of it where something is wrong with an input.
+fn write_request<'a, R: Files + Input + AllocGlobal, W: Write>(
+    rt: &R,
+    settings: Settings<'a>,
+    request: Request<'a>,
+    output: &mut W,
+) -> Result<u8, Fault<'a>> {
+    let answer = answer_request(rt, settings, request)?;
+    at("the standard output", write_whole(output, &answer.bytes))?;
+    Ok(answer.status)
+}
+
+// Writes the answer to a request while its tables are read, whose keys rise.
+fn stream_request<'a, R: Files + Input + AllocGlobal, W: Write>(
+    rt: &R,
+    settings: Settings<'a>,
+    request: Request<'a>,
+    output: &mut W,
+) -> Result<u8, Fault<'a>> {
+    match request {
+        Request::Diff {
+            old,
+            new,
+            csv: true,
+        } => {
+            check_stdin(&[old, new])?;
+            let old = open(rt, settings, old)?;
+            let new = open(rt, settings, new)?;
+            compare_sorted(rt.alloc(), settings, old, new, output)
+        }
+        Request::Join { left, right, kind } => {
+            check_stdin(&[left, right])?;
+            let left = open(rt, settings, left)?;
+            let right = open(rt, settings, right)?;
+            join_sorted(rt.alloc(), settings, kind, left, right, output)
+        }
+        _ => Err(Fault {
+            file: "--sorted",
+            reason: Reason::NeedsCsv,
+        }),
+    }
+}
+
+/// Writes all bytes, as far as the output takes them.
+pub fn write_whole<W: Write>(output: &mut W, bytes: &[u8]) -> io::Result<()> {
     output.write_all(bytes)?;
     output.flush()
 }
@@ -54,7 +104,8 @@ fn trouble<R: Eprint>(rt: &R, file: &str, reason: Reason) -> u8 {
     TROUBLE
 }
 
-fn answer_request<'a, R: Files + Input + AllocGlobal>(
+/// The answer to a request, of the files that it names.
+pub fn answer_request<'a, R: Files + Input + AllocGlobal>(
     rt: &R,
     settings: Settings<'a>,
     request: Request<'a>,

@@ -17,6 +17,7 @@ pub const PLAIN: Settings<'static> = Settings {
     key: None,
     keeps_order: false,
     groups: false,
+    rises: false,
 };
 
 // Cells of every shape: plain, empty, with a comma, with quotes, with line ends, with spaces, beyond ASCII.
@@ -114,7 +115,7 @@ fn counts_of_tables_made_by_a_rule(rt: HostRuntime) -> Result<(), Fail> {
     Ok(())
 }
 
-/// Columns are matched by name, and keys stand in any order.
+/// Columns are matched by name, and keys stand in any order. Another order of columns is said.
 #[test]
 fn another_order_of_rows_and_columns_is_no_change(rt: HostRuntime) -> Result<(), Fail> {
     let alloc = rt.alloc();
@@ -126,8 +127,34 @@ fn another_order_of_rows_and_columns_is_no_change(rt: HostRuntime) -> Result<(),
     );
     let answer = answer.or(Err("diff"))?;
     assert_eq!(rt; answer.status, 0);
-    let wanted = b"0 added, 0 removed, 0 changed, 2 the same\n";
+    let wanted = b"columns in another order\n0 added, 0 removed, 0 changed, 2 the same\n";
     assert!(rt; answer.bytes.as_slice() == wanted.as_slice());
+    Ok(())
+}
+
+/// A column that one version alone has is said, and counts as a change; in the other version its cells count as empty.
+#[test]
+fn columns_of_one_version_are_said(rt: HostRuntime) -> Result<(), Fail> {
+    let alloc = rt.alloc();
+    let answer = differ(
+        alloc,
+        b"id,a,b\n1,x,\n2,y,z\n",
+        b"id,c,a\n1,,x\n2,w,y\n",
+        false,
+    );
+    let answer = answer.or(Err("diff"))?;
+    assert_eq!(rt; answer.status, 1);
+    let wanted = "column c added
+column b removed
+         id  a  b      c
+changed  2   y  z ->    -> w
+0 added, 0 removed, 1 changed, 1 the same
+";
+    assert_eq!(rt; str::from_utf8(&answer.bytes).or(Err("text"))?, wanted);
+    let answer = differ(alloc, b"id,a\n1,x\n", b"id,a,b\n1,x,\n", true);
+    let answer = answer.or(Err("diff"))?;
+    assert_eq!(rt; answer.status, 1);
+    assert!(rt; answer.bytes.as_slice() == b"change,id,a,b\n".as_slice());
     Ok(())
 }
 

@@ -15,6 +15,7 @@ const NUMBERED: Settings<'static> = Settings {
     key: Some("2"),
     keeps_order: false,
     groups: false,
+    rises: false,
 };
 
 const IN_ORDER: Settings<'static> = Settings {
@@ -22,6 +23,7 @@ const IN_ORDER: Settings<'static> = Settings {
     key: None,
     keeps_order: true,
     groups: false,
+    rises: false,
 };
 
 // The answer to `diff` as CSV.
