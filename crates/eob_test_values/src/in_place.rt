@@ -6,9 +6,10 @@ use either_or_both::{Either, EitherOrBoth};
 use eob_testkit::rows::Calls;
 use std::test::Fail;
 
-/// A value, what the reference that a call gives points to, what is held then, what is held once 8 or 'd' is written through it,
+/// A call, a value, what the reference that the call gives points to, what is held then, what is held once 8 or 'd' is written through it,
 /// and the calls of the closure.
 type Row<T> = (
+    &'static str,
     EitherOrBoth<u8, char>,
     T,
     EitherOrBoth<u8, char>,
@@ -17,75 +18,39 @@ type Row<T> = (
 );
 
 /// The calls that answer a reference to the left place, with 7 or 9 where they take a value.
-static INSERTED_LEFT: [(&str, &[Row<u8>]); 4] = [
-    (
-        "insert_left",
-        &[
-            (Left(1), 7, Left(7), Left(8), ""),
-            (Both(1, 'c'), 7, Both(7, 'c'), Both(8, 'c'), ""),
-            (Right('c'), 7, Both(7, 'c'), Both(8, 'c'), ""),
-        ],
-    ),
-    (
-        "left_or_insert",
-        &[
-            (Left(1), 1, Left(1), Left(8), ""),
-            (Both(1, 'c'), 1, Both(1, 'c'), Both(8, 'c'), ""),
-            (Right('c'), 9, Both(9, 'c'), Both(8, 'c'), ""),
-        ],
-    ),
-    (
-        "left_or_insert_default",
-        &[
-            (Left(1), 1, Left(1), Left(8), ""),
-            (Both(1, 'c'), 1, Both(1, 'c'), Both(8, 'c'), ""),
-            (Right('c'), 0, Both(0, 'c'), Both(8, 'c'), ""),
-        ],
-    ),
-    (
-        "left_or_insert_with",
-        &[
-            (Left(1), 1, Left(1), Left(8), ""),
-            (Both(1, 'c'), 1, Both(1, 'c'), Both(8, 'c'), ""),
-            (Right('c'), 9, Both(9, 'c'), Both(8, 'c'), "f()"),
-        ],
-    ),
+#[rattlefmt::skip]
+static INSERTED_LEFT: [Row<u8>; 12] = [
+    // call                    value         shown held          written       closure
+    ("insert_left",            Left(1),      7,    Left(7),      Left(8),      ""),
+    ("insert_left",            Both(1, 'c'), 7,    Both(7, 'c'), Both(8, 'c'), ""),
+    ("insert_left",            Right('c'),   7,    Both(7, 'c'), Both(8, 'c'), ""),
+    ("left_or_insert",         Left(1),      1,    Left(1),      Left(8),      ""),
+    ("left_or_insert",         Both(1, 'c'), 1,    Both(1, 'c'), Both(8, 'c'), ""),
+    ("left_or_insert",         Right('c'),   9,    Both(9, 'c'), Both(8, 'c'), ""),
+    ("left_or_insert_default", Left(1),      1,    Left(1),      Left(8),      ""),
+    ("left_or_insert_default", Both(1, 'c'), 1,    Both(1, 'c'), Both(8, 'c'), ""),
+    ("left_or_insert_default", Right('c'),   0,    Both(0, 'c'), Both(8, 'c'), ""),
+    ("left_or_insert_with",    Left(1),      1,    Left(1),      Left(8),      ""),
+    ("left_or_insert_with",    Both(1, 'c'), 1,    Both(1, 'c'), Both(8, 'c'), ""),
+    ("left_or_insert_with",    Right('c'),   9,    Both(9, 'c'), Both(8, 'c'), "f()"),
 ];
 
 /// The calls that answer a reference to the right place, with 'm' where they take a value.
-static INSERTED_RIGHT: [(&str, &[Row<char>]); 4] = [
-    (
-        "insert_right",
-        &[
-            (Left(1), 'm', Both(1, 'm'), Both(1, 'd'), ""),
-            (Both(1, 'c'), 'm', Both(1, 'm'), Both(1, 'd'), ""),
-            (Right('c'), 'm', Right('m'), Right('d'), ""),
-        ],
-    ),
-    (
-        "right_or_insert",
-        &[
-            (Left(1), 'm', Both(1, 'm'), Both(1, 'd'), ""),
-            (Both(1, 'c'), 'c', Both(1, 'c'), Both(1, 'd'), ""),
-            (Right('c'), 'c', Right('c'), Right('d'), ""),
-        ],
-    ),
-    (
-        "right_or_insert_default",
-        &[
-            (Left(1), '\0', Both(1, '\0'), Both(1, 'd'), ""),
-            (Both(1, 'c'), 'c', Both(1, 'c'), Both(1, 'd'), ""),
-            (Right('c'), 'c', Right('c'), Right('d'), ""),
-        ],
-    ),
-    (
-        "right_or_insert_with",
-        &[
-            (Left(1), 'm', Both(1, 'm'), Both(1, 'd'), "f()"),
-            (Both(1, 'c'), 'c', Both(1, 'c'), Both(1, 'd'), ""),
-            (Right('c'), 'c', Right('c'), Right('d'), ""),
-        ],
-    ),
+#[rattlefmt::skip]
+static INSERTED_RIGHT: [Row<char>; 12] = [
+    // call                     value         shown held           written       closure
+    ("insert_right",            Left(1),      'm',  Both(1, 'm'),  Both(1, 'd'), ""),
+    ("insert_right",            Both(1, 'c'), 'm',  Both(1, 'm'),  Both(1, 'd'), ""),
+    ("insert_right",            Right('c'),   'm',  Right('m'),    Right('d'),   ""),
+    ("right_or_insert",         Left(1),      'm',  Both(1, 'm'),  Both(1, 'd'), ""),
+    ("right_or_insert",         Both(1, 'c'), 'c',  Both(1, 'c'),  Both(1, 'd'), ""),
+    ("right_or_insert",         Right('c'),   'c',  Right('c'),    Right('d'),   ""),
+    ("right_or_insert_default", Left(1),      '\0', Both(1, '\0'), Both(1, 'd'), ""),
+    ("right_or_insert_default", Both(1, 'c'), 'c',  Both(1, 'c'),  Both(1, 'd'), ""),
+    ("right_or_insert_default", Right('c'),   'c',  Right('c'),    Right('d'),   ""),
+    ("right_or_insert_with",    Left(1),      'm',  Both(1, 'm'),  Both(1, 'd'), "f()"),
+    ("right_or_insert_with",    Both(1, 'c'), 'c',  Both(1, 'c'),  Both(1, 'd'), ""),
+    ("right_or_insert_with",    Right('c'),   'c',  Right('c'),    Right('d'),   ""),
 ];
 
 fn inserted_left<'a>(
@@ -125,18 +90,16 @@ fn inserted_right<'a>(
 #[test]
 fn insertions_at_the_left(rt: HostRuntime) {
     let calls = Calls::new(rt.alloc());
-    for (call, rows) in INSERTED_LEFT.iter().copied() {
-        for (value, want, after, written, want_calls) in rows.iter().copied() {
-            let mut changed = value;
-            let place = inserted_left(call, &mut changed, &calls);
-            assert_eq!(rt; *place, want, "{call} of {value:?}");
-            assert_eq!(rt; changed, after, "{call} of {value:?}");
-            assert_eq!(rt; calls.take().as_str(), want_calls, "{call} of {value:?}");
-            let mut changed = value;
-            *inserted_left(call, &mut changed, &calls) = 8;
-            assert_eq!(rt; changed, written, "{call} of {value:?}");
-            assert_eq!(rt; calls.take().as_str(), want_calls, "{call} of {value:?}");
-        }
+    for (call, value, want, after, written, want_calls) in INSERTED_LEFT.iter().copied() {
+        let mut changed = value;
+        let place = inserted_left(call, &mut changed, &calls);
+        assert_eq!(rt; *place, want, "{call} of {value:?}");
+        assert_eq!(rt; changed, after, "{call} of {value:?}");
+        assert_eq!(rt; calls.take().as_str(), want_calls, "{call} of {value:?}");
+        let mut changed = value;
+        *inserted_left(call, &mut changed, &calls) = 8;
+        assert_eq!(rt; changed, written, "{call} of {value:?}");
+        assert_eq!(rt; calls.take().as_str(), want_calls, "{call} of {value:?}");
     }
 }
 
@@ -144,18 +107,16 @@ fn insertions_at_the_left(rt: HostRuntime) {
 #[test]
 fn insertions_at_the_right(rt: HostRuntime) {
     let calls = Calls::new(rt.alloc());
-    for (call, rows) in INSERTED_RIGHT.iter().copied() {
-        for (value, want, after, written, want_calls) in rows.iter().copied() {
-            let mut changed = value;
-            let place = inserted_right(call, &mut changed, &calls);
-            assert_eq!(rt; *place, want, "{call} of {value:?}");
-            assert_eq!(rt; changed, after, "{call} of {value:?}");
-            assert_eq!(rt; calls.take().as_str(), want_calls, "{call} of {value:?}");
-            let mut changed = value;
-            *inserted_right(call, &mut changed, &calls) = 'd';
-            assert_eq!(rt; changed, written, "{call} of {value:?}");
-            assert_eq!(rt; calls.take().as_str(), want_calls, "{call} of {value:?}");
-        }
+    for (call, value, want, after, written, want_calls) in INSERTED_RIGHT.iter().copied() {
+        let mut changed = value;
+        let place = inserted_right(call, &mut changed, &calls);
+        assert_eq!(rt; *place, want, "{call} of {value:?}");
+        assert_eq!(rt; changed, after, "{call} of {value:?}");
+        assert_eq!(rt; calls.take().as_str(), want_calls, "{call} of {value:?}");
+        let mut changed = value;
+        *inserted_right(call, &mut changed, &calls) = 'd';
+        assert_eq!(rt; changed, written, "{call} of {value:?}");
+        assert_eq!(rt; calls.take().as_str(), want_calls, "{call} of {value:?}");
     }
 }
 
@@ -263,28 +224,30 @@ fn insertions_beside_owned_memory(rt: HostRuntime) -> Result<(), Fail> {
 }
 
 /// A call, a value, and how many of its held values and of the arguments are dropped when the call and its answer are over.
+#[rattlefmt::skip]
 static DROPPED: [(&str, EitherOrBoth<(), ()>, u32, u32); 21] = [
-    ("insert_left", Left(()), 1, 0),
-    ("insert_left", Both((), ()), 1, 0),
-    ("insert_left", Right(()), 0, 0),
-    ("insert_right", Left(()), 0, 0),
-    ("insert_right", Both((), ()), 1, 0),
-    ("insert_right", Right(()), 1, 0),
-    ("left_or_insert", Left(()), 0, 1),
-    ("left_or_insert", Both((), ()), 0, 1),
-    ("left_or_insert", Right(()), 0, 0),
-    ("right_or_insert", Left(()), 0, 0),
-    ("right_or_insert", Both((), ()), 0, 1),
-    ("right_or_insert", Right(()), 0, 1),
-    ("replace_left", Left(()), 1, 0),
-    ("replace_left", Both((), ()), 1, 0),
-    ("replace_left", Right(()), 0, 1),
-    ("replace_right", Left(()), 0, 1),
-    ("replace_right", Both((), ()), 1, 0),
-    ("replace_right", Right(()), 1, 0),
-    ("replace_any", Left(()), 1, 1),
-    ("replace_any", Both((), ()), 2, 0),
-    ("replace_any", Right(()), 1, 1),
+    // call             value         held given
+    ("insert_left",     Left(()),     1,   0),
+    ("insert_left",     Both((), ()), 1,   0),
+    ("insert_left",     Right(()),    0,   0),
+    ("insert_right",    Left(()),     0,   0),
+    ("insert_right",    Both((), ()), 1,   0),
+    ("insert_right",    Right(()),    1,   0),
+    ("left_or_insert",  Left(()),     0,   1),
+    ("left_or_insert",  Both((), ()), 0,   1),
+    ("left_or_insert",  Right(()),    0,   0),
+    ("right_or_insert", Left(()),     0,   0),
+    ("right_or_insert", Both((), ()), 0,   1),
+    ("right_or_insert", Right(()),    0,   1),
+    ("replace_left",    Left(()),     1,   0),
+    ("replace_left",    Both((), ()), 1,   0),
+    ("replace_left",    Right(()),    0,   1),
+    ("replace_right",   Left(()),     0,   1),
+    ("replace_right",   Both((), ()), 1,   0),
+    ("replace_right",   Right(()),    1,   0),
+    ("replace_any",     Left(()),     1,   1),
+    ("replace_any",     Both((), ()), 2,   0),
+    ("replace_any",     Right(()),    1,   1),
 ];
 
 /// What a call gives up is dropped once: an old value that an argument takes the place of, or an argument that finds no place.
@@ -318,11 +281,14 @@ fn dropped_values_of_either_or_both(rt: HostRuntime) {
     }
 }
 
+/// The same of `Either`.
+#[rattlefmt::skip]
 static DROPPED_BY_EITHER: [(&str, Either<(), ()>, u32, u32); 4] = [
-    ("replace_left", Either::Left(()), 1, 0),
-    ("replace_left", Either::Right(()), 0, 1),
-    ("replace_right", Either::Left(()), 0, 1),
-    ("replace_right", Either::Right(()), 1, 0),
+    // call           value              held given
+    ("replace_left",  Either::Left(()),  1,   0),
+    ("replace_left",  Either::Right(()), 0,   1),
+    ("replace_right", Either::Left(()),  0,   1),
+    ("replace_right", Either::Right(()), 1,   0),
 ];
 
 /// What a replacement in an `Either` gives up is dropped once, and the rest with the value.

@@ -112,15 +112,17 @@ fn clones_of_owned_memory(rt: HostRuntime) -> Result<(), Fail> {
 }
 
 /// Which of the held values refuse to be cloned, whether a clone of the whole is made, and how many held values are cloned.
+#[rattlefmt::skip]
 static CLONES_OF_EITHER_OR_BOTH: [(EitherOrBoth<bool, bool>, bool, u32); 8] = [
-    (Left(false), true, 1),
-    (Left(true), false, 0),
-    (Both(false, false), true, 2),
-    (Both(false, true), false, 1),
-    (Both(true, false), false, 0),
-    (Both(true, true), false, 0),
-    (Right(false), true, 1),
-    (Right(true), false, 0),
+    // refusing          made   cloned
+    (Left(false),        true,  1),
+    (Left(true),         false, 0),
+    (Both(false, false), true,  2),
+    (Both(false, true),  false, 1),
+    (Both(true, false),  false, 0),
+    (Both(true, true),   false, 0),
+    (Right(false),       true,  1),
+    (Right(true),        false, 0),
 ];
 
 // Which of the held values refuse.
@@ -230,11 +232,14 @@ fn copies_of_either(rt: HostRuntime) -> Result<(), Fail> {
     Ok(())
 }
 
+/// The same of `Either`.
+#[rattlefmt::skip]
 static CLONES_OF_EITHER: [(Either<bool, bool>, bool, u32); 4] = [
-    (Either::Left(false), true, 1),
-    (Either::Left(true), false, 0),
-    (Either::Right(false), true, 1),
-    (Either::Right(true), false, 0),
+    // refusing            made   cloned
+    (Either::Left(false),  true,  1),
+    (Either::Left(true),   false, 0),
+    (Either::Right(false), true,  1),
+    (Either::Right(true),  false, 0),
 ];
 
 // Whether the held value refuses, in its place.

@@ -68,45 +68,50 @@ fn tuples_of_either_or_both(rt: HostRuntime) {
 
 type Options = EitherOrBoth<Option<u8>, Option<char>>;
 
+/// A value of options, and an option of the value.
+#[rattlefmt::skip]
 static OPTIONS: [(Options, Option<EitherOrBoth<u8, char>>); 8] = [
-    (Left(Some(1)), Some(Left(1))),
-    (Left(None), None),
+    // value                   transposed
+    (Left(Some(1)),            Some(Left(1))),
+    (Left(None),               None),
     (Both(Some(1), Some('c')), Some(Both(1, 'c'))),
-    (Both(Some(1), None), None),
-    (Both(None, Some('c')), None),
-    (Both(None, None), None),
-    (Right(Some('c')), Some(Right('c'))),
-    (Right(None), None),
+    (Both(Some(1), None),      None),
+    (Both(None, Some('c')),    None),
+    (Both(None, None),         None),
+    (Right(Some('c')),         Some(Right('c'))),
+    (Right(None),              None),
 ];
 
 type Results = EitherOrBoth<Result<u8, &'static str>, Result<char, char>>;
 
-static RESULTS: [(
-    Results,
-    Result<EitherOrBoth<u8, char>, EitherOrBoth<&str, char>>,
-); 8] = [
-    (Left(Ok(1)), Ok(Left(1))),
-    (Left(Err("e")), Err(Left("e"))),
-    (Both(Ok(1), Ok('c')), Ok(Both(1, 'c'))),
-    (Both(Ok(1), Err('h')), Err(Right('h'))),
-    (Both(Err("e"), Ok('c')), Err(Left("e"))),
+/// A value of results, and a result of the value or of its errors.
+#[rattlefmt::skip]
+static RESULTS: [(Results, Result<EitherOrBoth<u8, char>, EitherOrBoth<&str, char>>); 8] = [
+    // value                   transposed
+    (Left(Ok(1)),              Ok(Left(1))),
+    (Left(Err("e")),           Err(Left("e"))),
+    (Both(Ok(1), Ok('c')),     Ok(Both(1, 'c'))),
+    (Both(Ok(1), Err('h')),    Err(Right('h'))),
+    (Both(Err("e"), Ok('c')),  Err(Left("e"))),
     (Both(Err("e"), Err('h')), Err(Both("e", 'h'))),
-    (Right(Ok('c')), Ok(Right('c'))),
-    (Right(Err('h')), Err(Right('h'))),
+    (Right(Ok('c')),           Ok(Right('c'))),
+    (Right(Err('h')),          Err(Right('h'))),
 ];
 
 type Contents = EitherOrBoth<char>;
 
 /// A value whose errors are numbers, its contents or the error or the sum of the two, and the calls of the closure.
+#[rattlefmt::skip]
 static ERRORS: [(EitherOrBoth<Result<char, u8>>, Result<Contents, u8>, &str); 8] = [
-    (Left(Ok('p')), Ok(Left('p')), ""),
-    (Left(Err(1)), Err(1), ""),
+    // value                 transposed          closure
+    (Left(Ok('p')),          Ok(Left('p')),      ""),
+    (Left(Err(1)),           Err(1),             ""),
     (Both(Ok('p'), Ok('q')), Ok(Both('p', 'q')), ""),
-    (Both(Ok('p'), Err(2)), Err(2), ""),
-    (Both(Err(1), Ok('q')), Err(1), ""),
-    (Both(Err(1), Err(2)), Err(3), "f(1, 2)"),
-    (Right(Ok('q')), Ok(Right('q')), ""),
-    (Right(Err(2)), Err(2), ""),
+    (Both(Ok('p'), Err(2)),  Err(2),             ""),
+    (Both(Err(1), Ok('q')),  Err(1),             ""),
+    (Both(Err(1), Err(2)),   Err(3),             "f(1, 2)"),
+    (Right(Ok('q')),         Ok(Right('q')),     ""),
+    (Right(Err(2)),          Err(2),             ""),
 ];
 
 type Numbers = EitherOrBoth<Result<u8, char>, Result<u8, &'static str>>;
@@ -114,15 +119,17 @@ type Numbers = EitherOrBoth<Result<u8, char>, Result<u8, &'static str>>;
 type Errors = EitherOrBoth<char, &'static str>;
 
 /// A value whose contents are numbers, the content or the sum of the two or its errors, and the calls of the closure.
+#[rattlefmt::skip]
 static CONTENTS: [(Numbers, Result<u8, Errors>, &str); 8] = [
-    (Left(Ok(1)), Ok(1), ""),
-    (Left(Err('h')), Err(Left('h')), ""),
-    (Both(Ok(1), Ok(2)), Ok(3), "f(1, 2)"),
-    (Both(Ok(1), Err("e")), Err(Right("e")), ""),
-    (Both(Err('h'), Ok(2)), Err(Left('h')), ""),
+    // value                   transposed           closure
+    (Left(Ok(1)),              Ok(1),               ""),
+    (Left(Err('h')),           Err(Left('h')),      ""),
+    (Both(Ok(1), Ok(2)),       Ok(3),               "f(1, 2)"),
+    (Both(Ok(1), Err("e")),    Err(Right("e")),     ""),
+    (Both(Err('h'), Ok(2)),    Err(Left('h')),      ""),
     (Both(Err('h'), Err("e")), Err(Both('h', "e")), ""),
-    (Right(Ok(2)), Ok(2), ""),
-    (Right(Err("e")), Err(Right("e")), ""),
+    (Right(Ok(2)),             Ok(2),               ""),
+    (Right(Err("e")),          Err(Right("e")),     ""),
 ];
 
 /// Of options, None where a place holds None. Of results, the errors in the places that err. The forms for one side make one
@@ -150,13 +157,12 @@ fn options_and_results_of_either_or_both(rt: HostRuntime) {
 
 type EitherPairs = Either<(u8, char), (char, &'static str)>;
 
+/// A tuple, its first part in its place, and its second part there.
+#[rattlefmt::skip]
 static EITHER_TUPLES: [(EitherPairs, Either<u8, char>, Either<char, &str>); 2] = [
-    (Either::Left((1, 'a')), Either::Left(1), Either::Left('a')),
-    (
-        Either::Right(('c', "b")),
-        Either::Right('c'),
-        Either::Right("b"),
-    ),
+    // value                    firsts              seconds
+    (Either::Left((1, 'a')),    Either::Left(1),    Either::Left('a')),
+    (Either::Right(('c', "b")), Either::Right('c'), Either::Right("b")),
 ];
 
 /// A value, its first part, and its second part in its place.

@@ -2,30 +2,38 @@
 
 use either_or_both::EitherOrBoth::{Both, Left, Right};
 use either_or_both::{Either, EitherOrBoth};
-use eob_testkit::rows::{Calls, Row, check_rows};
+use eob_testkit::rows::{Answer, Calls, check_answers};
 use std::alloc::AllocError;
 use std::test::Fail;
 
-static BOTH_AND_LEFT: [Row<EitherOrBoth<u8, char>>; 12] = [
-    ("expect_both", Both(1, 'c'), "(1, 'c')", ""),
-    ("unwrap_both", Both(1, 'c'), "(1, 'c')", ""),
-    ("unwrap_both_unchecked", Both(1, 'c'), "(1, 'c')", ""),
-    ("expect_left", Left(1), "1", ""),
-    ("expect_left", Both(1, 'c'), "1", ""),
-    ("unwrap_left", Left(1), "1", ""),
-    ("unwrap_left", Both(1, 'c'), "1", ""),
-    ("unwrap_left_unchecked", Left(1), "1", ""),
-    ("unwrap_left_unchecked", Both(1, 'c'), "1", ""),
-    ("expect_only_left", Left(1), "1", ""),
-    ("unwrap_only_left", Left(1), "1", ""),
-    ("unwrap_only_left_unchecked", Left(1), "1", ""),
+/// Calls on the variants that each allows.
+#[rattlefmt::skip]
+static UNWRAPPED: [Answer<EitherOrBoth<u8, char>>; 21] = [
+    // call                         value         answer
+    ("expect_both",                 Both(1, 'c'), "(1, 'c')"),
+    ("unwrap_both",                 Both(1, 'c'), "(1, 'c')"),
+    ("unwrap_both_unchecked",       Both(1, 'c'), "(1, 'c')"),
+    ("expect_left",                 Left(1),      "1"),
+    ("expect_left",                 Both(1, 'c'), "1"),
+    ("unwrap_left",                 Left(1),      "1"),
+    ("unwrap_left",                 Both(1, 'c'), "1"),
+    ("unwrap_left_unchecked",       Left(1),      "1"),
+    ("unwrap_left_unchecked",       Both(1, 'c'), "1"),
+    ("expect_only_left",            Left(1),      "1"),
+    ("unwrap_only_left",            Left(1),      "1"),
+    ("unwrap_only_left_unchecked",  Left(1),      "1"),
+    ("expect_right",                Both(1, 'c'), "'c'"),
+    ("expect_right",                Right('c'),   "'c'"),
+    ("unwrap_right",                Both(1, 'c'), "'c'"),
+    ("unwrap_right",                Right('c'),   "'c'"),
+    ("unwrap_right_unchecked",      Both(1, 'c'), "'c'"),
+    ("unwrap_right_unchecked",      Right('c'),   "'c'"),
+    ("expect_only_right",           Right('c'),   "'c'"),
+    ("unwrap_only_right",           Right('c'),   "'c'"),
+    ("unwrap_only_right_unchecked", Right('c'),   "'c'"),
 ];
 
-fn ask_both_and_left(
-    call: &str,
-    value: EitherOrBoth<u8, char>,
-    calls: &Calls,
-) -> Result<String, AllocError> {
+fn ask(call: &str, value: EitherOrBoth<u8, char>, calls: &Calls) -> Result<String, AllocError> {
     match call {
         "expect_both" if value.is_both() => calls.show(value.expect_both("m")),
         "unwrap_both" if value.is_both() => calls.show(value.unwrap_both()),
@@ -38,27 +46,9 @@ fn ask_both_and_left(
         "unwrap_only_left_unchecked" if value.is_left() => calls.show(
             value.unwrap_only_left_unchecked(),
         ),
-        _ => calls.show("no such call"),
+        _ => ask_right(call, value, calls),
     }
 }
-
-/// Both values, or the left one.
-#[test]
-fn both_and_left(rt: HostRuntime) -> Result<(), Fail> {
-    check_rows(rt.alloc(), &BOTH_AND_LEFT, ask_both_and_left)
-}
-
-static RIGHT: [Row<EitherOrBoth<u8, char>>; 9] = [
-    ("expect_right", Both(1, 'c'), "'c'", ""),
-    ("expect_right", Right('c'), "'c'", ""),
-    ("unwrap_right", Both(1, 'c'), "'c'", ""),
-    ("unwrap_right", Right('c'), "'c'", ""),
-    ("unwrap_right_unchecked", Both(1, 'c'), "'c'", ""),
-    ("unwrap_right_unchecked", Right('c'), "'c'", ""),
-    ("expect_only_right", Right('c'), "'c'", ""),
-    ("unwrap_only_right", Right('c'), "'c'", ""),
-    ("unwrap_only_right_unchecked", Right('c'), "'c'", ""),
-];
 
 fn ask_right(
     call: &str,
@@ -78,19 +68,22 @@ fn ask_right(
     }
 }
 
-/// The right value.
+/// A value that the caller knows to be there is given, of either side or of both.
 #[test]
-fn right(rt: HostRuntime) -> Result<(), Fail> {
-    check_rows(rt.alloc(), &RIGHT, ask_right)
+fn known_values_are_given(rt: HostRuntime) -> Result<(), Fail> {
+    check_answers(rt.alloc(), &UNWRAPPED, ask)
 }
 
-static OF_EITHER: [Row<Either<u8, char>>; 6] = [
-    ("expect_left", Either::Left(1), "1", ""),
-    ("unwrap_left", Either::Left(1), "1", ""),
-    ("unwrap_left_unchecked", Either::Left(1), "1", ""),
-    ("expect_right", Either::Right('c'), "'c'", ""),
-    ("unwrap_right", Either::Right('c'), "'c'", ""),
-    ("unwrap_right_unchecked", Either::Right('c'), "'c'", ""),
+/// The same of `Either`.
+#[rattlefmt::skip]
+static UNWRAPPED_OF_EITHER: [Answer<Either<u8, char>>; 6] = [
+    // call                    value               answer
+    ("expect_left",            Either::Left(1),    "1"),
+    ("unwrap_left",            Either::Left(1),    "1"),
+    ("unwrap_left_unchecked",  Either::Left(1),    "1"),
+    ("expect_right",           Either::Right('c'), "'c'"),
+    ("unwrap_right",           Either::Right('c'), "'c'"),
+    ("unwrap_right_unchecked", Either::Right('c'), "'c'"),
 ];
 
 fn ask_either(call: &str, value: Either<u8, char>, calls: &Calls) -> Result<String, AllocError> {
@@ -105,8 +98,8 @@ fn ask_either(call: &str, value: Either<u8, char>, calls: &Calls) -> Result<Stri
     }
 }
 
-/// The unwraps of `Either`.
+/// The same of `Either`.
 #[test]
-fn of_either(rt: HostRuntime) -> Result<(), Fail> {
-    check_rows(rt.alloc(), &OF_EITHER, ask_either)
+fn known_value_of_either_is_given(rt: HostRuntime) -> Result<(), Fail> {
+    check_answers(rt.alloc(), &UNWRAPPED_OF_EITHER, ask_either)
 }

@@ -14,58 +14,15 @@ const FRONT: bool = false;
 const BACK: bool = true;
 
 /// Values, each with the number of values to come, and calls in turn that go past the end.
+#[rattlefmt::skip]
 static OF_EITHER_OR_BOTH: [(EitherOrBoth<u8>, usize, &[Call]); 6] = [
-    (
-        Both(1, 2),
-        2,
-        &[
-            (BACK, Some(2), 1),
-            (FRONT, Some(1), 0),
-            (FRONT, None, 0),
-            (BACK, None, 0),
-            (FRONT, None, 0),
-        ],
-    ),
-    (
-        Both(1, 2),
-        2,
-        &[
-            (FRONT, Some(1), 1),
-            (BACK, Some(2), 0),
-            (BACK, None, 0),
-            (FRONT, None, 0),
-        ],
-    ),
-    (
-        Both(1, 2),
-        2,
-        &[
-            (FRONT, Some(1), 1),
-            (FRONT, Some(2), 0),
-            (BACK, None, 0),
-            (FRONT, None, 0),
-        ],
-    ),
-    (
-        Both(1, 2),
-        2,
-        &[
-            (BACK, Some(2), 1),
-            (BACK, Some(1), 0),
-            (FRONT, None, 0),
-            (BACK, None, 0),
-        ],
-    ),
-    (
-        Left(1),
-        1,
-        &[(BACK, Some(1), 0), (BACK, None, 0), (FRONT, None, 0)],
-    ),
-    (
-        Right(2),
-        1,
-        &[(FRONT, Some(2), 0), (FRONT, None, 0), (BACK, None, 0)],
-    ),
+    // value     count calls
+    (Both(1, 2), 2,    &[(BACK, Some(2), 1), (FRONT, Some(1), 0), (FRONT, None, 0), (BACK, None, 0), (FRONT, None, 0)]),
+    (Both(1, 2), 2,    &[(FRONT, Some(1), 1), (BACK, Some(2), 0), (BACK, None, 0), (FRONT, None, 0)]),
+    (Both(1, 2), 2,    &[(FRONT, Some(1), 1), (FRONT, Some(2), 0), (BACK, None, 0), (FRONT, None, 0)]),
+    (Both(1, 2), 2,    &[(BACK, Some(2), 1), (BACK, Some(1), 0), (FRONT, None, 0), (BACK, None, 0)]),
+    (Left(1),    1,    &[(BACK, Some(1), 0), (BACK, None, 0), (FRONT, None, 0)]),
+    (Right(2),   1,    &[(FRONT, Some(2), 0), (FRONT, None, 0), (BACK, None, 0)]),
 ];
 
 /// The values come from the end that is asked, each once, and the length and the hint are the number still to come. A walk by value,
@@ -77,34 +34,35 @@ fn calls_of_both_ends_of_either_or_both(rt: HostRuntime) -> Result<(), Fail> {
         let mut owned = value.into_iter();
         let mut lent = value.iter();
         let mut written = held.iter_mut();
-        assert_eq!(rt;
-            (owned.len(), lent.len(), written.len()),
-            (count, count, count)
-        );
+        let lengths = [owned.len(), lent.len(), written.len()];
+        assert_eq!(rt; lengths, [count; 3], "{value:?}");
         for (back, answer, left) in calls.iter().copied() {
             let mut clone = owned.clone()?;
             let mut lent_clone = lent.clone()?;
-            if back {
-                assert_eq!(rt; owned.next_back(), answer);
-                assert_eq!(rt; clone.next_back(), answer);
-                assert_eq!(rt; lent.next_back().copied(), answer);
-                assert_eq!(rt; lent_clone.next_back().copied(), answer);
-                assert_eq!(rt; written.next_back().copied(), answer);
+            let answers = if back {
+                [
+                    owned.next_back(),
+                    clone.next_back(),
+                    lent.next_back().copied(),
+                    lent_clone.next_back().copied(),
+                    written.next_back().copied(),
+                ]
             } else {
-                assert_eq!(rt; owned.next(), answer);
-                assert_eq!(rt; clone.next(), answer);
-                assert_eq!(rt; lent.next().copied(), answer);
-                assert_eq!(rt; lent_clone.next().copied(), answer);
-                assert_eq!(rt; written.next().copied(), answer);
-            }
-            assert_eq!(rt;
-                (owned.len(), lent.len(), written.len()),
-                (left, left, left)
-            );
-            assert_eq!(rt; (clone.len(), lent_clone.len()), (left, left));
-            assert_eq!(rt; owned.size_hint(), (left, Some(left)));
-            assert_eq!(rt; lent.size_hint(), (left, Some(left)));
-            assert_eq!(rt; written.size_hint(), (left, Some(left)));
+                [
+                    owned.next(),
+                    clone.next(),
+                    lent.next().copied(),
+                    lent_clone.next().copied(),
+                    written.next().copied(),
+                ]
+            };
+            assert_eq!(rt; answers, [answer; 5], "{value:?}");
+            let clones = [clone.len(), lent_clone.len()];
+            assert_eq!(rt; clones, [left; 2], "{value:?}");
+            let lengths = [owned.len(), lent.len(), written.len()];
+            assert_eq!(rt; lengths, [left; 3], "{value:?}");
+            let hints = [owned.size_hint(), lent.size_hint(), written.size_hint()];
+            assert_eq!(rt; hints, [(left, Some(left)); 3], "{value:?}");
         }
     }
     Ok(())
@@ -138,12 +96,12 @@ fn values_of_either_or_both_are_written(rt: HostRuntime) {
         for item in forward.iter_mut() {
             *item = item.saturating_add(10);
         }
-        assert_eq!(rt; forward, want);
+        assert_eq!(rt; forward, want, "{value:?}");
         let mut backward = value;
         for item in backward.iter_mut().rev() {
             *item = item.saturating_add(10);
         }
-        assert_eq!(rt; backward, want);
+        assert_eq!(rt; backward, want, "{value:?}");
     }
     let mut pair = Both(1, 2);
     if let Some(last) = pair.iter_mut().next_back() {
@@ -165,31 +123,40 @@ fn calls_of_both_ends_of_either(rt: HostRuntime) -> Result<(), Fail> {
         let mut owned = value.into_iter();
         let mut lent = value.iter();
         let mut written = held.iter_mut();
-        assert_eq!(rt; (owned.len(), lent.len(), written.len()), (1, 1, 1));
+        let lengths = [owned.len(), lent.len(), written.len()];
+        assert_eq!(rt; lengths, [1; 3], "{value:?}");
         for answer in [Some(1), None, None] {
             let mut clone = owned.clone()?;
             let mut lent_clone = lent.clone()?;
-            if back {
-                assert_eq!(rt; owned.next_back(), answer);
-                assert_eq!(rt; clone.next_back(), answer);
-                assert_eq!(rt; lent.next_back().copied(), answer);
-                assert_eq!(rt; lent_clone.next_back().copied(), answer);
-                assert_eq!(rt; written.next_back().copied(), answer);
+            let answers = if back {
+                [
+                    owned.next_back(),
+                    clone.next_back(),
+                    lent.next_back().copied(),
+                    lent_clone.next_back().copied(),
+                    written.next_back().copied(),
+                ]
             } else {
-                assert_eq!(rt; owned.next(), answer);
-                assert_eq!(rt; clone.next(), answer);
-                assert_eq!(rt; lent.next().copied(), answer);
-                assert_eq!(rt; lent_clone.next().copied(), answer);
-                assert_eq!(rt; written.next().copied(), answer);
-            }
-            assert_eq!(rt; (owned.len(), lent.len(), written.len()), (0, 0, 0));
-            assert_eq!(rt; owned.size_hint(), (0, Some(0)));
-            assert_eq!(rt; lent.size_hint(), (0, Some(0)));
-            assert_eq!(rt; written.size_hint(), (0, Some(0)));
+                [
+                    owned.next(),
+                    clone.next(),
+                    lent.next().copied(),
+                    lent_clone.next().copied(),
+                    written.next().copied(),
+                ]
+            };
+            assert_eq!(rt; answers, [answer; 5], "{value:?}");
+            let lengths = [owned.len(), lent.len(), written.len()];
+            assert_eq!(rt; lengths, [0; 3], "{value:?}");
+            let hints = [owned.size_hint(), lent.size_hint(), written.size_hint()];
+            assert_eq!(rt; hints, [(0, Some(0)); 3], "{value:?}");
         }
-        assert_eq!(rt; owned.next_back(), None);
-        assert_eq!(rt; lent.next(), None);
-        assert_eq!(rt; written.next(), None);
+        let answers = [
+            owned.next_back(),
+            lent.next().copied(),
+            written.next().copied(),
+        ];
+        assert_eq!(rt; answers, [None; 3], "{value:?}");
     }
     Ok(())
 }
