@@ -110,9 +110,7 @@ pub fn check_answers<V: Debug + Copy, F: Fn(&str, V, &Calls) -> Result<String, A
         let (call, value, want) = *row;
         let answer = ask(call, value, &calls)?;
         if answer.as_str() != want {
-            return Err(Fail::new(format_args!(
-                "{call} of {value:?} answers {answer}, not {want}"
-            )));
+            return Err(Fail::new(format_args!("{call} of {value:?} answers {answer}, not {want}")));
         }
     }
     Ok(())
