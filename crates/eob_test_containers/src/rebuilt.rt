@@ -192,7 +192,8 @@ impl Ord for Compared {
 impl PartialOrd for Compared {
     ghost partial_cmp = { as_partial_cmp (on (λ k. k.number) nat_cmp) };
 
-    ghost laws = { partial_order_from_own_ties (Prim.search (comparing, rules)) (Prim.search (comparing, rules)) };
+    ghost laws = { partial_order_from_own_ties (Prim.search (comparing, rules))
+        (Prim.search (comparing, rules)) };
 
     fn partial_cmp(&self, other: &Compared) -> Option<Ordering> {
         Some(self.cmp(other))
