@@ -193,15 +193,11 @@ fn slice_beside_a_map(rt: HostRuntime) -> Result<(), Fail> {
     customers.insert(1, "one")?;
     customers.insert(2, "two")?;
     assert!(rt; is_ordered(&orders));
-    let mut rows = Vec::new(alloc);
-    for row in outer_join_lazily(&customers, groups_of(&orders)) {
-        rows.push(row)?;
-    }
-    let text = format!(in alloc; "{rows:?}")?;
-    assert_eq!(rt;
-        text.as_str(),
-        "[(1, Both(\"one\", [(1, 'a'), (1, 'b')])), (2, Left(\"two\")), (4, Right([(4, 'c')]))]"
-    );
+    let mut rows = outer_join_lazily(&customers, groups_of(&orders));
+    assert!(rt; rows.next() == Some((&1, EitherOrBoth::Both(&"one", &orders[..2]))));
+    assert!(rt; rows.next() == Some((&2, EitherOrBoth::Left(&"two"))));
+    assert!(rt; rows.next() == Some((&4, EitherOrBoth::Right(&orders[2..]))));
+    assert!(rt; rows.next().is_none());
     Ok(())
 }
 

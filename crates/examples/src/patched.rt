@@ -1,5 +1,4 @@
 //! A copy of a table brought up to date: what is sent is what changed in the table, and nothing else.
-ghost use Rattle.std.specs.Prelude.{◌≡◌};
 ghost use Rattle.either_or_both.specs.Prelude.{IfOk, Rising};
 ghost use Rattle.eob_joins.specs.Changes.{applied, changed};
 ghost use Rattle.eob_joins.specs.Tables.{IsKeptOfJoin};
