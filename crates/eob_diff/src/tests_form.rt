@@ -4,7 +4,7 @@ use crate::arguments::{Form, Kind, Settings};
 use crate::fault::{Fault, Reason};
 use crate::read::Source;
 use crate::tests::{COMMAS, PLAIN};
-use std::alloc::Global;
+use std::alloc::{AllocError, Global};
 use std::test::Fail;
 
 const NUMBERED: Settings<'static> = Settings {
@@ -110,6 +110,44 @@ fn columns_keep_their_names_and_order(rt: HostRuntime) -> Result<(), Fail> {
     assert!(rt; answer.bytes.as_slice() == changes);
     let answer = applied(alloc, settings, old, changes).or(Err("apply"))?;
     assert!(rt; answer.bytes.as_slice() == new);
+    Ok(())
+}
+
+// Cells as CSV writes them: plain, empty, with a comma, quotes, line ends and spaces, and bytes that are no UTF-8.
+const SHAPES: [&[u8]; 8] = [
+    b"plain",
+    b"",
+    b"\"a,b\"",
+    b"\"say \"\"so\"\"\"",
+    b"\"two\r\nlines\"",
+    b" x ",
+    b"\xff\xfe",
+    b"\xc3\xa9",
+];
+
+// A table with a row for each pair of shapes, of which it has the first or the second.
+fn shapes(alloc: Global, has_second: bool) -> Result<Vec<u8>, AllocError> {
+    let mut text = Vec::from_slice(alloc, b"id,cell\n")?;
+    for (number, first) in SHAPES.iter().enumerate() {
+        for (other, second) in SHAPES.iter().enumerate() {
+            text.extend_from_slice(format!(in alloc; "{number}{other},")?.as_bytes())?;
+            text.extend_from_slice(if has_second { second } else { first })?;
+            text.push(b'\n')?;
+        }
+    }
+    Ok(text)
+}
+
+/// A cell of each shape that becomes one of each other shape is found again when the changes are read, and no cell changes by the way.
+#[test]
+fn cells_of_every_shape_pass_unchanged(rt: HostRuntime) -> Result<(), Fail> {
+    let alloc = rt.alloc();
+    let old = shapes(alloc, false)?;
+    let new = shapes(alloc, true)?;
+    let changes = compared(alloc, PLAIN, &old, &new).or(Err("diff"))?;
+    let made = applied(alloc, PLAIN, &old, &changes.bytes).or(Err("apply"))?;
+    assert_eq!(rt; made.status, 0);
+    assert!(rt; made.bytes == new);
     Ok(())
 }
 
