@@ -4,8 +4,9 @@ ghost use Rattle.either_or_both.specs.Join.{Rising};
 ghost use Rattle.eob_joins.specs.Changes.{ApplyDiffLaw, PatchedLaw, applied, changed};
 ghost use Rattle.eob_joins.specs.Tables.{IsKeptByKey, IsKeptOfJoin};
 
+use crate::pushed::push_all;
 use either_or_both::EitherOrBoth;
-use either_or_both::join::outer_join_lazily;
+use either_or_both::join::{outer_join, outer_join_lazily};
 use std::alloc::{AllocError, Global};
 
 /// What changed under a key: its value went (Left), came (Right), or is another one (Both).
@@ -17,6 +18,8 @@ pub type Change<V> = EitherOrBoth<V, V>;
 /// # Errors
 ///
 /// `AllocError` where a request for memory was refused: then both versions are dropped.
+///
+/// # Examples
 ///
 /// ```
 /// let old = vec![in alloc; (1, 'a'), (2, 'b'), (3, 'c')]?;
@@ -45,6 +48,8 @@ pub fn diff<K: Ord + Drop, V: Eq + Drop>(
 /// # Errors
 ///
 /// `AllocError` where a request for memory was refused: then the table and the changes are dropped.
+///
+/// # Examples
 ///
 /// ```
 /// let old = vec![in alloc; (1, 'a'), (2, 'b'), (3, 'c')]?;
@@ -77,12 +82,10 @@ fn changed_rows<K: Ord + Drop, V: Eq + Drop>(
     requires new { Rising K.cmp new.items }
     ensures { IfOk result (λ rows. IsKeptOfJoin K.cmp (changed V.eq) old.items new.items rows.items) }
 {
-    outer_join_lazily(old, new)
-        .filter_map(changed_row)
-        .collect(alloc)
+    push_all(alloc, outer_join_lazily(old, new).filter_map(changed_row))
 }
 
-// The rows of the old version and the changes, off the lazy join.
+// The rows of the old version and the changes, off their join.
 fn applied_rows<K: Ord + Drop, V: Drop>(
     alloc: Global,
     old: Vec<(K, V)>,
@@ -92,9 +95,15 @@ fn applied_rows<K: Ord + Drop, V: Drop>(
     requires changes { Rising K.cmp changes.items }
     ensures { IfOk result (λ rows. IsKeptOfJoin K.cmp applied old.items changes.items rows.items) }
 {
-    outer_join_lazily(old, changes)
-        .filter_map(applied_row)
-        .collect(alloc)
+    let joined = outer_join(alloc, old, changes)?;
+    let mut rows = Vec::new(alloc);
+    for row in joined {
+        match applied_row(row) {
+            Some(kept) => rows.push(kept)?,
+            None => {}
+        }
+    }
+    Ok(rows)
 }
 
 // A row whose value is not the same in both versions.

@@ -23,6 +23,8 @@ pub type GroupRow<K, A, B, M = Global> = (K, EitherOrBoth<Vec<A, M>, Vec<B, M>>)
 ///
 /// `AllocError` where a request for memory was refused: then both tables are dropped.
 ///
+/// # Examples
+///
 /// ```
 /// let left = vec![in alloc; (3, 'c'), (1, 'b'), (1, 'a')]?;
 /// let right = vec![in alloc; (2, 'y'), (1, 'x')]?;
@@ -65,6 +67,8 @@ pub fn group_join_unordered_in<K: Ord + Drop, A: Drop, B: Drop, M: Allocator + C
 /// # Errors
 ///
 /// `AllocError` where a request for memory was refused: then both tables are dropped.
+///
+/// # Examples
 ///
 /// ```
 /// let left = vec![in alloc; (1, 'a'), (1, 'b'), (3, 'c')]?;
@@ -113,6 +117,8 @@ pub fn group_join_in<K: Ord + Drop, A: Drop, B: Drop, M: Allocator + Copy>(
 ///
 /// `AllocError` where a request for memory was refused: then the table is dropped.
 ///
+/// # Examples
+///
 /// ```
 /// let list = vec![in alloc; (1, 'a'), (1, 'b'), (3, 'c')]?;
 /// assert!(rt; is_ordered(&list));
@@ -159,6 +165,8 @@ pub fn group_by_key_in<K: Ord + Drop, V: Drop, M: Allocator + Copy>(
 }
 
 /// Whether no key is less than the one before it, as [`group_join`] and [`group_by_key`] ask. Takes no memory.
+///
+/// # Examples
 ///
 /// ```
 /// assert!(rt; is_ordered(&[(1, 'a'), (1, 'b'), (2, 'c')]));

@@ -22,6 +22,8 @@ use std::hash::{BuildHasher, Hash};
 ///
 /// `AllocError` where a request for memory was refused: then both maps are dropped.
 ///
+/// # Examples
+///
 /// ```
 /// let mut left = IndexMap::new(alloc);
 /// left.insert(3, 'c')?;
@@ -84,6 +86,8 @@ pub fn outer_join_index_maps_in<
 ///
 /// `AllocError` where a request for memory was refused: then both maps are dropped.
 ///
+/// # Examples
+///
 /// ```
 /// let mut left = HashMap::new(alloc);
 /// left.insert(1, 'a')?;
@@ -142,6 +146,8 @@ pub fn outer_join_hash_maps_in<
 /// # Errors
 ///
 /// `AllocError` where a request for memory was refused: then both maps are dropped.
+///
+/// # Examples
 ///
 /// ```
 /// let mut site = IndexMap::new(alloc);

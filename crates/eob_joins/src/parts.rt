@@ -14,7 +14,8 @@ ghost use Rattle.eob_joins.specs.Parts.{AreParts, ShowsParts, parts_left, parts_
 use either_or_both::join::{OuterJoin, outer_join_lazily};
 use std::iter::FusedIterator;
 
-/// References to the keys of a slice of pairs, each key once with the part of the slice that has it. Made by [`groups_of`].
+/// An iterator over the keys of a slice of pairs, each key once with the part of the slice that has it. Made by [`groups_of`].
+#[must_use = "iterators are lazy and do nothing unless consumed"]
 #[derive(Debug, Drop)]
 pub struct GroupRefs<'a, K, V> {
     rest: &'a [(K, V)],
@@ -50,8 +51,10 @@ impl<'a, K: Ord, V> Iterator for GroupRefs<'a, K, V> {
 
 impl<'a, K: Ord, V> FusedIterator for GroupRefs<'a, K, V> {}
 
-/// The groups of a slice whose keys are ordered, as an iterator that takes no memory: each key once, in order, with the part of the
-/// slice that has it. The caller must prove that the keys are ordered, which [`is_ordered`](crate::is_ordered) tests.
+/// Returns an iterator over the groups of a slice whose keys are ordered: each key once, in order, with the part of the slice that has
+/// it. Takes no memory. The caller must prove that the keys are ordered, which [`is_ordered`](crate::is_ordered) tests.
+///
+/// # Examples
 ///
 /// ```
 /// let list = [(1, 'a'), (1, 'b'), (3, 'c')];
@@ -73,6 +76,8 @@ pub fn groups_of<K: Ord, V>(list: &[(K, V)]) -> GroupRefs<'_, K, V>
 /// The full outer join of two slices whose keys are ordered and may repeat, as an iterator that takes no memory: each key of either
 /// slice once, in order, with the part of the left slice that has it as left place and that of the right slice as right place. The
 /// caller must prove that the keys are ordered, which [`is_ordered`](crate::is_ordered) tests.
+///
+/// # Examples
 ///
 /// ```
 /// let left = [(1, 'a'), (1, 'b'), (3, 'c')];

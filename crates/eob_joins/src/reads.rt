@@ -5,6 +5,7 @@ ghost use Rattle.either_or_both.specs.Join.{Rising};
 ghost use Rattle.eob_joins.specs.Tables.{IsAntiJoin, IsInnerJoin, IsKeptOfJoin, IsLeftJoin, IsRightJoin, IsSemiJoin};
 ghost use Rattle.eob_joins.specs.Tables.{both_places, lone_left, paired_left, paired_right, shared_left};
 
+use crate::pushed::push_all;
 use either_or_both::EitherOrBoth;
 use either_or_both::join::outer_join_lazily;
 use std::alloc::{AllocError, Global};
@@ -14,6 +15,8 @@ use std::alloc::{AllocError, Global};
 /// # Errors
 ///
 /// `AllocError` where a request for memory was refused: then both lists are dropped.
+///
+/// # Examples
 ///
 /// ```
 /// let left = vec![in alloc; (1, 'a'), (3, 'b')]?;
@@ -43,6 +46,8 @@ pub fn inner_join<K: Ord + Drop, A: Drop, B: Drop>(
 ///
 /// `AllocError` where a request for memory was refused: then both lists are dropped.
 ///
+/// # Examples
+///
 /// ```
 /// let left = vec![in alloc; (1, 'a'), (3, 'b')]?;
 /// let right = vec![in alloc; (2, 'x'), (3, 'y')]?;
@@ -70,6 +75,8 @@ pub fn left_join<K: Ord + Drop, A: Drop, B: Drop>(
 /// # Errors
 ///
 /// `AllocError` where a request for memory was refused: then both lists are dropped.
+///
+/// # Examples
 ///
 /// ```
 /// let left = vec![in alloc; (1, 'a'), (3, 'b')]?;
@@ -99,6 +106,8 @@ pub fn right_join<K: Ord + Drop, A: Drop, B: Drop>(
 ///
 /// `AllocError` where a request for memory was refused: then both lists are dropped.
 ///
+/// # Examples
+///
 /// ```
 /// let left = vec![in alloc; (1, 'a'), (3, 'b')]?;
 /// let right = vec![in alloc; (2, 'x'), (3, 'y')]?;
@@ -126,6 +135,8 @@ pub fn semi_join<K: Ord + Drop, A: Drop, B: Drop>(
 /// # Errors
 ///
 /// `AllocError` where a request for memory was refused: then both lists are dropped.
+///
+/// # Examples
 ///
 /// ```
 /// let left = vec![in alloc; (1, 'a'), (3, 'b')]?;
@@ -158,9 +169,7 @@ fn both_rows<K: Ord + Drop, A: Drop, B: Drop>(
     requires right { Rising K.cmp right.items }
     ensures { IfOk result (λ rows. IsKeptOfJoin K.cmp both_places left.items right.items rows.items) }
 {
-    outer_join_lazily(left, right)
-        .filter_map(in_both)
-        .collect(alloc)
+    push_all(alloc, outer_join_lazily(left, right).filter_map(in_both))
 }
 
 // The rows of the left list, off the lazy join.
@@ -173,9 +182,7 @@ fn left_rows<K: Ord + Drop, A: Drop, B: Drop>(
     requires right { Rising K.cmp right.items }
     ensures { IfOk result (λ rows. IsKeptOfJoin K.cmp paired_left left.items right.items rows.items) }
 {
-    outer_join_lazily(left, right)
-        .filter_map(of_left)
-        .collect(alloc)
+    push_all(alloc, outer_join_lazily(left, right).filter_map(of_left))
 }
 
 // The rows of the right list, off the lazy join.
@@ -188,9 +195,7 @@ fn right_rows<K: Ord + Drop, A: Drop, B: Drop>(
     requires right { Rising K.cmp right.items }
     ensures { IfOk result (λ rows. IsKeptOfJoin K.cmp paired_right left.items right.items rows.items) }
 {
-    outer_join_lazily(left, right)
-        .filter_map(of_right)
-        .collect(alloc)
+    push_all(alloc, outer_join_lazily(left, right).filter_map(of_right))
 }
 
 // The left values of the rows of both lists, off the lazy join.
@@ -203,9 +208,7 @@ fn shared_rows<K: Ord + Drop, A: Drop, B: Drop>(
     requires right { Rising K.cmp right.items }
     ensures { IfOk result (λ rows. IsKeptOfJoin K.cmp shared_left left.items right.items rows.items) }
 {
-    outer_join_lazily(left, right)
-        .filter_map(shared)
-        .collect(alloc)
+    push_all(alloc, outer_join_lazily(left, right).filter_map(shared))
 }
 
 // The rows of the left list alone, off the lazy join.
@@ -218,9 +221,7 @@ fn lone_rows<K: Ord + Drop, A: Drop, B: Drop>(
     requires right { Rising K.cmp right.items }
     ensures { IfOk result (λ rows. IsKeptOfJoin K.cmp lone_left left.items right.items rows.items) }
 {
-    outer_join_lazily(left, right)
-        .filter_map(alone)
-        .collect(alloc)
+    push_all(alloc, outer_join_lazily(left, right).filter_map(alone))
 }
 
 // A row of both lists.

@@ -8,7 +8,7 @@ ghost use Rattle.eob_joins.specs.Versions.{IsMerge, IsMergeByKey, IsVersionJoin,
 ghost use Rattle.eob_joins.specs.Versions.{clash, clashes, merged, row_verdict, verdict};
 
 use either_or_both::EitherOrBoth;
-use either_or_both::join::outer_join_lazily;
+use either_or_both::join::outer_join;
 use std::alloc::{AllocError, Global};
 
 /// The values of the three versions under a key, of which at least one is there: the base as left place, and ours and theirs on the
@@ -21,6 +21,8 @@ pub type Versions<V> = EitherOrBoth<V, EitherOrBoth<V, V>>;
 /// # Errors
 ///
 /// `AllocError` where a request for memory was refused: then the three versions are dropped.
+///
+/// # Examples
 ///
 /// ```
 /// let base = vec![in alloc; (1, 'a'), (2, 'b')]?;
@@ -41,7 +43,9 @@ pub fn join_versions<K: Ord + Drop, V: Drop>(
     requires theirs { Rising K.cmp theirs.items }
     ensures { IfOk result (λ rows. IsVersionJoin K.cmp base.items ours.items theirs.items rows.items) }
 {
-    outer_join_lazily(base, outer_join_lazily(ours, theirs)).collect(alloc)
+    let sides = outer_join(alloc, ours, theirs)?;
+    let rows = outer_join(alloc, base, sides)?;
+    Ok(rows)
 }
 
 /// What became of a row between the base and the two other versions.
@@ -60,6 +64,8 @@ pub enum Verdict {
 }
 
 /// What became of a row. A key that is absent in two versions counts as the same in both.
+///
+/// # Examples
 ///
 /// ```
 /// assert_eq!(rt; judge(&Both('a', Both('a', 'd'))), Verdict::Theirs);
@@ -133,6 +139,8 @@ pub enum Merged<K, V> {
 ///
 /// `AllocError` where a request for memory was refused: then the three versions are dropped.
 ///
+/// # Examples
+///
 /// ```
 /// let base = vec![in alloc; (1, 'a'), (2, 'b')]?;
 /// let ours = vec![in alloc; (1, 'a'), (2, 'c')]?;
@@ -203,7 +211,14 @@ fn conflicts<K: Drop, V: Eq + Drop>(
 ) -> Result<Vec<(K, Versions<V>)>, AllocError>
     ensures { IfOk result (λ found. found.items ≡ kept (clash V.eq) rows.items) }
 {
-    rows.into_iter().filter_map(conflict_row).collect(alloc)
+    let mut found = Vec::new(alloc);
+    for row in rows {
+        match conflict_row(row) {
+            Some(kept) => found.push(kept)?,
+            None => {}
+        }
+    }
+    Ok(found)
 }
 
 // A row that is in conflict.
@@ -224,7 +239,14 @@ fn merged_rows<K: Drop, V: Eq + Drop>(
 ) -> Result<Vec<(K, V)>, AllocError>
     ensures { IfOk result (λ whole. whole.items ≡ kept (merged V.eq) rows.items) }
 {
-    rows.into_iter().filter_map(merged_row).collect(alloc)
+    let mut whole = Vec::new(alloc);
+    for row in rows {
+        match merged_row(row) {
+            Some(kept) => whole.push(kept)?,
+            None => {}
+        }
+    }
+    Ok(whole)
 }
 
 // A merged row.

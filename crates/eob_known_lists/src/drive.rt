@@ -42,6 +42,8 @@ where
 
 /// [`drive_swap_listed`] of two values that are walked by value: the answers are the items themselves.
 ///
+/// # Examples
+///
 /// ```
 /// let pair = EitherOrBoth::Both([1, 2, 3], ['a']);
 /// let driven = drive_swap_owned(alloc, pair, &[End::Back, End::Front])?;
@@ -97,6 +99,8 @@ where
 
 /// [`drive_chain_listed`] of two values that are walked by value: the answers are the items themselves.
 ///
+/// # Examples
+///
 /// ```
 /// let pair = EitherOrBoth::Both([1, 2], [3, 4]);
 /// let answers = drive_chain_owned(alloc, pair, &[End::Back, End::Front])?;
@@ -148,6 +152,8 @@ where
 /// Takes the paired walk of two such values from its front and its back in turn until they meet: returns the items from the front,
 /// and those from the back in the order in which they came. Together they are the aligned list, cut in two: half of the items came
 /// from each end, and where their number is odd one more from the front.
+///
+/// # Examples
 ///
 /// ```
 /// let pair = EitherOrBoth::Both(vec![in alloc; 1, 2, 3]?, vec![in alloc; 'a']?);
