@@ -6,8 +6,8 @@ ghost use Rattle.eob_joins.specs.Tables.{IsKeptByKey, IsKeptOfJoin};
 
 use crate::pushed::push_all;
 use either_or_both::EitherOrBoth;
-use either_or_both::join::{outer_join, outer_join_lazily};
-use std::alloc::{AllocError, Global};
+use either_or_both::join::{outer_join_in, outer_join_lazily};
+use std::alloc::{AllocError, Allocator, Global};
 
 /// What changed under a key: its value went (Left), came (Right), or is another one (Both).
 pub type Change<V> = EitherOrBoth<V, V>;
@@ -33,6 +33,24 @@ pub fn diff<K: Ord + Drop, V: Eq + Drop>(
     old: Vec<(K, V)>,
     new: Vec<(K, V)>,
 ) -> Result<Vec<(K, Change<V>)>, AllocError>
+    requires old { Rising K.cmp old.items }
+    requires new { Rising K.cmp new.items }
+    ensures kept { IfOk result (λ rows. IsKeptOfJoin K.cmp (changed V.eq) old.items new.items rows.items) }
+    ensures values { IfOk result (λ rows. IsKeptByKey K.cmp (changed V.eq) old.items new.items rows.items) }
+{
+    diff_in(alloc, old, new)
+}
+
+/// [`diff`] with memory of any allocator.
+///
+/// # Errors
+///
+/// `AllocError` where a request for memory was refused: then both versions are dropped.
+pub fn diff_in<K: Ord + Drop, V: Eq + Drop, M: Allocator>(
+    alloc: M,
+    old: Vec<(K, V), M>,
+    new: Vec<(K, V), M>,
+) -> Result<Vec<(K, Change<V>), M>, AllocError>
     requires old { Rising K.cmp old.items }
     requires new { Rising K.cmp new.items }
     ensures kept { IfOk result (λ rows. IsKeptOfJoin K.cmp (changed V.eq) old.items new.items rows.items) }
@@ -68,16 +86,34 @@ pub fn apply<K: Ord + Drop, V: Drop>(
     ensures kept { IfOk result (λ rows. IsKeptOfJoin K.cmp applied old.items changes.items rows.items) }
     ensures values { IfOk result (λ rows. IsKeptByKey K.cmp applied old.items changes.items rows.items) }
 {
+    apply_in(alloc, old, changes)
+}
+
+/// [`apply`] with memory of any allocator.
+///
+/// # Errors
+///
+/// `AllocError` where a request for memory was refused: then the table and the changes are dropped.
+pub fn apply_in<K: Ord + Drop, V: Drop, M: Allocator + Copy>(
+    alloc: M,
+    old: Vec<(K, V), M>,
+    changes: Vec<(K, Change<V>), M>,
+) -> Result<Vec<(K, V), M>, AllocError>
+    requires old { Rising K.cmp old.items }
+    requires changes { Rising K.cmp changes.items }
+    ensures kept { IfOk result (λ rows. IsKeptOfJoin K.cmp applied old.items changes.items rows.items) }
+    ensures values { IfOk result (λ rows. IsKeptByKey K.cmp applied old.items changes.items rows.items) }
+{
     let rows = applied_rows(alloc, old, changes)?;
     Ok(rows)
 }
 
 // The rows whose value is not the same in both versions, off the lazy join.
-fn changed_rows<K: Ord + Drop, V: Eq + Drop>(
-    alloc: Global,
-    old: Vec<(K, V)>,
-    new: Vec<(K, V)>,
-) -> Result<Vec<(K, Change<V>)>, AllocError>
+fn changed_rows<K: Ord + Drop, V: Eq + Drop, M: Allocator>(
+    alloc: M,
+    old: Vec<(K, V), M>,
+    new: Vec<(K, V), M>,
+) -> Result<Vec<(K, Change<V>), M>, AllocError>
     requires old { Rising K.cmp old.items }
     requires new { Rising K.cmp new.items }
     ensures { IfOk result (λ rows. IsKeptOfJoin K.cmp (changed V.eq) old.items new.items rows.items) }
@@ -86,16 +122,16 @@ fn changed_rows<K: Ord + Drop, V: Eq + Drop>(
 }
 
 // The rows of the old version and the changes, off their join.
-fn applied_rows<K: Ord + Drop, V: Drop>(
-    alloc: Global,
-    old: Vec<(K, V)>,
-    changes: Vec<(K, Change<V>)>,
-) -> Result<Vec<(K, V)>, AllocError>
+fn applied_rows<K: Ord + Drop, V: Drop, M: Allocator + Copy>(
+    alloc: M,
+    old: Vec<(K, V), M>,
+    changes: Vec<(K, Change<V>), M>,
+) -> Result<Vec<(K, V), M>, AllocError>
     requires old { Rising K.cmp old.items }
     requires changes { Rising K.cmp changes.items }
     ensures { IfOk result (λ rows. IsKeptOfJoin K.cmp applied old.items changes.items rows.items) }
 {
-    let joined = outer_join(alloc, old, changes)?;
+    let joined = outer_join_in(alloc, old, changes)?;
     let mut rows = Vec::new(alloc);
     for row in joined {
         match applied_row(row) {

@@ -8,7 +8,7 @@ ghost use Rattle.eob_joins.specs.Tables.{both_places, lone_left, paired_left, pa
 use crate::pushed::push_all;
 use either_or_both::EitherOrBoth;
 use either_or_both::join::outer_join_lazily;
-use std::alloc::{AllocError, Global};
+use std::alloc::{AllocError, Allocator, Global};
 
 /// The inner join of two lists whose keys rise: each key that both lists have, in order, with both values.
 ///
@@ -30,6 +30,24 @@ pub fn inner_join<K: Ord + Drop, A: Drop, B: Drop>(
     left: Vec<(K, A)>,
     right: Vec<(K, B)>,
 ) -> Result<Vec<(K, (A, B))>, AllocError>
+    requires left { Rising K.cmp left.items }
+    requires right { Rising K.cmp right.items }
+    ensures kept { IfOk result (λ rows. IsKeptOfJoin K.cmp both_places left.items right.items rows.items) }
+    ensures values { IfOk result (λ rows. IsInnerJoin K.cmp left.items right.items rows.items) }
+{
+    inner_join_in(alloc, left, right)
+}
+
+/// [`inner_join`] with memory of any allocator.
+///
+/// # Errors
+///
+/// `AllocError` where a request for memory was refused: then both lists are dropped.
+pub fn inner_join_in<K: Ord + Drop, A: Drop, B: Drop, M: Allocator>(
+    alloc: M,
+    left: Vec<(K, A), M>,
+    right: Vec<(K, B), M>,
+) -> Result<Vec<(K, (A, B)), M>, AllocError>
     requires left { Rising K.cmp left.items }
     requires right { Rising K.cmp right.items }
     ensures kept { IfOk result (λ rows. IsKeptOfJoin K.cmp both_places left.items right.items rows.items) }
@@ -65,6 +83,24 @@ pub fn left_join<K: Ord + Drop, A: Drop, B: Drop>(
     ensures kept { IfOk result (λ rows. IsKeptOfJoin K.cmp paired_left left.items right.items rows.items) }
     ensures values { IfOk result (λ rows. IsLeftJoin K.cmp left.items right.items rows.items) }
 {
+    left_join_in(alloc, left, right)
+}
+
+/// [`left_join`] with memory of any allocator.
+///
+/// # Errors
+///
+/// `AllocError` where a request for memory was refused: then both lists are dropped.
+pub fn left_join_in<K: Ord + Drop, A: Drop, B: Drop, M: Allocator>(
+    alloc: M,
+    left: Vec<(K, A), M>,
+    right: Vec<(K, B), M>,
+) -> Result<Vec<(K, (A, Option<B>)), M>, AllocError>
+    requires left { Rising K.cmp left.items }
+    requires right { Rising K.cmp right.items }
+    ensures kept { IfOk result (λ rows. IsKeptOfJoin K.cmp paired_left left.items right.items rows.items) }
+    ensures values { IfOk result (λ rows. IsLeftJoin K.cmp left.items right.items rows.items) }
+{
     let rows = left_rows(alloc, left, right)?;
     Ok(rows)
 }
@@ -90,6 +126,24 @@ pub fn right_join<K: Ord + Drop, A: Drop, B: Drop>(
     left: Vec<(K, A)>,
     right: Vec<(K, B)>,
 ) -> Result<Vec<(K, (Option<A>, B))>, AllocError>
+    requires left { Rising K.cmp left.items }
+    requires right { Rising K.cmp right.items }
+    ensures kept { IfOk result (λ rows. IsKeptOfJoin K.cmp paired_right left.items right.items rows.items) }
+    ensures values { IfOk result (λ rows. IsRightJoin K.cmp left.items right.items rows.items) }
+{
+    right_join_in(alloc, left, right)
+}
+
+/// [`right_join`] with memory of any allocator.
+///
+/// # Errors
+///
+/// `AllocError` where a request for memory was refused: then both lists are dropped.
+pub fn right_join_in<K: Ord + Drop, A: Drop, B: Drop, M: Allocator>(
+    alloc: M,
+    left: Vec<(K, A), M>,
+    right: Vec<(K, B), M>,
+) -> Result<Vec<(K, (Option<A>, B)), M>, AllocError>
     requires left { Rising K.cmp left.items }
     requires right { Rising K.cmp right.items }
     ensures kept { IfOk result (λ rows. IsKeptOfJoin K.cmp paired_right left.items right.items rows.items) }
@@ -125,6 +179,24 @@ pub fn semi_join<K: Ord + Drop, A: Drop, B: Drop>(
     ensures kept { IfOk result (λ rows. IsKeptOfJoin K.cmp shared_left left.items right.items rows.items) }
     ensures values { IfOk result (λ rows. IsSemiJoin K.cmp left.items right.items rows.items) }
 {
+    semi_join_in(alloc, left, right)
+}
+
+/// [`semi_join`] with memory of any allocator.
+///
+/// # Errors
+///
+/// `AllocError` where a request for memory was refused: then both lists are dropped.
+pub fn semi_join_in<K: Ord + Drop, A: Drop, B: Drop, M: Allocator>(
+    alloc: M,
+    left: Vec<(K, A), M>,
+    right: Vec<(K, B), M>,
+) -> Result<Vec<(K, A), M>, AllocError>
+    requires left { Rising K.cmp left.items }
+    requires right { Rising K.cmp right.items }
+    ensures kept { IfOk result (λ rows. IsKeptOfJoin K.cmp shared_left left.items right.items rows.items) }
+    ensures values { IfOk result (λ rows. IsSemiJoin K.cmp left.items right.items rows.items) }
+{
     let rows = shared_rows(alloc, left, right)?;
     Ok(rows)
 }
@@ -155,16 +227,34 @@ pub fn anti_join<K: Ord + Drop, A: Drop, B: Drop>(
     ensures kept { IfOk result (λ rows. IsKeptOfJoin K.cmp lone_left left.items right.items rows.items) }
     ensures values { IfOk result (λ rows. IsAntiJoin K.cmp left.items right.items rows.items) }
 {
+    anti_join_in(alloc, left, right)
+}
+
+/// [`anti_join`] with memory of any allocator.
+///
+/// # Errors
+///
+/// `AllocError` where a request for memory was refused: then both lists are dropped.
+pub fn anti_join_in<K: Ord + Drop, A: Drop, B: Drop, M: Allocator>(
+    alloc: M,
+    left: Vec<(K, A), M>,
+    right: Vec<(K, B), M>,
+) -> Result<Vec<(K, A), M>, AllocError>
+    requires left { Rising K.cmp left.items }
+    requires right { Rising K.cmp right.items }
+    ensures kept { IfOk result (λ rows. IsKeptOfJoin K.cmp lone_left left.items right.items rows.items) }
+    ensures values { IfOk result (λ rows. IsAntiJoin K.cmp left.items right.items rows.items) }
+{
     let rows = lone_rows(alloc, left, right)?;
     Ok(rows)
 }
 
 // The rows of both lists, off the lazy join.
-fn both_rows<K: Ord + Drop, A: Drop, B: Drop>(
-    alloc: Global,
-    left: Vec<(K, A)>,
-    right: Vec<(K, B)>,
-) -> Result<Vec<(K, (A, B))>, AllocError>
+fn both_rows<K: Ord + Drop, A: Drop, B: Drop, M: Allocator>(
+    alloc: M,
+    left: Vec<(K, A), M>,
+    right: Vec<(K, B), M>,
+) -> Result<Vec<(K, (A, B)), M>, AllocError>
     requires left { Rising K.cmp left.items }
     requires right { Rising K.cmp right.items }
     ensures { IfOk result (λ rows. IsKeptOfJoin K.cmp both_places left.items right.items rows.items) }
@@ -173,11 +263,11 @@ fn both_rows<K: Ord + Drop, A: Drop, B: Drop>(
 }
 
 // The rows of the left list, off the lazy join.
-fn left_rows<K: Ord + Drop, A: Drop, B: Drop>(
-    alloc: Global,
-    left: Vec<(K, A)>,
-    right: Vec<(K, B)>,
-) -> Result<Vec<(K, (A, Option<B>))>, AllocError>
+fn left_rows<K: Ord + Drop, A: Drop, B: Drop, M: Allocator>(
+    alloc: M,
+    left: Vec<(K, A), M>,
+    right: Vec<(K, B), M>,
+) -> Result<Vec<(K, (A, Option<B>)), M>, AllocError>
     requires left { Rising K.cmp left.items }
     requires right { Rising K.cmp right.items }
     ensures { IfOk result (λ rows. IsKeptOfJoin K.cmp paired_left left.items right.items rows.items) }
@@ -186,11 +276,11 @@ fn left_rows<K: Ord + Drop, A: Drop, B: Drop>(
 }
 
 // The rows of the right list, off the lazy join.
-fn right_rows<K: Ord + Drop, A: Drop, B: Drop>(
-    alloc: Global,
-    left: Vec<(K, A)>,
-    right: Vec<(K, B)>,
-) -> Result<Vec<(K, (Option<A>, B))>, AllocError>
+fn right_rows<K: Ord + Drop, A: Drop, B: Drop, M: Allocator>(
+    alloc: M,
+    left: Vec<(K, A), M>,
+    right: Vec<(K, B), M>,
+) -> Result<Vec<(K, (Option<A>, B)), M>, AllocError>
     requires left { Rising K.cmp left.items }
     requires right { Rising K.cmp right.items }
     ensures { IfOk result (λ rows. IsKeptOfJoin K.cmp paired_right left.items right.items rows.items) }
@@ -199,11 +289,11 @@ fn right_rows<K: Ord + Drop, A: Drop, B: Drop>(
 }
 
 // The left values of the rows of both lists, off the lazy join.
-fn shared_rows<K: Ord + Drop, A: Drop, B: Drop>(
-    alloc: Global,
-    left: Vec<(K, A)>,
-    right: Vec<(K, B)>,
-) -> Result<Vec<(K, A)>, AllocError>
+fn shared_rows<K: Ord + Drop, A: Drop, B: Drop, M: Allocator>(
+    alloc: M,
+    left: Vec<(K, A), M>,
+    right: Vec<(K, B), M>,
+) -> Result<Vec<(K, A), M>, AllocError>
     requires left { Rising K.cmp left.items }
     requires right { Rising K.cmp right.items }
     ensures { IfOk result (λ rows. IsKeptOfJoin K.cmp shared_left left.items right.items rows.items) }
@@ -212,11 +302,11 @@ fn shared_rows<K: Ord + Drop, A: Drop, B: Drop>(
 }
 
 // The rows of the left list alone, off the lazy join.
-fn lone_rows<K: Ord + Drop, A: Drop, B: Drop>(
-    alloc: Global,
-    left: Vec<(K, A)>,
-    right: Vec<(K, B)>,
-) -> Result<Vec<(K, A)>, AllocError>
+fn lone_rows<K: Ord + Drop, A: Drop, B: Drop, M: Allocator>(
+    alloc: M,
+    left: Vec<(K, A), M>,
+    right: Vec<(K, B), M>,
+) -> Result<Vec<(K, A), M>, AllocError>
     requires left { Rising K.cmp left.items }
     requires right { Rising K.cmp right.items }
     ensures { IfOk result (λ rows. IsKeptOfJoin K.cmp lone_left left.items right.items rows.items) }

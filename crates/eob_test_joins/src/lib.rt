@@ -12,6 +12,8 @@ mod maps;
 #[cfg(test)]
 mod reads;
 #[cfg(test)]
+mod refused;
+#[cfg(test)]
 mod tables;
 #[cfg(test)]
 mod versions;

@@ -1,0 +1,272 @@
+//! Tests: the joins of lists, and what changed in a table, with each request for memory refused in turn. What is tested is their forms
+//! with any allocator, with memory of the tests' own.
+
+use either_or_both::EitherOrBoth;
+use either_or_both::join::is_rising;
+use eob_joins::{
+    Change, anti_join_in, apply_in, diff_in, inner_join_in, left_join_in, right_join_in,
+    semi_join_in,
+};
+use eob_testkit::memory::{RUNS, Refusing, Runs, Tokens};
+use std::alloc::{AllocError, Global};
+use std::rc::Rc;
+use std::test::Fail;
+
+type Memory = Refusing<Global>;
+
+type Table<'a, V> = Vec<(u32, V), &'a Memory>;
+
+// The keys of the tables are below this.
+const KEYS: u32 = 60;
+
+// The even keys.
+fn evens<'a>(memory: &'a Memory, tokens: &Tokens) -> Result<Table<'a, Rc<u8>>, AllocError> {
+    let mut table = Vec::new(memory);
+    for key in 0..KEYS {
+        if key % 2 == 0 {
+            table.push((key, tokens.one()?))?;
+        }
+    }
+    Ok(table)
+}
+
+// The multiples of three, where a multiple of twelve has the value that it has among the even keys.
+fn threes<'a>(memory: &'a Memory, tokens: &Tokens) -> Result<Table<'a, Rc<u8>>, AllocError> {
+    let mut table = Vec::new(memory);
+    for key in 0..KEYS {
+        if key % 12 == 0 {
+            table.push((key, tokens.one()?))?;
+        } else if key % 3 == 0 {
+            table.push((key, tokens.two()?))?;
+        }
+    }
+    Ok(table)
+}
+
+// Changes to the even keys: a multiple of four goes, and each other multiple of three has another value.
+fn changes<'a>(
+    memory: &'a Memory,
+    tokens: &Tokens,
+) -> Result<Table<'a, Change<Rc<u8>>>, AllocError> {
+    let mut table = Vec::new(memory);
+    for key in 0..KEYS {
+        if key % 4 == 0 {
+            table.push((key, EitherOrBoth::Left(tokens.one()?)))?;
+        } else if key % 3 == 0 {
+            table.push((key, EitherOrBoth::Right(tokens.three()?)))?;
+        }
+    }
+    Ok(table)
+}
+
+// What an even key has, and what a multiple of three has.
+fn values(key: u32) -> (Option<u8>, Option<u8>) {
+    let left = if key % 2 == 0 { Some(1) } else { None };
+    let right = if key % 12 == 0 {
+        Some(1)
+    } else if key % 3 == 0 {
+        Some(2)
+    } else {
+        None
+    };
+    (left, right)
+}
+
+/// An inner join.
+#[test]
+fn refused_inner_join(rt: HostRuntime) -> Result<(), Fail> {
+    let memory = Refusing::new(rt.alloc());
+    let tokens = Tokens::new(rt.alloc())?;
+    let runs = Runs::new(rt.alloc(), &memory, &tokens);
+    let mut rows = Vec::new(rt.alloc());
+    for key in 0..KEYS {
+        match values(key) {
+            (Some(a), Some(b)) => rows.push((key, (a, b)))?,
+            _ => (),
+        }
+    }
+    let want = format!(in rt.alloc(); "{rows:?}")?;
+    for number in 1..RUNS {
+        memory.refuse(0);
+        let left = evens(&memory, &tokens)?;
+        let right = threes(&memory, &tokens)?;
+        assert!(rt; is_rising(&left) && is_rising(&right));
+        memory.refuse(number);
+        if runs.is_whole(inner_join_in(&memory, left, right), &want)? {
+            return Ok(());
+        }
+    }
+    Err("each run was refused")?;
+    Ok(())
+}
+
+/// A left join.
+#[test]
+fn refused_left_join(rt: HostRuntime) -> Result<(), Fail> {
+    let memory = Refusing::new(rt.alloc());
+    let tokens = Tokens::new(rt.alloc())?;
+    let runs = Runs::new(rt.alloc(), &memory, &tokens);
+    let mut rows = Vec::new(rt.alloc());
+    for key in 0..KEYS {
+        match values(key) {
+            (Some(a), b) => rows.push((key, (a, b)))?,
+            (None, _) => (),
+        }
+    }
+    let want = format!(in rt.alloc(); "{rows:?}")?;
+    for number in 1..RUNS {
+        memory.refuse(0);
+        let left = evens(&memory, &tokens)?;
+        let right = threes(&memory, &tokens)?;
+        assert!(rt; is_rising(&left) && is_rising(&right));
+        memory.refuse(number);
+        if runs.is_whole(left_join_in(&memory, left, right), &want)? {
+            return Ok(());
+        }
+    }
+    Err("each run was refused")?;
+    Ok(())
+}
+
+/// A right join.
+#[test]
+fn refused_right_join(rt: HostRuntime) -> Result<(), Fail> {
+    let memory = Refusing::new(rt.alloc());
+    let tokens = Tokens::new(rt.alloc())?;
+    let runs = Runs::new(rt.alloc(), &memory, &tokens);
+    let mut rows = Vec::new(rt.alloc());
+    for key in 0..KEYS {
+        match values(key) {
+            (a, Some(b)) => rows.push((key, (a, b)))?,
+            (_, None) => (),
+        }
+    }
+    let want = format!(in rt.alloc(); "{rows:?}")?;
+    for number in 1..RUNS {
+        memory.refuse(0);
+        let left = evens(&memory, &tokens)?;
+        let right = threes(&memory, &tokens)?;
+        assert!(rt; is_rising(&left) && is_rising(&right));
+        memory.refuse(number);
+        if runs.is_whole(right_join_in(&memory, left, right), &want)? {
+            return Ok(());
+        }
+    }
+    Err("each run was refused")?;
+    Ok(())
+}
+
+/// A semi join.
+#[test]
+fn refused_semi_join(rt: HostRuntime) -> Result<(), Fail> {
+    let memory = Refusing::new(rt.alloc());
+    let tokens = Tokens::new(rt.alloc())?;
+    let runs = Runs::new(rt.alloc(), &memory, &tokens);
+    let mut rows = Vec::new(rt.alloc());
+    for key in 0..KEYS {
+        match values(key) {
+            (Some(a), Some(_)) => rows.push((key, a))?,
+            _ => (),
+        }
+    }
+    let want = format!(in rt.alloc(); "{rows:?}")?;
+    for number in 1..RUNS {
+        memory.refuse(0);
+        let left = evens(&memory, &tokens)?;
+        let right = threes(&memory, &tokens)?;
+        assert!(rt; is_rising(&left) && is_rising(&right));
+        memory.refuse(number);
+        if runs.is_whole(semi_join_in(&memory, left, right), &want)? {
+            return Ok(());
+        }
+    }
+    Err("each run was refused")?;
+    Ok(())
+}
+
+/// An anti join.
+#[test]
+fn refused_anti_join(rt: HostRuntime) -> Result<(), Fail> {
+    let memory = Refusing::new(rt.alloc());
+    let tokens = Tokens::new(rt.alloc())?;
+    let runs = Runs::new(rt.alloc(), &memory, &tokens);
+    let mut rows = Vec::new(rt.alloc());
+    for key in 0..KEYS {
+        match values(key) {
+            (Some(a), None) => rows.push((key, a))?,
+            _ => (),
+        }
+    }
+    let want = format!(in rt.alloc(); "{rows:?}")?;
+    for number in 1..RUNS {
+        memory.refuse(0);
+        let left = evens(&memory, &tokens)?;
+        let right = threes(&memory, &tokens)?;
+        assert!(rt; is_rising(&left) && is_rising(&right));
+        memory.refuse(number);
+        if runs.is_whole(anti_join_in(&memory, left, right), &want)? {
+            return Ok(());
+        }
+    }
+    Err("each run was refused")?;
+    Ok(())
+}
+
+/// What changed.
+#[test]
+fn refused_diff(rt: HostRuntime) -> Result<(), Fail> {
+    let memory = Refusing::new(rt.alloc());
+    let tokens = Tokens::new(rt.alloc())?;
+    let runs = Runs::new(rt.alloc(), &memory, &tokens);
+    let mut rows = Vec::new(rt.alloc());
+    for key in 0..KEYS {
+        match values(key) {
+            (Some(a), None) => rows.push((key, EitherOrBoth::Left(a)))?,
+            (None, Some(b)) => rows.push((key, EitherOrBoth::Right(b)))?,
+            (Some(a), Some(b)) if a != b => rows.push((key, EitherOrBoth::Both(a, b)))?,
+            _ => (),
+        }
+    }
+    let want = format!(in rt.alloc(); "{rows:?}")?;
+    for number in 1..RUNS {
+        memory.refuse(0);
+        let left = evens(&memory, &tokens)?;
+        let right = threes(&memory, &tokens)?;
+        assert!(rt; is_rising(&left) && is_rising(&right));
+        memory.refuse(number);
+        if runs.is_whole(diff_in(&memory, left, right), &want)? {
+            return Ok(());
+        }
+    }
+    Err("each run was refused")?;
+    Ok(())
+}
+
+/// Changes made to a table.
+#[test]
+fn refused_apply(rt: HostRuntime) -> Result<(), Fail> {
+    let memory = Refusing::new(rt.alloc());
+    let tokens = Tokens::new(rt.alloc())?;
+    let runs = Runs::new(rt.alloc(), &memory, &tokens);
+    let mut rows = Vec::new(rt.alloc());
+    for key in 0..KEYS {
+        if key % 4 != 0 && key % 3 == 0 {
+            rows.push((key, 3))?;
+        } else if key % 4 != 0 && key % 2 == 0 {
+            rows.push((key, 1))?;
+        }
+    }
+    let want = format!(in rt.alloc(); "{rows:?}")?;
+    for number in 1..RUNS {
+        memory.refuse(0);
+        let left = evens(&memory, &tokens)?;
+        let right = changes(&memory, &tokens)?;
+        assert!(rt; is_rising(&left) && is_rising(&right));
+        memory.refuse(number);
+        if runs.is_whole(apply_in(&memory, left, right), &want)? {
+            return Ok(());
+        }
+    }
+    Err("each run was refused")?;
+    Ok(())
+}
