@@ -41,7 +41,7 @@ pub fn diff<K: Ord + Drop, V: Eq + Drop>(
     diff_in(alloc, old, new)
 }
 
-/// [`diff`] with memory of any allocator.
+/// Returns what [`diff`] does, with memory of any allocator.
 ///
 /// # Errors
 ///
@@ -89,7 +89,7 @@ pub fn apply<K: Ord + Drop, V: Drop>(
     apply_in(alloc, old, changes)
 }
 
-/// [`apply`] with memory of any allocator.
+/// Returns what [`apply`] does, with memory of any allocator.
 ///
 /// # Errors
 ///

@@ -42,7 +42,7 @@ pub fn group_join_unordered<K: Ord + Drop, A: Drop, B: Drop>(
     group_join_unordered_in(alloc, left, right)
 }
 
-/// [`group_join_unordered`] with memory of any allocator.
+/// Returns what [`group_join_unordered`] does, with memory of any allocator.
 ///
 /// # Errors
 ///
@@ -90,7 +90,7 @@ pub fn group_join<K: Ord + Drop, A: Drop, B: Drop>(
     group_join_in(alloc, left, right)
 }
 
-/// [`group_join`] with memory of any allocator.
+/// Returns what [`group_join`] does, with memory of any allocator.
 ///
 /// # Errors
 ///
@@ -137,7 +137,7 @@ pub fn group_by_key<K: Ord + Drop, V: Drop>(
     group_by_key_in(alloc, list)
 }
 
-/// [`group_by_key`] with memory of any allocator.
+/// Returns what [`group_by_key`] does, with memory of any allocator.
 ///
 /// # Errors
 ///

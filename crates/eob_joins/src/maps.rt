@@ -51,7 +51,7 @@ pub fn outer_join_index_maps<
     outer_join_index_maps_in(alloc, left, right)
 }
 
-/// [`outer_join_index_maps`] with memory of any allocator.
+/// Returns what [`outer_join_index_maps`] does, with memory of any allocator.
 ///
 /// # Errors
 ///
@@ -112,7 +112,7 @@ pub fn outer_join_hash_maps<
     outer_join_hash_maps_in(alloc, left, right)
 }
 
-/// [`outer_join_hash_maps`] with memory of any allocator.
+/// Returns what [`outer_join_hash_maps`] does, with memory of any allocator.
 ///
 /// # Errors
 ///
@@ -175,7 +175,7 @@ pub fn overlay_index_maps<
     overlay_index_maps_in(alloc, base, over)
 }
 
-/// [`overlay_index_maps`] with memory of any allocator.
+/// Returns what [`overlay_index_maps`] does, with memory of any allocator.
 ///
 /// # Errors
 ///

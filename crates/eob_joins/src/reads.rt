@@ -38,7 +38,7 @@ pub fn inner_join<K: Ord + Drop, A: Drop, B: Drop>(
     inner_join_in(alloc, left, right)
 }
 
-/// [`inner_join`] with memory of any allocator.
+/// Returns what [`inner_join`] does, with memory of any allocator.
 ///
 /// # Errors
 ///
@@ -86,7 +86,7 @@ pub fn left_join<K: Ord + Drop, A: Drop, B: Drop>(
     left_join_in(alloc, left, right)
 }
 
-/// [`left_join`] with memory of any allocator.
+/// Returns what [`left_join`] does, with memory of any allocator.
 ///
 /// # Errors
 ///
@@ -134,7 +134,7 @@ pub fn right_join<K: Ord + Drop, A: Drop, B: Drop>(
     right_join_in(alloc, left, right)
 }
 
-/// [`right_join`] with memory of any allocator.
+/// Returns what [`right_join`] does, with memory of any allocator.
 ///
 /// # Errors
 ///
@@ -182,7 +182,7 @@ pub fn semi_join<K: Ord + Drop, A: Drop, B: Drop>(
     semi_join_in(alloc, left, right)
 }
 
-/// [`semi_join`] with memory of any allocator.
+/// Returns what [`semi_join`] does, with memory of any allocator.
 ///
 /// # Errors
 ///
@@ -230,7 +230,7 @@ pub fn anti_join<K: Ord + Drop, A: Drop, B: Drop>(
     anti_join_in(alloc, left, right)
 }
 
-/// [`anti_join`] with memory of any allocator.
+/// Returns what [`anti_join`] does, with memory of any allocator.
 ///
 /// # Errors
 ///
