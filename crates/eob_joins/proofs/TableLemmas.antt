@@ -15,7 +15,7 @@ use Rattle.either_or_both.proofs.MergeLemmas.{Up, absent_alike, rising, up, up_w
 use Rattle.eob_joins.specs.Tables.{Tabulates, SameTableLaw, KeptLaw, KeptRowsLaw, kept, both_places, paired_left, paired_right, shared_left, lone_left, unless}
 use Rattle.eob_joins.specs.Tables.{IsKeptOfJoin, IsInnerJoin, IsLeftJoin, IsRightJoin, IsSemiJoin, IsAntiJoin}
 use Rattle.eob_joins.specs.Changes.{ApplyDiffLaw, applied, changed}
-use Rattle.eob_joins.specs.Laws.{RightLaw, SelfJoinLaw}
+use Rattle.eob_joins.specs.Laws.{RightLaw, SelfJoinLaw, ThreeJoinsLaw}
 use Rattle.eob_both.specs.declared.either_or_both.EitherOrBoth.TheVariants.{Both}
 
 pub by_test : {G : Type 0} (t : Bool) → (t ≡ true → G) → (t ≡ false → G) → G
@@ -142,6 +142,12 @@ module _ {K : Type 0} (cmp : K → K → Ordering) where
 
   pub same_table : IsTotalOrder cmp → (V : Type 0) → SameTableLaw cmp V
   same_table o V exact f ys zs g h = same_rows exact ys zs (same_values cmp o (λ k. ⊤) (λ k. ⊤) ys zs (up cmp ys g.rises) (up cmp zs h.rises) (λ k. g.values k ∙ sym (h.values k)))
+
+  pub three_joins : (A B C : Type 0) → ThreeJoinsLaw cmp A B C
+  three_joins A B C p q r zs to_right ys to_left i j k l = (
+    record { rises = j.rises; values = λ key. j.values key ∙ ap (from_places (value_under cmp p key)) (i.values key) },
+    record { rises = l.rises; values = λ key. l.values key ∙ ap (λ m. from_places m (value_under cmp r key)) (k.values key) },
+  )
 
   pub right_law : IsTotalOrder cmp → (A B : Type 0) → RightLaw cmp A B
   right_law o A B exact p q zs rises j =

@@ -12,8 +12,10 @@ use std::alloc::{AllocError, Allocator, Global};
 /// What changed under a key: its value went (Left), came (Right), or is another one (Both).
 pub type Change<V> = EitherOrBoth<V, V>;
 
-/// The changes from the old version of a table to the new one, both of which rise: each key whose value is not the same in both, in
-/// order, with its value in either version.
+/// Returns the changes from the old version of a table to the new one: each key whose value is not the same in both, in order, with its
+/// value in either version. Takes one comparison of keys for each key of either version at most.
+///
+/// The caller must prove that the keys strictly increase; see [`is_rising`](either_or_both::join::is_rising).
 ///
 /// # Errors
 ///
@@ -46,6 +48,16 @@ pub fn diff<K: Ord + Drop, V: Eq + Drop>(
 /// # Errors
 ///
 /// `AllocError` where a request for memory was refused: then both versions are dropped.
+///
+/// # Examples
+///
+/// ```
+/// let old = vec![in alloc; (1, 'a'), (2, 'b'), (3, 'c')]?;
+/// let new = vec![in alloc; (1, 'a'), (3, 'd'), (4, 'e')]?;
+/// assert!(rt; is_rising(&old) && is_rising(&new));
+/// let changes = vec![in alloc; (2, Left('b')), (3, Both('c', 'd')), (4, Right('e'))]?;
+/// assert_eq!(rt; diff_in(alloc, old, new)?, changes);
+/// ```
 pub fn diff_in<K: Ord + Drop, V: Eq + Drop, M: Allocator>(
     alloc: M,
     old: Vec<(K, V), M>,
@@ -60,8 +72,10 @@ pub fn diff_in<K: Ord + Drop, V: Eq + Drop, M: Allocator>(
     Ok(rows)
 }
 
-/// A table with changes made to it, both of which rise: under the key of a change its new value, or nothing where the value went, and
-/// under every other key what it was. What a change says of the old value is not looked at.
+/// Returns a table with changes made to it: under the key of a change its new value, or nothing where the value went, and under every
+/// other key what it was. What a change says of the old value is not looked at. Takes memory for the join of both.
+///
+/// The caller must prove that the keys strictly increase; see [`is_rising`](either_or_both::join::is_rising).
 ///
 /// # Errors
 ///
@@ -94,6 +108,16 @@ pub fn apply<K: Ord + Drop, V: Drop>(
 /// # Errors
 ///
 /// `AllocError` where a request for memory was refused: then the table and the changes are dropped.
+///
+/// # Examples
+///
+/// ```
+/// let old = vec![in alloc; (1, 'a'), (2, 'b'), (3, 'c')]?;
+/// let changes = vec![in alloc; (2, Left('b')), (3, Both('c', 'd')), (4, Right('e'))]?;
+/// assert!(rt; is_rising(&old) && is_rising(&changes));
+/// let new = vec![in alloc; (1, 'a'), (3, 'd'), (4, 'e')]?;
+/// assert_eq!(rt; apply_in(alloc, old, changes)?, new);
+/// ```
 pub fn apply_in<K: Ord + Drop, V: Drop, M: Allocator + Copy>(
     alloc: M,
     old: Vec<(K, V), M>,

@@ -1,7 +1,8 @@
 //! Tables whose keys repeat: the values of each key as one group, and the full outer join of two such tables by key.
 //!
-//! [`group_join_unordered`] takes tables in any order. [`group_join`] and [`group_by_key`] sort nothing: they ask that the keys are
-//! ordered, which [`is_ordered`] answers. Under a key the values stand in the order that they have in their table.
+//! [`group_join_unordered`] takes tables in any order. [`group_join`] and [`group_by_key`] sort nothing: the caller
+//! must prove that the keys are ordered, which [`is_ordered`] tests. Under a key the values stand in the order that they have in their
+//! table.
 ghost use Rattle.std.specs.Prelude.{◌≡◌, ◌∷◌, IsTrue, IfOk, OnOk, ◌↔◌, map};
 ghost use Rattle.either_or_both.specs.Join.{Rising};
 ghost use Rattle.eob_joins.specs.Groups.{AreGroups, HasGroupsOf, IsGroupJoin, Ordered, OrderedLaw, run_rest, run_values, shown_group, shown_row};
@@ -14,7 +15,7 @@ use std::collections::VecDeque;
 /// A row of a group join: a key, and the values that each table has under it.
 pub type GroupRow<K, A, B, M = Global> = (K, EitherOrBoth<Vec<A, M>, Vec<B, M>>);
 
-/// The full outer join of two tables in any order, whose keys may repeat: each key of either table once, in order, with all values
+/// Returns the full outer join of two tables in any order, whose keys may repeat: each key of either table once, in order, with all values
 /// that the left table has under it as left place and those of the right table as right place. Under a key the values stand in the
 /// order that they have in their table. Both tables are sorted by key first; of tables whose keys are ordered, [`group_join`] gives
 /// the same rows without.
@@ -47,6 +48,16 @@ pub fn group_join_unordered<K: Ord + Drop, A: Drop, B: Drop>(
 /// # Errors
 ///
 /// `AllocError` where a request for memory was refused: then both tables are dropped.
+///
+/// # Examples
+///
+/// ```
+/// let left = vec![in alloc; (3, 'c'), (1, 'b'), (1, 'a')]?;
+/// let right = vec![in alloc; (2, 'y'), (1, 'x')]?;
+/// let rows = group_join_unordered_in(alloc, left, right)?;
+/// let text = format!(in alloc; "{rows:?}")?;
+/// assert_eq!(rt; text.as_str(), "[(1, Both(['b', 'a'], ['x'])), (2, Right(['y'])), (3, Left(['c']))]");
+/// ```
 pub fn group_join_unordered_in<K: Ord + Drop, A: Drop, B: Drop, M: Allocator + Copy>(
     alloc: M,
     left: Vec<(K, A), M>,
@@ -60,9 +71,10 @@ pub fn group_join_unordered_in<K: Ord + Drop, A: Drop, B: Drop, M: Allocator + C
     Ok(rows)
 }
 
-/// The full outer join of two tables whose keys are ordered and may repeat: each key of either table once, in order, with all values
-/// that the left table has under it as left place and those of the right table as right place. That the keys are ordered is asked
-/// and not tested: [`is_ordered`] tests it.
+/// Returns the full outer join of two tables whose keys are ordered and may repeat: each key of either table once, in order, with all
+/// values that the left table has under it as left place and those of the right table as right place. Takes one vector for each group.
+///
+/// The caller must prove that the keys are ordered; see [`is_ordered`].
 ///
 /// # Errors
 ///
@@ -95,6 +107,17 @@ pub fn group_join<K: Ord + Drop, A: Drop, B: Drop>(
 /// # Errors
 ///
 /// `AllocError` where a request for memory was refused: then both tables are dropped.
+///
+/// # Examples
+///
+/// ```
+/// let left = vec![in alloc; (1, 'a'), (1, 'b'), (3, 'c')]?;
+/// let right = vec![in alloc; (1, 'x'), (2, 'y')]?;
+/// assert!(rt; is_ordered(&left) && is_ordered(&right));
+/// let rows = group_join_in(alloc, left, right)?;
+/// let text = format!(in alloc; "{rows:?}")?;
+/// assert_eq!(rt; text.as_str(), "[(1, Both(['a', 'b'], ['x'])), (2, Right(['y'])), (3, Left(['c']))]");
+/// ```
 pub fn group_join_in<K: Ord + Drop, A: Drop, B: Drop, M: Allocator + Copy>(
     alloc: M,
     left: Vec<(K, A), M>,
@@ -110,8 +133,10 @@ pub fn group_join_in<K: Ord + Drop, A: Drop, B: Drop, M: Allocator + Copy>(
     Ok(rows)
 }
 
-/// The groups of a table whose keys are ordered: each key once, in order, with all its values in theirs. That the keys are ordered is
-/// asked and not tested: [`is_ordered`] tests it.
+/// Returns the groups of a table whose keys are ordered: each key once, in order, with all its values in theirs. Takes one comparison
+/// for each pair, and one vector for each group.
+///
+/// The caller must prove that the keys are ordered; see [`is_ordered`].
 ///
 /// # Errors
 ///
@@ -142,6 +167,16 @@ pub fn group_by_key<K: Ord + Drop, V: Drop>(
 /// # Errors
 ///
 /// `AllocError` where a request for memory was refused: then the table is dropped.
+///
+/// # Examples
+///
+/// ```
+/// let list = vec![in alloc; (1, 'a'), (1, 'b'), (3, 'c')]?;
+/// assert!(rt; is_ordered(&list));
+/// let groups = group_by_key_in(alloc, list)?;
+/// let text = format!(in alloc; "{groups:?}")?;
+/// assert_eq!(rt; text.as_str(), "[(1, ['a', 'b']), (3, ['c'])]");
+/// ```
 pub fn group_by_key_in<K: Ord + Drop, V: Drop, M: Allocator + Copy>(
     alloc: M,
     list: Vec<(K, V), M>,
@@ -164,7 +199,7 @@ pub fn group_by_key_in<K: Ord + Drop, V: Drop, M: Allocator + Copy>(
     }
 }
 
-/// Whether no key is less than the one before it, as [`group_join`] and [`group_by_key`] ask. Takes no memory.
+/// Returns `true` if no key is less than the one before it, which [`group_join`] and [`group_by_key`] require. Takes no memory.
 ///
 /// # Examples
 ///

@@ -1,5 +1,5 @@
 //! What holds of every join and of every table, as contracts of functions that do nothing: a caller calls one to learn it.
-ghost use Rattle.eob_joins.specs.Laws.{CutJoinLaw, RightLaw, SelfJoinLaw};
+ghost use Rattle.eob_joins.specs.Laws.{CutJoinLaw, RightLaw, SelfJoinLaw, ThreeJoinsLaw};
 ghost use Rattle.eob_joins.specs.Tables.{KeptLaw, KeptRowsLaw, SameTableLaw};
 
 /// What a function keeps of the rows of a join has under each key what the function keeps of what the two lists have there.
@@ -30,6 +30,12 @@ pub fn law_join_right<K: Ord, A, B>()
 /// The join of a list with itself has each key with its value on both sides, where keys that count as equal are equal.
 pub fn law_join_self<K: Ord, V>()
     ensures { SelfJoinLaw K.cmp V }
+{}
+
+/// Three lists joined, the first with the join of the two others, or the join of the first two with the third: either way each key has
+/// exactly what the three lists have there, and the keys rise.
+pub fn law_three_joins<K: Ord, A, B, C>()
+    ensures { ThreeJoinsLaw K.cmp A B C }
 {}
 
 /// Two tables that are cut at a key: where each key of `p1` and `q1` is less than each of `p2` and `q2`, the join of `p1` and `q1`

@@ -1,7 +1,7 @@
 //! Tables as maps, whose keys are each there once: the full outer join of two maps, and a map laid over another, as the layers of a
-//! program's settings. Nothing is asked of the maps.
+//! program's settings. The caller has nothing to prove.
 //!
-//! What these calls give is an `IndexMap`, which is walked in the order of insertion: the keys of the left map in their order, then
+//! What these calls give is an `IndexMap`, which iterates in the order of insertion: the keys of the left map in their order, then
 //! those that it lacks in the order of the right map.
 ghost use Rattle.std.specs.Prelude.{◌≡◌, ◌++◌, ◌∷◌, [], IfOk, List, None, OnOk, Some};
 ghost use Rattle.std.specs.HashMap.{IsEmpty, get};
@@ -14,8 +14,8 @@ use std::alloc::{AllocError, Allocator, Global};
 use std::collections::HashMap;
 use std::hash::{BuildHasher, Hash};
 
-/// The full outer join of two maps in the order of insertion: the keys of the left map in their order, then those that it lacks in the
-/// order of the right map, each with the left map's value as left place and the right map's as right place. It takes one look-up by
+/// Returns the full outer join of two maps in the order of insertion: the keys of the left map in their order, then those that it lacks
+/// in the order of the right map, each with the left map's value as left place and the right map's as right place. Takes one look-up by
 /// hash for each entry of either map.
 ///
 /// # Errors
@@ -56,6 +56,20 @@ pub fn outer_join_index_maps<
 /// # Errors
 ///
 /// `AllocError` where a request for memory was refused: then both maps are dropped.
+///
+/// # Examples
+///
+/// ```
+/// let mut left = IndexMap::new(alloc);
+/// left.insert(3, 'c')?;
+/// left.insert(1, 'a')?;
+/// let mut right = IndexMap::new(alloc);
+/// right.insert(2, 'y')?;
+/// right.insert(1, 'x')?;
+/// let rows = outer_join_index_maps_in(alloc, left, right)?;
+/// let text = format!(in alloc; "{rows:?}")?;
+/// assert_eq!(rt; text.as_str(), "{3: Left('c'), 1: Both('a', 'x'), 2: Right('y')}");
+/// ```
 pub fn outer_join_index_maps_in<
     K: Eq + Hash + Drop,
     A: Drop,
@@ -78,9 +92,9 @@ pub fn outer_join_index_maps_in<
     Ok(rows)
 }
 
-/// The full outer join of two hashed maps: the keys of the left map, in the order in which that map is walked, then those that it
-/// lacks, in the order in which the right map is walked, each with the left map's value as left place and the right map's as right
-/// place. It takes one look-up by hash for each entry of either map.
+/// Returns the full outer join of two hashed maps: the keys of the left map, in the order in which it iterates, then those that it
+/// lacks, in the order in which the right map iterates, each with the left map's value as left place and the right map's as right
+/// place. Takes one look-up by hash for each entry of either map.
 ///
 /// # Errors
 ///
@@ -117,6 +131,17 @@ pub fn outer_join_hash_maps<
 /// # Errors
 ///
 /// `AllocError` where a request for memory was refused: then both maps are dropped.
+///
+/// # Examples
+///
+/// ```
+/// let mut left = HashMap::new(alloc);
+/// left.insert(1, 'a')?;
+/// let mut right = HashMap::new(alloc);
+/// right.insert(1, 'x')?;
+/// let rows = outer_join_hash_maps_in(alloc, left, right)?;
+/// assert_eq!(rt; rows.get(&1), Some(&Both('a', 'x')));
+/// ```
 pub fn outer_join_hash_maps_in<
     K: Eq + Hash + Drop,
     A: Drop,
@@ -139,7 +164,7 @@ pub fn outer_join_hash_maps_in<
     Ok(rows)
 }
 
-/// A map laid over another, such as the user's settings over the site's: under each key the value of `over`, and where it has none
+/// Returns a map laid over another, such as the user's settings over the site's: under each key the value of `over`, and where it has none
 /// that of `base`. The keys of `base` stand first, in their order, then those that it lacks in the order of `over`, as in
 /// [`outer_join_index_maps`]. Layers of any number are laid one over the other by as many calls.
 ///
@@ -180,6 +205,20 @@ pub fn overlay_index_maps<
 /// # Errors
 ///
 /// `AllocError` where a request for memory was refused: then both maps are dropped.
+///
+/// # Examples
+///
+/// ```
+/// let mut site = IndexMap::new(alloc);
+/// site.insert("port", 80)?;
+/// site.insert("depth", 3)?;
+/// let mut user = IndexMap::new(alloc);
+/// user.insert("width", 72)?;
+/// user.insert("port", 8080)?;
+/// let settings = overlay_index_maps_in(alloc, site, user)?;
+/// let text = format!(in alloc; "{settings:?}")?;
+/// assert_eq!(rt; text.as_str(), "{\"port\": 8080, \"depth\": 3, \"width\": 72}");
+/// ```
 pub fn overlay_index_maps_in<
     K: Eq + Hash + Drop,
     V: Drop,

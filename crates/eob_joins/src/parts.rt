@@ -73,9 +73,9 @@ pub fn groups_of<K: Ord, V>(list: &[(K, V)]) -> GroupRefs<'_, K, V>
     GroupRefs { rest: list }
 }
 
-/// The full outer join of two slices whose keys are ordered and may repeat, as an iterator that takes no memory: each key of either
-/// slice once, in order, with the part of the left slice that has it as left place and that of the right slice as right place. The
-/// caller must prove that the keys are ordered, which [`is_ordered`](crate::is_ordered) tests.
+/// Returns an iterator over the full outer join of two slices whose keys are ordered and may repeat: each key of either
+/// slice once, in order, with the part of the left slice that has it as left place and that of the right slice as right place. Takes
+/// no memory. The caller must prove that the keys are ordered, which [`is_ordered`](crate::is_ordered) tests.
 ///
 /// # Examples
 ///

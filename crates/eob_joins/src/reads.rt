@@ -10,7 +10,10 @@ use either_or_both::EitherOrBoth;
 use either_or_both::join::outer_join_lazily;
 use std::alloc::{AllocError, Allocator, Global};
 
-/// The inner join of two lists whose keys rise: each key that both lists have, in order, with both values.
+/// Returns the inner join of two lists: each key that both lists have, in order, with both values. Takes one comparison for each key of
+/// either list at most.
+///
+/// The caller must prove that the keys strictly increase; see [`is_rising`](either_or_both::join::is_rising).
 ///
 /// # Errors
 ///
@@ -43,6 +46,16 @@ pub fn inner_join<K: Ord + Drop, A: Drop, B: Drop>(
 /// # Errors
 ///
 /// `AllocError` where a request for memory was refused: then both lists are dropped.
+///
+/// # Examples
+///
+/// ```
+/// let left = vec![in alloc; (1, 'a'), (3, 'b')]?;
+/// let right = vec![in alloc; (2, 'x'), (3, 'y')]?;
+/// assert!(rt; is_rising(&left) && is_rising(&right));
+/// let rows = vec![in alloc; (3, ('b', 'y'))]?;
+/// assert_eq!(rt; inner_join_in(alloc, left, right)?, rows);
+/// ```
 pub fn inner_join_in<K: Ord + Drop, A: Drop, B: Drop, M: Allocator>(
     alloc: M,
     left: Vec<(K, A), M>,
@@ -57,8 +70,10 @@ pub fn inner_join_in<K: Ord + Drop, A: Drop, B: Drop, M: Allocator>(
     Ok(rows)
 }
 
-/// The left join of two lists whose keys rise: each key of the left list, in order, with its value and the right
-/// list's, if there is one.
+/// Returns the left join of two lists: each key of the left list, in order, with its value and the right list's, if there is one. Takes
+/// one comparison for each key of either list at most.
+///
+/// The caller must prove that the keys strictly increase; see [`is_rising`](either_or_both::join::is_rising).
 ///
 /// # Errors
 ///
@@ -91,6 +106,16 @@ pub fn left_join<K: Ord + Drop, A: Drop, B: Drop>(
 /// # Errors
 ///
 /// `AllocError` where a request for memory was refused: then both lists are dropped.
+///
+/// # Examples
+///
+/// ```
+/// let left = vec![in alloc; (1, 'a'), (3, 'b')]?;
+/// let right = vec![in alloc; (2, 'x'), (3, 'y')]?;
+/// assert!(rt; is_rising(&left) && is_rising(&right));
+/// let rows = vec![in alloc; (1, ('a', None)), (3, ('b', Some('y')))]?;
+/// assert_eq!(rt; left_join_in(alloc, left, right)?, rows);
+/// ```
 pub fn left_join_in<K: Ord + Drop, A: Drop, B: Drop, M: Allocator>(
     alloc: M,
     left: Vec<(K, A), M>,
@@ -105,8 +130,10 @@ pub fn left_join_in<K: Ord + Drop, A: Drop, B: Drop, M: Allocator>(
     Ok(rows)
 }
 
-/// The right join of two lists whose keys rise: each key of the right list, in order, with the left list's value,
-/// if there is one, and its own.
+/// Returns the right join of two lists: each key of the right list, in order, with the left list's value, if there is one, and its own.
+/// Takes one comparison for each key of either list at most.
+///
+/// The caller must prove that the keys strictly increase; see [`is_rising`](either_or_both::join::is_rising).
 ///
 /// # Errors
 ///
@@ -139,6 +166,16 @@ pub fn right_join<K: Ord + Drop, A: Drop, B: Drop>(
 /// # Errors
 ///
 /// `AllocError` where a request for memory was refused: then both lists are dropped.
+///
+/// # Examples
+///
+/// ```
+/// let left = vec![in alloc; (1, 'a'), (3, 'b')]?;
+/// let right = vec![in alloc; (2, 'x'), (3, 'y')]?;
+/// assert!(rt; is_rising(&left) && is_rising(&right));
+/// let rows = vec![in alloc; (2, (None, 'x')), (3, (Some('b'), 'y'))]?;
+/// assert_eq!(rt; right_join_in(alloc, left, right)?, rows);
+/// ```
 pub fn right_join_in<K: Ord + Drop, A: Drop, B: Drop, M: Allocator>(
     alloc: M,
     left: Vec<(K, A), M>,
@@ -153,8 +190,10 @@ pub fn right_join_in<K: Ord + Drop, A: Drop, B: Drop, M: Allocator>(
     Ok(rows)
 }
 
-/// The semi join of two lists whose keys rise: each key of the left list that the right list has too, in order, with
-/// its left value.
+/// Returns the semi join of two lists: each key of the left list that the right list has too, in order, with its left value. Takes one
+/// comparison for each key of either list at most.
+///
+/// The caller must prove that the keys strictly increase; see [`is_rising`](either_or_both::join::is_rising).
 ///
 /// # Errors
 ///
@@ -187,6 +226,16 @@ pub fn semi_join<K: Ord + Drop, A: Drop, B: Drop>(
 /// # Errors
 ///
 /// `AllocError` where a request for memory was refused: then both lists are dropped.
+///
+/// # Examples
+///
+/// ```
+/// let left = vec![in alloc; (1, 'a'), (3, 'b')]?;
+/// let right = vec![in alloc; (2, 'x'), (3, 'y')]?;
+/// assert!(rt; is_rising(&left) && is_rising(&right));
+/// let rows = vec![in alloc; (3, 'b')]?;
+/// assert_eq!(rt; semi_join_in(alloc, left, right)?, rows);
+/// ```
 pub fn semi_join_in<K: Ord + Drop, A: Drop, B: Drop, M: Allocator>(
     alloc: M,
     left: Vec<(K, A), M>,
@@ -201,8 +250,10 @@ pub fn semi_join_in<K: Ord + Drop, A: Drop, B: Drop, M: Allocator>(
     Ok(rows)
 }
 
-/// The anti join of two lists whose keys rise: each key of the left list that the right list lacks, in order, with
-/// its value.
+/// Returns the anti join of two lists: each key of the left list that the right list lacks, in order, with its value. Takes one
+/// comparison for each key of either list at most.
+///
+/// The caller must prove that the keys strictly increase; see [`is_rising`](either_or_both::join::is_rising).
 ///
 /// # Errors
 ///
@@ -235,6 +286,16 @@ pub fn anti_join<K: Ord + Drop, A: Drop, B: Drop>(
 /// # Errors
 ///
 /// `AllocError` where a request for memory was refused: then both lists are dropped.
+///
+/// # Examples
+///
+/// ```
+/// let left = vec![in alloc; (1, 'a'), (3, 'b')]?;
+/// let right = vec![in alloc; (2, 'x'), (3, 'y')]?;
+/// assert!(rt; is_rising(&left) && is_rising(&right));
+/// let rows = vec![in alloc; (1, 'a')]?;
+/// assert_eq!(rt; anti_join_in(alloc, left, right)?, rows);
+/// ```
 pub fn anti_join_in<K: Ord + Drop, A: Drop, B: Drop, M: Allocator>(
     alloc: M,
     left: Vec<(K, A), M>,

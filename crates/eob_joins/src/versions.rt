@@ -15,8 +15,10 @@ use std::alloc::{AllocError, Global};
 /// right.
 pub type Versions<V> = EitherOrBoth<V, EitherOrBoth<V, V>>;
 
-/// The join of three versions of a table, all of which rise: each key of any of them once, in order, with its values in the three.
-/// [`law_versions`] says the same by look-ups.
+/// Returns the join of three versions of a table: each key of any of them once, in order, with its values in the three.
+/// [`law_versions`] says the same by look-ups. Takes memory for the join of ours and theirs too.
+///
+/// The caller must prove that the keys strictly increase; see [`is_rising`](either_or_both::join::is_rising).
 ///
 /// # Errors
 ///
@@ -63,7 +65,7 @@ pub enum Verdict {
     Conflict,
 }
 
-/// What became of a row. A key that is absent in two versions counts as the same in both.
+/// Returns what became of a row. A key that is absent in two versions counts as the same in both.
 ///
 /// # Examples
 ///
@@ -132,8 +134,10 @@ pub enum Merged<K, V> {
     Conflicts(Vec<(K, Versions<V>)>),
 }
 
-/// Two versions of a table merged over their base, all of which rise. Where no row is in conflict, the merged table: whatever either
+/// Returns two versions of a table merged over their base. Where no row is in conflict, the merged table: whatever either
 /// side alone changed is in it as that side has it, and every other row is as it was. Else the rows in conflict, and no others.
+///
+/// The caller must prove that the keys strictly increase; see [`is_rising`](either_or_both::join::is_rising).
 ///
 /// # Errors
 ///
