@@ -12,8 +12,9 @@ use either_or_both::EitherOrBoth;
 use either_or_both::laws::{Driven, End, drive_chain, drive_swap};
 use std::alloc::{AllocError, Global};
 
-/// Calls the ends of the paired walk of two such values in turn: [`drive_swap`] with nothing to prove. The answers hold the items as
-/// the walk gives them, such as the references of slices; the contract reads those by what they point to.
+/// Calls the ends of `into_iter_swap` over a pair of such values in turn, as [`drive_swap`] does, with nothing for the caller to prove.
+/// The answers hold the items as the iterator returns them, such as the references of slices; the contract reads those by what they
+/// point to.
 ///
 /// # Errors
 ///
@@ -125,7 +126,7 @@ where
     drive_chain_listed(alloc, pair, ends)
 }
 
-// Takes a walk from its front and its back in turn until they meet.
+// Takes from the front and the back of an iterator in turn until they meet.
 fn take_in_turn<I: DoubleEndedIterator + ExactSizeIterator>(
     alloc: Global,
     mut walk: I,
@@ -149,8 +150,8 @@ where
     Ok((fronts, backs))
 }
 
-/// Takes the paired walk of two such values from its front and its back in turn until they meet: returns the items from the front,
-/// and those from the back in the order in which they came. Together they are the aligned list, cut in two: half of the items came
+/// Takes from the front and the back of `into_iter_swap` over a pair of such values in turn until they meet: returns the items from the
+/// front, and those from the back in the order in which they came. Together they are the aligned list, cut in two: half of the items came
 /// from each end, and where their number is odd one more from the front.
 ///
 /// # Examples

@@ -213,13 +213,13 @@ impl<S: OwnIter> OwnIter for ChainedIterEitherOrBoth<S> {
     ghost as_is = { S.as_is };
 }
 
-/// A walk that is taken from its end gives its list, last first.
+/// An iterator that is taken from its end gives its list, last first.
 pub fn law_rev<I: OwnIter>(_walk: &Rev<I>)
     ensures { EachRunFrom (rev_steps I.next_back_gives) _walk.now
         (λ p. p.whole ≡ true → p.items ≡ reverse (I.listed (rev_source _walk.now))) }
 {}
 
-/// A walk that is taken from its front gives its list.
+/// An iterator that is taken from its front gives its list.
 pub fn law_forward<I: OwnIter>(_walk: &I)
     ensures { EachRunFrom I.next_gives _walk.now
         (λ p. (p.whole ≡ true → p.items ≡ I.listed _walk.now)
