@@ -19,6 +19,17 @@ use std::alloc::{AllocError, Global};
 /// # Errors
 ///
 /// `AllocError` where a request for memory was refused: then the pair is dropped.
+///
+/// # Examples
+///
+/// ```
+/// let (numbers, letters) = ([1, 2, 3], ['a']);
+/// let pair = EitherOrBoth::Both(numbers.as_slice(), letters.as_slice());
+/// let driven = drive_swap_listed(alloc, pair, &[End::Back, End::Front])?;
+/// let answers = vec![in alloc; Some(EitherOrBoth::Left(&3)), Some(EitherOrBoth::Both(&1, &'a'))]?;
+/// assert_eq!(rt; driven.answers, answers);
+/// assert_eq!(rt; driven.rest, 1);
+/// ```
 pub fn drive_swap_listed<L, R>(
     alloc: Global,
     pair: EitherOrBoth<L, R>,
@@ -43,6 +54,10 @@ where
 
 /// [`drive_swap_listed`] of two values that are walked by value: the answers are the items themselves.
 ///
+/// # Errors
+///
+/// `AllocError` where a request for memory was refused: then the pair is dropped.
+///
 /// # Examples
 ///
 /// ```
@@ -52,10 +67,6 @@ where
 /// assert_eq!(rt; driven.answers, answers);
 /// assert_eq!(rt; driven.rest, 1);
 /// ```
-///
-/// # Errors
-///
-/// `AllocError` where a request for memory was refused: then the pair is dropped.
 pub fn drive_swap_owned<L, R>(
     alloc: Global,
     pair: EitherOrBoth<L, R>,
@@ -83,6 +94,15 @@ where
 /// # Errors
 ///
 /// `AllocError` where a request for memory was refused: then the pair is dropped.
+///
+/// # Examples
+///
+/// ```
+/// let (low, high) = ([1, 2], [3, 4]);
+/// let pair = EitherOrBoth::Both(low.as_slice(), high.as_slice());
+/// let answers = drive_chain_listed(alloc, pair, &[End::Back, End::Front])?;
+/// assert_eq!(rt; answers, vec![in alloc; Some(&4), Some(&1)]?);
+/// ```
 pub fn drive_chain_listed<T>(
     alloc: Global,
     pair: EitherOrBoth<T, T>,
@@ -100,6 +120,10 @@ where
 
 /// [`drive_chain_listed`] of two values that are walked by value: the answers are the items themselves.
 ///
+/// # Errors
+///
+/// `AllocError` where a request for memory was refused: then the pair is dropped.
+///
 /// # Examples
 ///
 /// ```
@@ -107,10 +131,6 @@ where
 /// let answers = drive_chain_owned(alloc, pair, &[End::Back, End::Front])?;
 /// assert_eq!(rt; answers, vec![in alloc; Some(4), Some(1)]?);
 /// ```
-///
-/// # Errors
-///
-/// `AllocError` where a request for memory was refused: then the pair is dropped.
 pub fn drive_chain_owned<T>(
     alloc: Global,
     pair: EitherOrBoth<T, T>,
@@ -154,6 +174,10 @@ where
 /// front, and those from the back in the order in which they came. Together they are the aligned list, cut in two: half of the items came
 /// from each end, and where their number is odd one more from the front.
 ///
+/// # Errors
+///
+/// `AllocError` where a request for memory was refused: then the pair is dropped.
+///
 /// # Examples
 ///
 /// ```
@@ -162,10 +186,6 @@ where
 /// assert_eq!(rt; fronts, vec![in alloc; EitherOrBoth::Both(1, 'a'), EitherOrBoth::Left(2)]?);
 /// assert_eq!(rt; backs, vec![in alloc; EitherOrBoth::Left(3)]?);
 /// ```
-///
-/// # Errors
-///
-/// `AllocError` where a request for memory was refused: then the pair is dropped.
 pub fn take_swap_in_turn<L, R>(
     alloc: Global,
     pair: EitherOrBoth<L, R>,

@@ -106,11 +106,23 @@ where
 ///
 /// The caller must prove that the sides have such lists. `drive_swap_owned` and `drive_swap_listed` of the crate `eob_known_lists`
 /// are this function with nothing to prove, over vectors, arrays, slices, queues, ranges, options and the iterators of this library: call
-/// those, as the example at `drive_swap_owned` does.
+/// those, as the example does.
 ///
 /// # Errors
 ///
 /// `AllocError` where a request for memory was refused: then the pair is dropped.
+///
+/// # Examples
+///
+/// Over arrays, with nothing to prove:
+///
+/// ```
+/// let pair = EitherOrBoth::Both([1, 2, 3], ['a']);
+/// let driven = drive_swap_owned(alloc, pair, &[End::Front, End::Back])?;
+/// let answers = vec![in alloc; Some(EitherOrBoth::Both(1, 'a')), Some(EitherOrBoth::Left(3))]?;
+/// assert_eq!(rt; driven.answers, answers);
+/// assert_eq!(rt; driven.rest, 1);
+/// ```
 pub fn drive_swap<L, R>(
     alloc: Global,
     pair: EitherOrBoth<L, R>,
@@ -146,6 +158,15 @@ where
 /// # Errors
 ///
 /// `AllocError` where a request for memory was refused: then the pair is dropped.
+///
+/// # Examples
+///
+/// ```
+/// let pair = EitherOrBoth::Both([1, 2, 3], ['a']);
+/// let (answers, rest) = drive_swap_in(alloc, pair, &[End::Back])?;
+/// assert_eq!(rt; answers, vec![in alloc; Some(EitherOrBoth::Left(3))]?);
+/// assert_eq!(rt; rest, 2);
+/// ```
 pub fn drive_swap_in<L, R, A: Allocator>(
     alloc: A,
     pair: EitherOrBoth<L, R>,
@@ -178,11 +199,21 @@ where
 /// sides have lists still to come, the calls return what calls of the left list followed by the right one do.
 ///
 /// The caller must prove that the sides have such lists. `drive_chain_owned` and `drive_chain_listed` of the crate `eob_known_lists`
-/// are this function with nothing to prove: call those, as the example at `drive_chain_owned` does.
+/// are this function with nothing to prove: call those, as the example does.
 ///
 /// # Errors
 ///
 /// `AllocError` where a request for memory was refused: then the pair is dropped.
+///
+/// # Examples
+///
+/// Over arrays, with nothing to prove:
+///
+/// ```
+/// let pair = EitherOrBoth::Both([1, 2], [3, 4]);
+/// let answers = drive_chain_owned(alloc, pair, &[End::Front, End::Back])?;
+/// assert_eq!(rt; answers, vec![in alloc; Some(1), Some(4)]?);
+/// ```
 pub fn drive_chain<T>(
     alloc: Global,
     pair: EitherOrBoth<T, T>,
