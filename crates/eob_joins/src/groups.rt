@@ -5,7 +5,8 @@
 //! table.
 ghost use Rattle.std.specs.Prelude.{◌≡◌, ◌∷◌, IsTrue, IfOk, OnOk, ◌↔◌, map};
 ghost use Rattle.either_or_both.specs.Join.{Rising};
-ghost use Rattle.eob_joins.specs.Groups.{AreGroups, HasGroupsOf, IsGroupJoin, Ordered, OrderedLaw, run_rest, run_values, shown_group, shown_row};
+ghost use Rattle.eob_joins.specs.Groups.{AreGroups, HasGroupsOf, IsGroupJoin, Ordered, OrderedLaw, run_rest};
+ghost use Rattle.eob_joins.specs.Groups.{run_values, shown_group, shown_row};
 
 use either_or_both::EitherOrBoth;
 use either_or_both::join::outer_join_in;

@@ -68,7 +68,8 @@ pub fn groups_of<K: Ord, V>(list: &[(K, V)]) -> GroupRefs<'_, K, V>
     requires { Ordered K.cmp list.now }
     ensures rest { parts_left K.cmp result ≡ parts_of K.cmp list.now }
     ensures parts { AreParts K.cmp list.now (parts_of K.cmp list.now) }
-    ensures runs { EachRunFrom (YieldsFirstBy deref_pair (parts_left K.cmp)) result (λ p. ShowsParts K.cmp list.now p) }
+    ensures runs { EachRunFrom (YieldsFirstBy deref_pair (parts_left K.cmp)) result
+        (λ p. ShowsParts K.cmp list.now p) }
 {
     GroupRefs { rest: list }
 }
@@ -98,7 +99,8 @@ pub fn group_join_slices<'a, K: Ord, A, B>(
     ensures left { AreParts K.cmp left.now (parts_of K.cmp left.now) }
     ensures right { AreParts K.cmp right.now (parts_of K.cmp right.now) }
     ensures can { join_can (λ _. ⊤) (λ _. ⊤) result }
-    ensures finite { IsFinite (join_remaining (item_count (parts_left K.cmp)) (item_count (parts_left K.cmp)) result) }
+    ensures finite { IsFinite
+        (join_remaining (item_count (parts_left K.cmp)) (item_count (parts_left K.cmp)) result) }
     ensures runs { EachRunFrom
         (join_steps (λ j k. K.cmp j.now k.now)
         (YieldsFirstBy deref_pair (parts_left K.cmp)) (YieldsFirstBy deref_pair (parts_left K.cmp)))

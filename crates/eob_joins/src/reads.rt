@@ -2,7 +2,8 @@
 //! outer join, and says by look-ups what it returns.
 ghost use Rattle.std.specs.Prelude.{◌≡◌, IfOk, option_map};
 ghost use Rattle.either_or_both.specs.Join.{Rising};
-ghost use Rattle.eob_joins.specs.Tables.{IsAntiJoin, IsInnerJoin, IsKeptOfJoin, IsLeftJoin, IsRightJoin, IsSemiJoin};
+ghost use Rattle.eob_joins.specs.Tables.{IsAntiJoin, IsInnerJoin, IsKeptOfJoin, IsLeftJoin, IsRightJoin};
+ghost use Rattle.eob_joins.specs.Tables.{IsSemiJoin};
 ghost use Rattle.eob_joins.specs.Tables.{both_places, lone_left, paired_left, paired_right, shared_left};
 
 use crate::pushed::push_all;

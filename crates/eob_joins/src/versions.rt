@@ -4,7 +4,8 @@ ghost use Rattle.std.specs.Prelude.{◌≡◌, IfOk, option_map};
 ghost use Rattle.either_or_both.specs.Join.{Rising};
 ghost use Rattle.std.specs.List.{list_any};
 ghost use Rattle.eob_joins.specs.Tables.{kept};
-ghost use Rattle.eob_joins.specs.Versions.{IsMerge, IsMergeByKey, IsVersionJoin, MergeLaw, MergedPlaceLaw, VersionsLaw};
+ghost use Rattle.eob_joins.specs.Versions.{IsMerge, IsMergeByKey, IsVersionJoin, MergeLaw, MergedPlaceLaw};
+ghost use Rattle.eob_joins.specs.Versions.{VersionsLaw};
 ghost use Rattle.eob_joins.specs.Versions.{clash, clashes, merged, row_verdict, verdict};
 
 use either_or_both::EitherOrBoth;

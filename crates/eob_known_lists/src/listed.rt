@@ -13,7 +13,9 @@ ghost use Rattle.eob_both.specs.Places.{map_places};
 ghost use Rattle.eob_both.specs.Values.{values_left};
 ghost use Rattle.eob_both.proofs.StdEnds.{once_to_come, range_rest, range_to_come, ref_to, vec_to_come};
 ghost use Rattle.eob_known_lists.specs.Arrays.{array_to_come};
-ghost use Rattle.eob_known_lists.specs.Listed.{chain_comes, deque_to_come_by_ref, listed_at, place_as_is, ReadsPlaces, rev_comes, rev_counts, same_ref, slice_to_come_by_ref, uncounted, walk_comes, walk_lists};
+ghost use Rattle.eob_known_lists.specs.Listed.{chain_comes, deque_to_come_by_ref, listed_at, place_as_is};
+ghost use Rattle.eob_known_lists.specs.Listed.{ReadsPlaces, rev_comes, rev_counts, same_ref};
+ghost use Rattle.eob_known_lists.specs.Listed.{slice_to_come_by_ref, uncounted, walk_comes, walk_lists};
 ghost use Rattle.either_or_both.proofs.ShownLemmas.{shown_to_come};
 
 use either_or_both::iter::{ChainedIterEitherOrBoth, IntoIterEitherOrBoth, SwapIterEitherOrBoth};

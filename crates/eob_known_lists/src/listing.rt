@@ -9,7 +9,10 @@ ghost use Rattle.eob_both.specs.Places.{map_places};
 ghost use Rattle.eob_both.specs.Values.{values_of};
 ghost use Rattle.eob_both.proofs.StdEnds.{ref_to};
 ghost use Rattle.eob_known_lists.specs.Arrays.{array_comes};
-ghost use Rattle.eob_known_lists.specs.Listed.{at_same, chain_comes, deque_comes, listed_at, once_comes, place_as_is, range_comes, rev_comes, rev_counts, same_ref, slice_comes, uncounted_walk, values_come, vec_comes, walk_comes, walk_lists};
+ghost use Rattle.eob_known_lists.specs.Listed.{at_same, chain_comes, deque_comes, listed_at, once_comes};
+ghost use Rattle.eob_known_lists.specs.Listed.{place_as_is, range_comes, rev_comes, rev_counts, same_ref};
+ghost use Rattle.eob_known_lists.specs.Listed.{slice_comes, uncounted_walk, values_come, vec_comes};
+ghost use Rattle.eob_known_lists.specs.Listed.{walk_comes, walk_lists};
 
 use crate::listed::{CountedIter, ListedIter, OwnIter};
 use either_or_both::EitherOrBoth;

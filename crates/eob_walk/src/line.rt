@@ -88,7 +88,8 @@ fn skip_spaces(bytes: &[u8]) -> &[u8]
 // The name that the bytes begin with, one or more bytes of `a` to `z` and `0` to `9`, and the bytes after it, or None.
 #[inline(always)]
 fn split_name(bytes: &[u8]) -> Option<(&[u8], &[u8])>
-    ensures name { MatchOption result (NoNameAhead bytes.now) (λ parts. IsName parts.0.now × NoNameAhead parts.1.now) }
+    ensures name { MatchOption result (NoNameAhead bytes.now)
+        (λ parts. IsName parts.0.now × NoNameAhead parts.1.now) }
     ensures parts { IfSome result (λ parts. bytes.now ≡ parts.0.now ++ parts.1.now) }
     ensures rest { IfSome result (λ parts. length parts.1.now < length bytes.now) }
 {

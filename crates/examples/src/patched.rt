@@ -17,7 +17,8 @@ pub fn caught_up<K: Ord + Drop, V: Eq + Drop>(
     requires copy { Rising K.cmp copy.items }
     requires old { Rising K.cmp old.items }
     requires new { Rising K.cmp new.items }
-    ensures { IfOk result (λ rows. (changes : _) × IsKeptOfJoin K.cmp (changed V.eq) old.items new.items changes
+    ensures { IfOk result (λ rows. (changes : _)
+        × IsKeptOfJoin K.cmp (changed V.eq) old.items new.items changes
         × IsKeptOfJoin K.cmp applied copy.items changes rows.items) }
 {
     let changes = diff(alloc, old, new)?;

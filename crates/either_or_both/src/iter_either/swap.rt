@@ -1,6 +1,7 @@
 //! The iterator over the items of the held side, each in the held variant.
 ghost use Rattle.std.specs.Prelude.{◌≡◌};
-ghost use Rattle.either_or_both.specs.EitherSwap.{swap_side, held_swap_can, held_swap_remaining, held_swap_steps};
+ghost use Rattle.either_or_both.specs.EitherSwap.{swap_side, held_swap_can, held_swap_remaining};
+ghost use Rattle.either_or_both.specs.EitherSwap.{held_swap_steps};
 
 use crate::Either;
 use crate::Either::{Left, Right};

@@ -2,7 +2,8 @@
 //! iterators that borrow hold it over references, and a default one of these holds none.
 ghost use Rattle.std.specs.Prelude.{◌≡◌, IfSome, [], ◌∷◌, length, ⊤};
 ghost use Rattle.std.specs.List.{All, AllZip};
-ghost use Rattle.std.specs.Iterator.{item_count, UpTo, YieldsFirst, YieldsLast, YieldsFirstRef, YieldsLastRef, YieldsFirstMut, YieldsLastMut};
+ghost use Rattle.std.specs.Iterator.{item_count, UpTo, YieldsFirst, YieldsLast, YieldsFirstRef};
+ghost use Rattle.std.specs.Iterator.{YieldsLastRef, YieldsFirstMut, YieldsLastMut};
 ghost use Rattle.std.specs.Iterator.SizeHint.{IsWithinCount};
 ghost use Rattle.either_or_both.specs.Either.{held};
 ghost use Rattle.either_or_both.specs.EitherValues.{value_left, ref_left, mut_left};

@@ -2,8 +2,10 @@
 ghost use Rattle.std.specs.Prelude.{◌≡◌, map};
 ghost use Rattle.std.specs.Option.{option_or};
 ghost use Rattle.either_or_both.specs.Join.{IsJoin, value_under};
-ghost use Rattle.either_or_both.specs.JoinLaws.{IsCallRun, JoinBothLaw, JoinCountsLaw, JoinFlipLaw, JoinLengthLaw, JoinPlacesLaw};
-ghost use Rattle.either_or_both.specs.JoinLaws.{JoinSidesLaw, OneJoinLaw, RisingEqMapLaw, RisingKeysLaw, RisingLaw, RisingMapLaw, ShownJoinLaw};
+ghost use Rattle.either_or_both.specs.JoinLaws.{IsCallRun, JoinBothLaw, JoinCountsLaw, JoinFlipLaw};
+ghost use Rattle.either_or_both.specs.JoinLaws.{JoinLengthLaw, JoinPlacesLaw};
+ghost use Rattle.either_or_both.specs.JoinLaws.{JoinSidesLaw, OneJoinLaw, RisingEqMapLaw, RisingKeysLaw};
+ghost use Rattle.either_or_both.specs.JoinLaws.{RisingLaw, RisingMapLaw, ShownJoinLaw};
 ghost use Rattle.either_or_both.specs.JoinLaws.{ShownRisesLaw, SortedRisesLaw, overlaid};
 
 use crate::EitherOrBoth;

@@ -5,7 +5,8 @@ ghost use Rattle.std.specs.Iterator.Runs.{EachRunFrom};
 ghost use Rattle.std.specs.Iterator.SizeHint.{IsWithinCount};
 ghost use Rattle.std.specs.Map.Iter.{TakesFirst, deref_pair};
 ghost use Rattle.either_or_both.specs.Join.{Rising};
-ghost use Rattle.either_or_both.specs.OuterJoin.{JoinsShownRuns, ShowsJoin, join_can, join_remaining, join_steps, pairs_left};
+ghost use Rattle.either_or_both.specs.OuterJoin.{JoinsShownRuns, ShowsJoin, join_can, join_remaining};
+ghost use Rattle.either_or_both.specs.OuterJoin.{join_steps, pairs_left};
 
 use super::{OuterJoin, law_sorted_rises, outer_join_lazily};
 use std::collections::{BTreeMap, btree_map};

@@ -2,7 +2,8 @@
 ghost use Rattle.std.specs.Prelude.{◌≡◌, ◌+◌, ◌-◌, ◌^◌, min, max, IfSome, Some};
 ghost use Rattle.std.specs.Iterator.{UpTo};
 ghost use Rattle.std.specs.Iterator.SizeHint.{IsWithinCount};
-ghost use Rattle.either_or_both.specs.OuterJoin.{IsBoundSum, JoinsRuns, held_remaining, join_can, join_remaining, join_steps};
+ghost use Rattle.either_or_both.specs.OuterJoin.{IsBoundSum, JoinsRuns, held_remaining, join_can};
+ghost use Rattle.either_or_both.specs.OuterJoin.{join_remaining, join_steps};
 
 use crate::EitherOrBoth;
 use std::cmp::Ordering;

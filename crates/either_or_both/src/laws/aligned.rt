@@ -1,5 +1,6 @@
 //! Further laws of the aligned list, whose other laws stand in `normal` and in `eob_both`.
-ghost use Rattle.either_or_both.specs.AlignedLaws.{AlignedFlipLaw, AlignedSelfLaw, AlignedThreeLaw, LeftsAloneLaw, RightsAloneLaw};
+ghost use Rattle.either_or_both.specs.AlignedLaws.{AlignedFlipLaw, AlignedSelfLaw, AlignedThreeLaw};
+ghost use Rattle.either_or_both.specs.AlignedLaws.{LeftsAloneLaw, RightsAloneLaw};
 
 /// Two lists side by side, with the sides exchanged, have each item flipped.
 pub fn law_aligned_flip<L, R>()

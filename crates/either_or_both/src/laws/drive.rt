@@ -7,7 +7,8 @@ ghost use Rattle.eob_both.specs.Aligned.{aligned};
 ghost use Rattle.eob_both.specs.Ends.{HasBound, CountedToCome, PlaceToCome, StillToCome};
 ghost use Rattle.eob_both.specs.Places.{left_place, right_place, map_places};
 ghost use Rattle.eob_both.specs.Values.{values_of};
-ghost use Rattle.either_or_both.specs.Answers.{answers, left_over, Listed, MatchEnd, PlaceCounts, WholeWalkLaw};
+ghost use Rattle.either_or_both.specs.Answers.{answers, left_over, Listed, MatchEnd, PlaceCounts};
+ghost use Rattle.either_or_both.specs.Answers.{WholeWalkLaw};
 
 use crate::EitherOrBoth;
 use std::alloc::{AllocError, Allocator, Global};

@@ -4,8 +4,10 @@
 //!
 //! `next_gives` and `next_back_gives` of the iterators say how a call polls the held side. What this means for the list that it has
 //! left stands here, since a further clause on `next` would be read by every loop over such an iterator.
-ghost use Rattle.either_or_both.specs.EitherInner.{InnerNextTakesFirst, InnerBackTakesLast, InnerHasHeld, InnerCountsHeld};
-ghost use Rattle.either_or_both.specs.EitherSwap.{HeldSwapNextTakesFirst, HeldSwapBackTakesLast, SwapHasHeld, SwapCountsHeld};
+ghost use Rattle.either_or_both.specs.EitherInner.{InnerNextTakesFirst, InnerBackTakesLast, InnerHasHeld};
+ghost use Rattle.either_or_both.specs.EitherInner.{InnerCountsHeld};
+ghost use Rattle.either_or_both.specs.EitherSwap.{HeldSwapNextTakesFirst, HeldSwapBackTakesLast, SwapHasHeld};
+ghost use Rattle.either_or_both.specs.EitherSwap.{SwapCountsHeld};
 
 /// `next` of [`InnerIterEither`](crate::iter_either::InnerIterEither) returns the first item of the list that the held side gives,
 /// or `None` where that is empty, and leaves the rest of it.

@@ -4,7 +4,8 @@
 ghost use Rattle.std.specs.Prelude.{◌≡◌, None, IfSome, IsSomeAnd};
 ghost use Rattle.std.specs.Iterator.{UpTo};
 ghost use Rattle.std.specs.Iterator.SizeHint.{IsWithinCount};
-ghost use Rattle.eob_both.specs.Chain.{chain_left, chain_right, chain_can, chain_remaining, chain_steps, chain_steps_back};
+ghost use Rattle.eob_both.specs.Chain.{chain_left, chain_right, chain_can, chain_remaining, chain_steps};
+ghost use Rattle.eob_both.specs.Chain.{chain_steps_back};
 
 use super::side::{hint_of, next_back_of, next_of, sum_hint};
 use std::iter::FusedIterator;

@@ -1,6 +1,7 @@
 //! The iterators over references to the one or two values of a value whose sides have one type: the one by value, over references.
 ghost use Rattle.std.specs.Prelude.{◌≡◌, IfSome, [], length, ⊤};
-ghost use Rattle.std.specs.Iterator.{item_count, UpTo, YieldsFirstRef, YieldsLastRef, YieldsFirstMut, YieldsLastMut};
+ghost use Rattle.std.specs.Iterator.{item_count, UpTo, YieldsFirstRef, YieldsLastRef, YieldsFirstMut};
+ghost use Rattle.std.specs.Iterator.{YieldsLastMut};
 ghost use Rattle.std.specs.Iterator.SizeHint.{IsWithinCount};
 ghost use Rattle.eob_both.specs.LentValues.{refs_left, muts_left};
 ghost use Rattle.eob_both.specs.Values.{values_of};

@@ -6,7 +6,8 @@ ghost use Rattle.std.specs.Prelude.{◌≡◌, IfSome};
 ghost use Rattle.std.specs.Iterator.{UpTo};
 ghost use Rattle.std.specs.Iterator.SizeHint.{IsWithinCount};
 ghost use Rattle.eob_both.specs.Places.{from_places};
-ghost use Rattle.eob_both.specs.Swap.{swap_left, swap_right, swap_can, swap_remaining, swap_steps, swap_steps_back};
+ghost use Rattle.eob_both.specs.Swap.{swap_left, swap_right, swap_can, swap_remaining, swap_steps};
+ghost use Rattle.eob_both.specs.Swap.{swap_steps_back};
 
 use super::side::{hint_of, len_of, max_hint, next_back_of, next_of};
 use crate::EitherOrBoth;

@@ -3,7 +3,8 @@ ghost use Rattle.std.specs.Prelude.{◌≡◌, ◌↔◌, List, Some, None, fals
 ghost use Rattle.std.specs.Map.{keys_of, lookup};
 ghost use Rattle.std.specs.Ordering.{eq_by_cmp};
 ghost use Rattle.std.specs.Set.{is_member};
-ghost use Rattle.eob_both.specs.Contents.{first_items, first_list, last_value, IsLastValue, StandByFirstPlaces};
+ghost use Rattle.eob_both.specs.Contents.{first_items, first_list, last_value, IsLastValue};
+ghost use Rattle.eob_both.specs.Contents.{StandByFirstPlaces};
 
 /// The value that collecting gives a key: it is v exactly where some place holds the key with v and no later place holds the key, and
 /// there is none exactly where no place holds the key.
