@@ -69,12 +69,21 @@ module _ {K : Type 0} (cmp : K → K → Ordering) where
   VersionsLaw V = (b p q : List (K × V)) (rs : List (K × EitherOrBoth V (EitherOrBoth V V))) → IsVersionJoin b p q rs
       → Tabulates cmp rs (λ k. from_places (value_under cmp b k) (from_places (value_under cmp p k) (value_under cmp q k)))
 
-  -- no row of the join of the three is in conflict, and each has its merged value; or some are, and these are they
+  -- no row of the join of the three is in conflict, and rs has each with its merged value
+  abbrev pub IsMergedTable : {V : Type 0} → (V → V → Bool) → List (K × V) → List (K × V) → List (K × V) → List (K × V) → Type 0
+  IsMergedTable {V} eq b p q rs = (zs : List (K × EitherOrBoth V (EitherOrBoth V V))) × IsVersionJoin b p q zs
+      × (list_any (λ z. clashes eq z.1) zs ≡ false) × (rs ≡ kept (merged eq) zs)
+
+  -- some rows of the join of the three are in conflict, and cs are these
+  abbrev pub AreConflicts : {V : Type 0} → (V → V → Bool) → List (K × V) → List (K × V) → List (K × V)
+      → List (K × EitherOrBoth V (EitherOrBoth V V)) → Type 0
+  AreConflicts {V} eq b p q cs = (zs : List (K × EitherOrBoth V (EitherOrBoth V V))) × IsVersionJoin b p q zs
+      × (list_any (λ z. clashes eq z.1) zs ≡ true) × (cs ≡ kept (clash eq) zs)
+
+  -- the merged table, or the rows in conflict
   abbrev pub IsMerge : {V : Type 0} → (V → V → Bool) → List (K × V) → List (K × V) → List (K × V) → Merged K V → Type 0
-  IsMerge {V} eq b p q (Whole rs) = (zs : List (K × EitherOrBoth V (EitherOrBoth V V))) × IsVersionJoin b p q zs
-      × (list_any (λ z. clashes eq z.1) zs ≡ false) × (rs.items ≡ kept (merged eq) zs)
-  IsMerge {V} eq b p q (Conflicts cs) = (zs : List (K × EitherOrBoth V (EitherOrBoth V V))) × IsVersionJoin b p q zs
-      × (list_any (λ z. clashes eq z.1) zs ≡ true) × (cs.items ≡ kept (clash eq) zs)
+  IsMerge eq b p q (Whole rs) = IsMergedTable eq b p q rs.items
+  IsMerge eq b p q (Conflicts cs) = AreConflicts eq b p q cs.items
 
   -- the same by look-ups
   abbrev pub IsMergeByKey : {V : Type 0} → (V → V → Bool) → List (K × V) → List (K × V) → List (K × V) → Merged K V → Type 0

@@ -1,16 +1,16 @@
 //! Three versions of a table, as a merge of two lines of work needs them: the base, ours and theirs, joined by key, what became of each
 //! row, and the merged table or the rows in conflict.
-ghost use Rattle.std.specs.Prelude.{◌≡◌, IfOk, option_map};
+ghost use Rattle.std.specs.Prelude.{◌≡◌, IfErr, IfOk, option_map};
 ghost use Rattle.either_or_both.specs.Join.{Rising};
 ghost use Rattle.std.specs.List.{list_any};
 ghost use Rattle.eob_joins.specs.Tables.{kept};
-ghost use Rattle.eob_joins.specs.Versions.{IsMerge, IsMergeByKey, IsVersionJoin, MergeLaw, MergedPlaceLaw};
-ghost use Rattle.eob_joins.specs.Versions.{VersionsLaw};
+ghost use Rattle.eob_joins.specs.Versions.{AreConflicts, IsMerge, IsMergeByKey, IsMergedTable, IsVersionJoin};
+ghost use Rattle.eob_joins.specs.Versions.{MergeLaw, MergedPlaceLaw, VersionsLaw};
 ghost use Rattle.eob_joins.specs.Versions.{clash, clashes, merged, row_verdict, verdict};
 
 use either_or_both::EitherOrBoth;
-use either_or_both::join::outer_join;
-use std::alloc::{AllocError, Global};
+use either_or_both::join::outer_join_in;
+use std::alloc::{AllocError, Allocator, Global};
 
 /// The values of the three versions under a key, of which at least one is there: the base as left place, and ours and theirs on the
 /// right.
@@ -46,8 +46,38 @@ pub fn join_versions<K: Ord + Drop, V: Drop>(
     requires theirs { Rising K.cmp theirs.items }
     ensures { IfOk result (λ rows. IsVersionJoin K.cmp base.items ours.items theirs.items rows.items) }
 {
-    let sides = outer_join(alloc, ours, theirs)?;
-    let rows = outer_join(alloc, base, sides)?;
+    join_versions_in(alloc, base, ours, theirs)
+}
+
+/// Returns what [`join_versions`] does, with memory of any allocator.
+///
+/// # Errors
+///
+/// `AllocError` where a request for memory was refused: then the three versions are dropped.
+///
+/// # Examples
+///
+/// ```
+/// let base = vec![in alloc; (1, 'a')]?;
+/// let ours = vec![in alloc; (1, 'b')]?;
+/// let theirs = vec![in alloc; (2, 'c')]?;
+/// assert!(rt; is_rising(&base) && is_rising(&ours) && is_rising(&theirs));
+/// let rows = vec![in alloc; (1, Both('a', Left('b'))), (2, Right(Right('c')))]?;
+/// assert_eq!(rt; join_versions_in(alloc, base, ours, theirs)?, rows);
+/// ```
+pub fn join_versions_in<K: Ord + Drop, V: Drop, M: Allocator + Copy>(
+    alloc: M,
+    base: Vec<(K, V), M>,
+    ours: Vec<(K, V), M>,
+    theirs: Vec<(K, V), M>,
+) -> Result<Vec<(K, Versions<V>), M>, AllocError>
+    requires base { Rising K.cmp base.items }
+    requires ours { Rising K.cmp ours.items }
+    requires theirs { Rising K.cmp theirs.items }
+    ensures { IfOk result (λ rows. IsVersionJoin K.cmp base.items ours.items theirs.items rows.items) }
+{
+    let sides = outer_join_in(alloc, ours, theirs)?;
+    let rows = outer_join_in(alloc, base, sides)?;
     Ok(rows)
 }
 
@@ -170,7 +200,47 @@ pub fn merge_versions<K: Ord + Drop, V: Eq + Drop>(
     Ok(merge)
 }
 
-// The merged table of three versions, or the rows in conflict, off their join.
+/// Returns what [`merge_versions`] does, with memory of any allocator: the merged table, or the rows in conflict as the error.
+///
+/// # Errors
+///
+/// `AllocError` where a request for memory was refused: then the three versions are dropped.
+///
+/// # Examples
+///
+/// ```
+/// let base = vec![in alloc; (1, 'a'), (2, 'b')]?;
+/// let ours = vec![in alloc; (1, 'a'), (2, 'c')]?;
+/// let theirs = vec![in alloc; (1, 'd'), (2, 'e')]?;
+/// assert!(rt; is_rising(&base) && is_rising(&ours) && is_rising(&theirs));
+/// let found = vec![in alloc; (2, Both('b', Both('c', 'e')))]?;
+/// assert_eq!(rt; merge_versions_in(alloc, base, ours, theirs)?, Err(found));
+/// ```
+pub fn merge_versions_in<K: Ord + Drop, V: Eq + Drop, M: Allocator + Copy>(
+    alloc: M,
+    base: Vec<(K, V), M>,
+    ours: Vec<(K, V), M>,
+    theirs: Vec<(K, V), M>,
+) -> Result<Result<Vec<(K, V), M>, Vec<(K, Versions<V>), M>>, AllocError>
+    requires base { Rising K.cmp base.items }
+    requires ours { Rising K.cmp ours.items }
+    requires theirs { Rising K.cmp theirs.items }
+    ensures table { IfOk result (λ m. IfOk m
+        (λ whole. IsMergedTable K.cmp V.eq base.items ours.items theirs.items whole.items)) }
+    ensures conflicts { IfOk result (λ m. IfErr m
+        (λ found. AreConflicts K.cmp V.eq base.items ours.items theirs.items found.items)) }
+{
+    let rows = join_versions_in(alloc, base, ours, theirs)?;
+    if has_conflict(&rows) {
+        let found = conflicts(alloc, rows)?;
+        Ok(Err(found))
+    } else {
+        let whole = merged_rows(alloc, rows)?;
+        Ok(Ok(whole))
+    }
+}
+
+// The merged table of three versions, or the rows in conflict.
 fn whole_or_conflicts<K: Ord + Drop, V: Eq + Drop>(
     alloc: Global,
     base: Vec<(K, V)>,
@@ -182,13 +252,10 @@ fn whole_or_conflicts<K: Ord + Drop, V: Eq + Drop>(
     requires theirs { Rising K.cmp theirs.items }
     ensures { IfOk result (λ m. IsMerge K.cmp V.eq base.items ours.items theirs.items m) }
 {
-    let rows = join_versions(alloc, base, ours, theirs)?;
-    if has_conflict(&rows) {
-        let found = conflicts(alloc, rows)?;
-        Ok(Merged::Conflicts(found))
-    } else {
-        let whole = merged_rows(alloc, rows)?;
-        Ok(Merged::Whole(whole))
+    let merge = merge_versions_in(alloc, base, ours, theirs)?;
+    match merge {
+        Ok(whole) => Ok(Merged::Whole(whole)),
+        Err(found) => Ok(Merged::Conflicts(found)),
     }
 }
 
@@ -210,10 +277,10 @@ fn has_conflict<K, V: Eq>(rows: &[(K, Versions<V>)]) -> bool
 }
 
 // The rows that are in conflict.
-fn conflicts<K: Drop, V: Eq + Drop>(
-    alloc: Global,
-    rows: Vec<(K, Versions<V>)>,
-) -> Result<Vec<(K, Versions<V>)>, AllocError>
+fn conflicts<K: Drop, V: Eq + Drop, M: Allocator + Copy>(
+    alloc: M,
+    rows: Vec<(K, Versions<V>), M>,
+) -> Result<Vec<(K, Versions<V>), M>, AllocError>
     ensures { IfOk result (λ found. found.items ≡ kept (clash V.eq) rows.items) }
 {
     let mut found = Vec::new(alloc);
@@ -238,10 +305,10 @@ fn conflict_row<K: Drop, V: Eq + Drop>(row: (K, Versions<V>)) -> Option<(K, Vers
 }
 
 // The merged rows.
-fn merged_rows<K: Drop, V: Eq + Drop>(
-    alloc: Global,
-    rows: Vec<(K, Versions<V>)>,
-) -> Result<Vec<(K, V)>, AllocError>
+fn merged_rows<K: Drop, V: Eq + Drop, M: Allocator + Copy>(
+    alloc: M,
+    rows: Vec<(K, Versions<V>), M>,
+) -> Result<Vec<(K, V), M>, AllocError>
     ensures { IfOk result (λ whole. whole.items ≡ kept (merged V.eq) rows.items) }
 {
     let mut whole = Vec::new(alloc);

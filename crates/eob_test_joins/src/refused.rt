@@ -1,11 +1,11 @@
-//! Tests: the joins of lists, and what changed in a table, with each request for memory refused in turn. What is tested is their forms
-//! with any allocator, with memory of the tests' own.
+//! Tests: the joins of lists, what changed in a table, and merges, with each request for memory refused in turn. What is tested is
+//! their forms with any allocator, with memory of the tests' own.
 
 use either_or_both::EitherOrBoth;
 use either_or_both::join::is_rising;
 use eob_joins::{
-    Change, anti_join_in, apply_in, diff_in, inner_join_in, left_join_in, right_join_in,
-    semi_join_in,
+    Change, anti_join_in, apply_in, diff_in, inner_join_in, join_versions_in, left_join_in,
+    merge_versions_in, right_join_in, semi_join_in,
 };
 use eob_testkit::memory::{RUNS, Refusing, Runs, Tokens};
 use std::alloc::{AllocError, Global};
@@ -37,6 +37,17 @@ fn threes<'a>(memory: &'a Memory, tokens: &Tokens) -> Result<Table<'a, Rc<u8>>, 
         if key % 12 == 0 {
             table.push((key, tokens.one()?))?;
         } else if key % 3 == 0 {
+            table.push((key, tokens.two()?))?;
+        }
+    }
+    Ok(table)
+}
+
+// The multiples of four, with another value than the even keys have.
+fn fours<'a>(memory: &'a Memory, tokens: &Tokens) -> Result<Table<'a, Rc<u8>>, AllocError> {
+    let mut table = Vec::new(memory);
+    for key in 0..KEYS {
+        if key % 4 == 0 {
             table.push((key, tokens.two()?))?;
         }
     }
@@ -264,6 +275,98 @@ fn refused_apply(rt: HostRuntime) -> Result<(), Fail> {
         assert!(rt; is_rising(&left) && is_rising(&right));
         memory.refuse(number);
         if runs.is_whole(apply_in(&memory, left, right), &want)? {
+            return Ok(());
+        }
+    }
+    Err("each run was refused")?;
+    Ok(())
+}
+
+/// Three versions joined.
+#[test]
+fn refused_join_of_versions(rt: HostRuntime) -> Result<(), Fail> {
+    let memory = Refusing::new(rt.alloc());
+    let tokens = Tokens::new(rt.alloc())?;
+    let runs = Runs::new(rt.alloc(), &memory, &tokens);
+    let mut rows = Vec::new(rt.alloc());
+    for key in 0..KEYS {
+        let (base, ours) = values(key);
+        let theirs = if key % 4 == 0 { Some(2) } else { None };
+        let sides = EitherOrBoth::try_from((ours, theirs)).ok();
+        match EitherOrBoth::try_from((base, sides)) {
+            Ok(row) => rows.push((key, row))?,
+            Err(_) => (),
+        }
+    }
+    let want = format!(in rt.alloc(); "{rows:?}")?;
+    for number in 1..RUNS {
+        memory.refuse(0);
+        let base = evens(&memory, &tokens)?;
+        let ours = threes(&memory, &tokens)?;
+        let theirs = fours(&memory, &tokens)?;
+        assert!(rt; is_rising(&base) && is_rising(&ours) && is_rising(&theirs));
+        memory.refuse(number);
+        if runs.is_whole(join_versions_in(&memory, base, ours, theirs), &want)? {
+            return Ok(());
+        }
+    }
+    Err("each run was refused")?;
+    Ok(())
+}
+
+/// A merge where their side changed nothing: our version.
+#[test]
+fn refused_merge(rt: HostRuntime) -> Result<(), Fail> {
+    let memory = Refusing::new(rt.alloc());
+    let tokens = Tokens::new(rt.alloc())?;
+    let runs = Runs::new(rt.alloc(), &memory, &tokens);
+    let mut rows = Vec::new(rt.alloc());
+    for key in 0..KEYS {
+        match values(key) {
+            (_, Some(ours)) => rows.push((key, ours))?,
+            (_, None) => (),
+        }
+    }
+    let want = format!(in rt.alloc(); "Ok({rows:?})")?;
+    for number in 1..RUNS {
+        memory.refuse(0);
+        let base = evens(&memory, &tokens)?;
+        let ours = threes(&memory, &tokens)?;
+        let theirs = evens(&memory, &tokens)?;
+        assert!(rt; is_rising(&base) && is_rising(&ours) && is_rising(&theirs));
+        memory.refuse(number);
+        if runs.is_whole(merge_versions_in(&memory, base, ours, theirs), &want)? {
+            return Ok(());
+        }
+    }
+    Err("each run was refused")?;
+    Ok(())
+}
+
+/// A merge where both sides changed some rows in two ways: these rows. Ours lacks a multiple of four that is none of three, and theirs
+/// lacks a multiple of six that is none of four.
+#[test]
+fn refused_conflicts(rt: HostRuntime) -> Result<(), Fail> {
+    let memory = Refusing::new(rt.alloc());
+    let tokens = Tokens::new(rt.alloc())?;
+    let runs = Runs::new(rt.alloc(), &memory, &tokens);
+    let mut rows = Vec::new(rt.alloc());
+    for key in 0..KEYS {
+        if key % 4 == 0 && key % 3 != 0 {
+            rows.push((key, EitherOrBoth::Both(1, EitherOrBoth::Right(2))))?;
+        } else if key % 12 == 6 {
+            rows.push((key, EitherOrBoth::Both(1, EitherOrBoth::Left(2))))?;
+        }
+    }
+    let want = format!(in rt.alloc(); "Err({rows:?})")?;
+    for number in 1..RUNS {
+        memory.refuse(0);
+        let base = evens(&memory, &tokens)?;
+        let ours = threes(&memory, &tokens)?;
+        let theirs = fours(&memory, &tokens)?;
+        assert!(rt; is_rising(&base) && is_rising(&ours) && is_rising(&theirs));
+        memory.refuse(number);
+        if runs.is_whole(merge_versions_in(&memory, base, ours, theirs), &want)? {
             return Ok(());
         }
     }
