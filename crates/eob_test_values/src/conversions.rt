@@ -2,9 +2,12 @@
 
 use either_or_both::EitherOrBoth::{Both, Left, Right};
 use either_or_both::{Either, EitherOrBoth, TryFromOptionsError};
+use eob_testkit::rows::check_made;
 use std::test::Fail;
 
 type Value = EitherOrBoth<u8, char>;
+
+static OF_TUPLE: [((u8, char), Value); 1] = [((1, 'c'), Both(1, 'c'))];
 
 static OF_LEFT_OPTION: [((Option<u8>, char), Value); 2] = [
     ((Some(1), 'c'), Both(1, 'c')),
@@ -31,6 +34,10 @@ static OF_RESULT: [(Result<char, u8>, Either<u8, char>); 2] = [
     (Err(1), Either::Left(1)),
 ];
 
+static OF_NUMBERS: [(Result<u8, u8>, Either<u8>); 1] = [(Ok(5), Either::Right(5))];
+
+static OF_ERROR: [(Result<u8, char>, Either<char, u8>); 1] = [(Err('e'), Either::Left('e'))];
+
 static OF_EITHER: [(Either<u8, char>, Value); 2] = [
     (Either::Left(1), Left(1)),
     (Either::Right('c'), Right('c')),
@@ -38,26 +45,17 @@ static OF_EITHER: [(Either<u8, char>, Value); 2] = [
 
 /// The values of a tuple go to their places, where None is an absent place. Two absent places are refused.
 #[test]
-fn from_tuples(rt: HostRuntime) {
-    assert_eq!(rt; Value::from((1, 'c')), Both(1, 'c'));
-    for (tuple, want) in OF_LEFT_OPTION.iter().copied() {
-        assert_eq!(rt; Value::from(tuple), want, "{tuple:?}");
-    }
-    for (tuple, want) in OF_RIGHT_OPTION.iter().copied() {
-        assert_eq!(rt; Value::from(tuple), want, "{tuple:?}");
-    }
-    for (tuple, want) in OF_OPTIONS.iter().copied() {
-        assert_eq!(rt; Value::try_from(tuple), want, "{tuple:?}");
-    }
+fn values_of_tuples_go_to_their_places() -> Result<(), Fail> {
+    check_made("from", &OF_TUPLE, |tuple| Value::from(tuple))?;
+    check_made("from", &OF_LEFT_OPTION, |tuple| Value::from(tuple))?;
+    check_made("from", &OF_RIGHT_OPTION, |tuple| Value::from(tuple))?;
+    check_made("try_from", &OF_OPTIONS, |tuple| Value::try_from(tuple))
 }
 
 /// The refusal says what is missing.
 #[test]
-fn refusal_of_absent_values(rt: HostRuntime) -> Result<(), Fail> {
-    let refused = Value::try_from((None, None))
-        .err()
-        .ok_or("two absent places")?;
-    let text = refused.to_string(rt.alloc())?;
+fn refusal_says_what_is_missing(rt: HostRuntime) -> Result<(), Fail> {
+    let text = TryFromOptionsError.to_string(rt.alloc())?;
     assert_eq!(rt;
         text.as_str(),
         "Either the left, right or both values must be present"
@@ -67,13 +65,9 @@ fn refusal_of_absent_values(rt: HostRuntime) -> Result<(), Fail> {
 
 /// The value of an Ok is the right one and an error the left one. An `Either` keeps its place in an `EitherOrBoth`.
 #[test]
-fn from_results_and_either(rt: HostRuntime) {
-    assert_eq!(rt; Either::<u8, u8>::from(Ok(5)), Either::Right(5));
-    assert_eq!(rt; Either::<char, u8>::from(Err('e')), Either::Left('e'));
-    for (result, want) in OF_RESULT.iter().copied() {
-        assert_eq!(rt; Either::from(result), want, "{result:?}");
-    }
-    for (value, want) in OF_EITHER.iter().copied() {
-        assert_eq!(rt; EitherOrBoth::from(value), want, "{value:?}");
-    }
+fn results_and_either_keep_their_places() -> Result<(), Fail> {
+    check_made("from", &OF_NUMBERS, |answer| Either::from(answer))?;
+    check_made("from", &OF_ERROR, |answer| Either::from(answer))?;
+    check_made("from", &OF_RESULT, |answer| Either::from(answer))?;
+    check_made("from", &OF_EITHER, |value| EitherOrBoth::from(value))
 }

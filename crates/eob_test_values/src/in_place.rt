@@ -1,9 +1,11 @@
 //! Tests: a value put beside the one that is there, and values replaced.
 
 use crate::counted::{Counted, Tally};
+use crate::same::same;
 use either_or_both::EitherOrBoth::{Both, Left, Right};
 use either_or_both::{Either, EitherOrBoth};
-use eob_testkit::rows::Calls;
+use eob_testkit::rows::{Calls, check_changed};
+use std::alloc::{AllocError, Global};
 use std::test::Fail;
 
 /// A call, a value, what the reference that the call gives points to, what is held then, what is held once 8 or 'd' is written through it,
@@ -88,35 +90,35 @@ fn inserted_right<'a>(
 /// An insertion answers a reference to its place, and what is written through it is held. The other place stays, and a closure
 /// is called only where the place is absent.
 #[test]
-fn insertions_at_the_left(rt: HostRuntime) {
+fn left_insertion_answers_its_place(rt: HostRuntime) {
     let calls = Calls::new(rt.alloc());
-    for (call, value, want, after, written, want_calls) in INSERTED_LEFT.iter().copied() {
+    for row in &INSERTED_LEFT {
+        let (call, value, want, after, written, want_calls) = *row;
         let mut changed = value;
-        let place = inserted_left(call, &mut changed, &calls);
-        assert_eq!(rt; *place, want, "{call} of {value:?}");
-        assert_eq!(rt; changed, after, "{call} of {value:?}");
-        assert_eq!(rt; calls.take().as_str(), want_calls, "{call} of {value:?}");
+        let shown = *inserted_left(call, &mut changed, &calls);
+        same(&rt, call, &value, &(shown, changed), &(want, after));
+        same(&rt, call, &value, &calls.take().as_str(), &want_calls);
         let mut changed = value;
         *inserted_left(call, &mut changed, &calls) = 8;
-        assert_eq!(rt; changed, written, "{call} of {value:?}");
-        assert_eq!(rt; calls.take().as_str(), want_calls, "{call} of {value:?}");
+        same(&rt, call, &value, &changed, &written);
+        same(&rt, call, &value, &calls.take().as_str(), &want_calls);
     }
 }
 
 /// The same of the right place.
 #[test]
-fn insertions_at_the_right(rt: HostRuntime) {
+fn right_insertion_answers_its_place(rt: HostRuntime) {
     let calls = Calls::new(rt.alloc());
-    for (call, value, want, after, written, want_calls) in INSERTED_RIGHT.iter().copied() {
+    for row in &INSERTED_RIGHT {
+        let (call, value, want, after, written, want_calls) = *row;
         let mut changed = value;
-        let place = inserted_right(call, &mut changed, &calls);
-        assert_eq!(rt; *place, want, "{call} of {value:?}");
-        assert_eq!(rt; changed, after, "{call} of {value:?}");
-        assert_eq!(rt; calls.take().as_str(), want_calls, "{call} of {value:?}");
+        let shown = *inserted_right(call, &mut changed, &calls);
+        same(&rt, call, &value, &(shown, changed), &(want, after));
+        same(&rt, call, &value, &calls.take().as_str(), &want_calls);
         let mut changed = value;
         *inserted_right(call, &mut changed, &calls) = 'd';
-        assert_eq!(rt; changed, written, "{call} of {value:?}");
-        assert_eq!(rt; calls.take().as_str(), want_calls, "{call} of {value:?}");
+        same(&rt, call, &value, &changed, &written);
+        same(&rt, call, &value, &calls.take().as_str(), &want_calls);
     }
 }
 
@@ -164,61 +166,79 @@ static EITHER_REPLACED_RIGHT: [(Either<u8, char>, Option<char>, Either<u8, char>
 
 /// A replacement answers what was there and changes a place that is present. An absent place stays absent.
 #[test]
-fn replacements(rt: HostRuntime) {
-    for (value, want, after) in REPLACED_ANY.iter().copied() {
-        let mut changed = value;
-        assert_eq!(rt; changed.replace_any(5, 'm'), want, "{value:?}");
-        assert_eq!(rt; changed, after, "{value:?}");
-    }
-    for (value, want, after) in REPLACED_NUMBERS.iter().copied() {
-        let mut changed = value;
-        assert_eq!(rt; changed.replace_any(5, 6), want, "{value:?}");
-        assert_eq!(rt; changed, after, "{value:?}");
-    }
-    for (value, want, after) in REPLACED_LEFT.iter().copied() {
-        let mut changed = value;
-        assert_eq!(rt; changed.replace_left(5), want, "{value:?}");
-        assert_eq!(rt; changed, after, "{value:?}");
-    }
-    for (value, want, after) in REPLACED_RIGHT.iter().copied() {
-        let mut changed = value;
-        assert_eq!(rt; changed.replace_right('m'), want, "{value:?}");
-        assert_eq!(rt; changed, after, "{value:?}");
-    }
-    for (value, want, after) in EITHER_REPLACED_LEFT.iter().copied() {
-        let mut changed = value;
-        assert_eq!(rt; changed.replace_left(5), want, "{value:?}");
-        assert_eq!(rt; changed, after, "{value:?}");
-    }
-    for (value, want, after) in EITHER_REPLACED_RIGHT.iter().copied() {
-        let mut changed = value;
-        assert_eq!(rt; changed.replace_right('m'), want, "{value:?}");
-        assert_eq!(rt; changed, after, "{value:?}");
-    }
+fn replacement_answers_what_was_there() -> Result<(), Fail> {
+    check_changed(
+        "replace_any",
+        &REPLACED_ANY,
+        |value| value.replace_any(5, 'm'),
+    )?;
+    check_changed(
+        "replace_any",
+        &REPLACED_NUMBERS,
+        |value| value.replace_any(5, 6),
+    )?;
+    check_changed(
+        "replace_left",
+        &REPLACED_LEFT,
+        |value| value.replace_left(5),
+    )?;
+    check_changed(
+        "replace_right",
+        &REPLACED_RIGHT,
+        |value| value.replace_right('m'),
+    )?;
+    check_changed(
+        "replace_left",
+        &EITHER_REPLACED_LEFT,
+        |value| value.replace_left(5),
+    )?;
+    check_changed(
+        "replace_right",
+        &EITHER_REPLACED_RIGHT,
+        |value| value.replace_right('m'),
+    )
+}
+
+// Both values, with memory of their own.
+fn owned(
+    alloc: Global,
+    text: &str,
+    numbers: &[u8],
+) -> Result<EitherOrBoth<String, Vec<u8>>, AllocError> {
+    Ok(Both(String::from_str(alloc, text)?, numbers.to_vec(alloc)?))
 }
 
 /// A value that is put beside one with memory of its own leaves that one whole.
 #[test]
-fn insertions_beside_owned_memory(rt: HostRuntime) -> Result<(), Fail> {
+fn insertion_leaves_the_other_value_whole(rt: HostRuntime) -> Result<(), Fail> {
     let alloc = rt.alloc();
     let mut value: EitherOrBoth<String, Vec<u8>> = Right(vec![in alloc; 1, 2]?);
     value
         .insert_left(String::from_str(alloc, "seven")?)
         .push('!')?;
-    assert_eq!(rt;
-        value,
-        Both(String::from_str(alloc, "seven!")?, vec![in alloc; 1, 2]?)
+    same(
+        &rt,
+        "insert_left",
+        &"Right",
+        &value,
+        &owned(alloc, "seven!", &[1, 2])?,
     );
     let mut value: EitherOrBoth<String, Vec<u8>> = Left(String::from_str(alloc, "seven")?);
     value.insert_right(vec![in alloc; 1, 2]?).push(3)?;
-    assert_eq!(rt;
-        value,
-        Both(String::from_str(alloc, "seven")?, vec![in alloc; 1, 2, 3]?)
+    same(
+        &rt,
+        "insert_right",
+        &"Left",
+        &value,
+        &owned(alloc, "seven", &[1, 2, 3])?,
     );
     value.insert_left(String::from_str(alloc, "eight")?);
-    assert_eq!(rt;
-        value,
-        Both(String::from_str(alloc, "eight")?, vec![in alloc; 1, 2, 3]?)
+    same(
+        &rt,
+        "insert_left",
+        &"Both",
+        &value,
+        &owned(alloc, "eight", &[1, 2, 3])?,
     );
     Ok(())
 }
@@ -250,34 +270,51 @@ static DROPPED: [(&str, EitherOrBoth<(), ()>, u32, u32); 21] = [
     ("replace_any",     Right(()),    1,   1),
 ];
 
+// A value of this variant whose held values are counted.
+fn counted<'a>(held: &'a Tally, variant: EitherOrBoth<(), ()>) -> EitherOrBoth<Counted<'a>> {
+    match variant {
+        Left(()) => Left(Counted::new(held, false)),
+        Both((), ()) => Both(Counted::new(held, false), Counted::new(held, false)),
+        Right(()) => Right(Counted::new(held, false)),
+    }
+}
+
+// Makes the call, with arguments that are counted, and drops its answer.
+fn give_up<'a>(call: &str, value: &mut EitherOrBoth<Counted<'a>>, given: &'a Tally) {
+    let argument = Counted::new(given, false);
+    match call {
+        "insert_left" => drop(value.insert_left(argument)),
+        "insert_right" => drop(value.insert_right(argument)),
+        "left_or_insert" => drop(value.left_or_insert(argument)),
+        "right_or_insert" => drop(value.right_or_insert(argument)),
+        "replace_left" => drop(value.replace_left(argument)),
+        "replace_right" => drop(value.replace_right(argument)),
+        _ => drop(value.replace_any(argument, Counted::new(given, false))),
+    }
+}
+
+// How many values are held at first, and how many the call is given.
+fn in_all(call: &str, variant: EitherOrBoth<(), ()>) -> (u32, u32) {
+    let held = if variant.is_both() { 2 } else { 1 };
+    let given = if call == "replace_any" { 2 } else { 1 };
+    (held, given)
+}
+
 /// What a call gives up is dropped once: an old value that an argument takes the place of, or an argument that finds no place.
 /// All the rest is dropped once with the value.
 #[test]
-fn dropped_values_of_either_or_both(rt: HostRuntime) {
-    for (call, variant, want_held, want_given) in DROPPED.iter().copied() {
+fn what_is_given_up_is_dropped_once(rt: HostRuntime) {
+    for row in &DROPPED {
+        let (call, variant, want_held, want_given) = *row;
         let held = Tally::new();
         let given = Tally::new();
-        let mut value = variant.bimap(
-            |()| Counted::new(&held, false),
-            |()| Counted::new(&held, false),
-        );
-        let argument = Counted::new(&given, false);
-        match call {
-            "insert_left" => drop(value.insert_left(argument)),
-            "insert_right" => drop(value.insert_right(argument)),
-            "left_or_insert" => drop(value.left_or_insert(argument)),
-            "right_or_insert" => drop(value.right_or_insert(argument)),
-            "replace_left" => drop(value.replace_left(argument)),
-            "replace_right" => drop(value.replace_right(argument)),
-            _ => drop(value.replace_any(argument, Counted::new(&given, false))),
-        }
-        assert_eq!(rt; held.dropped(), want_held, "{call} of {variant:?}");
-        assert_eq!(rt; given.dropped(), want_given, "{call} of {variant:?}");
+        let mut value = counted(&held, variant);
+        give_up(call, &mut value, &given);
+        let dropped = (held.dropped(), given.dropped());
+        same(&rt, call, &variant, &dropped, &(want_held, want_given));
         drop(value);
-        let held_in_all = if variant.is_both() { 2 } else { 1 };
-        let given_in_all = if call == "replace_any" { 2 } else { 1 };
-        assert_eq!(rt; held.dropped(), held_in_all, "{call} of {variant:?}");
-        assert_eq!(rt; given.dropped(), given_in_all, "{call} of {variant:?}");
+        let dropped = (held.dropped(), given.dropped());
+        same(&rt, call, &variant, &dropped, &in_all(call, variant));
     }
 }
 
@@ -291,25 +328,36 @@ static DROPPED_BY_EITHER: [(&str, Either<(), ()>, u32, u32); 4] = [
     ("replace_right", Either::Right(()), 1,   0),
 ];
 
+// The same of `Either`.
+fn counted_either<'a>(held: &'a Tally, variant: Either<(), ()>) -> Either<Counted<'a>> {
+    match variant {
+        Either::Left(()) => Either::Left(Counted::new(held, false)),
+        Either::Right(()) => Either::Right(Counted::new(held, false)),
+    }
+}
+
+// The same of `Either`.
+fn give_up_either<'a>(call: &str, value: &mut Either<Counted<'a>>, given: &'a Tally) {
+    let argument = Counted::new(given, false);
+    match call {
+        "replace_left" => drop(value.replace_left(argument)),
+        _ => drop(value.replace_right(argument)),
+    }
+}
+
 /// What a replacement in an `Either` gives up is dropped once, and the rest with the value.
 #[test]
-fn dropped_values_of_either(rt: HostRuntime) {
-    for (call, variant, want_held, want_given) in DROPPED_BY_EITHER.iter().copied() {
+fn what_either_gives_up_is_dropped_once(rt: HostRuntime) {
+    for row in &DROPPED_BY_EITHER {
+        let (call, variant, want_held, want_given) = *row;
         let held = Tally::new();
         let given = Tally::new();
-        let mut value = variant.bimap(
-            |()| Counted::new(&held, false),
-            |()| Counted::new(&held, false),
-        );
-        let argument = Counted::new(&given, false);
-        match call {
-            "replace_left" => drop(value.replace_left(argument)),
-            _ => drop(value.replace_right(argument)),
-        }
-        assert_eq!(rt; held.dropped(), want_held, "{call} of {variant:?}");
-        assert_eq!(rt; given.dropped(), want_given, "{call} of {variant:?}");
+        let mut value = counted_either(&held, variant);
+        give_up_either(call, &mut value, &given);
+        let dropped = (held.dropped(), given.dropped());
+        same(&rt, call, &variant, &dropped, &(want_held, want_given));
         drop(value);
-        assert_eq!(rt; held.dropped(), 1, "{call} of {variant:?}");
-        assert_eq!(rt; given.dropped(), 1, "{call} of {variant:?}");
+        let dropped = (held.dropped(), given.dropped());
+        same(&rt, call, &variant, &dropped, &(1, 1));
     }
 }

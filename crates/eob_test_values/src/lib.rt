@@ -19,6 +19,8 @@ mod queries;
 #[cfg(test)]
 mod references;
 #[cfg(test)]
+mod same;
+#[cfg(test)]
 mod serialized;
 #[cfg(test)]
 mod streams;

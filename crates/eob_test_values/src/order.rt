@@ -1,10 +1,13 @@
 //! Tests: the order of values, and hashes of equal values.
 
+use crate::same::same;
 use either_or_both::EitherOrBoth::{Both, Left, Right};
 use either_or_both::{Either, EitherOrBoth};
 use std::cmp::Ordering;
 use std::cmp::Ordering::{Equal, Greater, Less};
+use std::fmt::Debug;
 use std::hash::{DefaultHasher, Hash, Hasher};
+use std::process::Abort;
 
 /// What a value is compared by: its rank, its left number and its right one, 0 where there is none.
 type Key = (u8, u8, u8);
@@ -56,43 +59,45 @@ fn hash_of<T: Hash>(value: &T) -> u64 {
     hasher.finish()
 }
 
-/// Left before Both before Right, then by left values and then by right ones. The other comparisons agree with this order, and
-/// equal values hash alike, as no two others of the list do.
-#[test]
-fn every_pair_of_either_or_both(rt: HostRuntime) {
-    for (a, key) in KEYS.iter().copied() {
-        for (b, other) in KEYS.iter().copied() {
-            let want = rule(key, other);
-            assert_eq!(rt; a.cmp(&b), want, "{a:?} and {b:?}");
-            assert_eq!(rt; a.partial_cmp(&b), Some(want), "{a:?} and {b:?}");
-            assert_eq!(rt; a < b, want == Less, "{a:?} and {b:?}");
-            assert_eq!(rt; a == b, want == Equal, "{a:?} and {b:?}");
-            assert_eq!(rt;
-                hash_of(&a) == hash_of(&b),
-                want == Equal,
-                "{a:?} and {b:?}"
+// What a comparison of two values answers in each way, and whether they hash alike.
+fn compared<T: Ord + Hash>(a: &T, b: &T) -> (Ordering, Option<Ordering>, bool, bool, bool) {
+    (
+        a.cmp(b),
+        a.partial_cmp(b),
+        *a < *b,
+        *a == *b,
+        hash_of(a) == hash_of(b),
+    )
+}
+
+// Compares each value of the list with each.
+fn check_pairs<T: Ord + Hash + Debug>(rt: &impl Abort, keys: &[(T, Key)]) {
+    for (a, key) in keys {
+        for (b, other) in keys {
+            let want = rule(*key, *other);
+            let is_equal = want == Equal;
+            same(
+                rt,
+                "comparison",
+                &(a, b),
+                &compared(a, b),
+                &(want, Some(want), want == Less, is_equal, is_equal),
             );
         }
     }
 }
 
+/// Left before Both before Right, then by left values and then by right ones. The other comparisons agree with this order, and
+/// equal values hash alike, as no two others of the list do.
+#[test]
+fn pairs_are_ordered_by_variant_then_values(rt: HostRuntime) {
+    check_pairs(&rt, &KEYS);
+}
+
 /// The same of `Either`: Left before Right, and then by the values.
 #[test]
-fn every_pair_of_either(rt: HostRuntime) {
-    for (a, key) in EITHER_KEYS.iter().copied() {
-        for (b, other) in EITHER_KEYS.iter().copied() {
-            let want = rule(key, other);
-            assert_eq!(rt; a.cmp(&b), want, "{a:?} and {b:?}");
-            assert_eq!(rt; a.partial_cmp(&b), Some(want), "{a:?} and {b:?}");
-            assert_eq!(rt; a < b, want == Less, "{a:?} and {b:?}");
-            assert_eq!(rt; a == b, want == Equal, "{a:?} and {b:?}");
-            assert_eq!(rt;
-                hash_of(&a) == hash_of(&b),
-                want == Equal,
-                "{a:?} and {b:?}"
-            );
-        }
-    }
+fn pairs_of_either_are_ordered_by_side_then_value(rt: HostRuntime) {
+    check_pairs(&rt, &EITHER_KEYS);
 }
 
 /// Two values and their order: three pairs worked by hand, and answers of the original crate.
@@ -163,13 +168,16 @@ static EITHER_COMPARED: [(Either<u8>, Either<u8>, Ordering); 11] = [
     (Either::Right(1), Either::Right(1), Equal),
 ];
 
+// Compares the two values of each row.
+fn check_order<T: Ord + Debug>(rt: &impl Abort, rows: &[(T, T, Ordering)]) {
+    for (a, b, want) in rows {
+        same(rt, "cmp", &(a, b), &a.cmp(b), want);
+    }
+}
+
 /// The order is that of the pairs worked by hand and of the original crate.
 #[test]
 fn order_is_that_of_the_original(rt: HostRuntime) {
-    for (a, b, want) in COMPARED.iter().copied() {
-        assert_eq!(rt; a.cmp(&b), want, "{a:?} and {b:?}");
-    }
-    for (a, b, want) in EITHER_COMPARED.iter().copied() {
-        assert_eq!(rt; a.cmp(&b), want, "{a:?} and {b:?}");
-    }
+    check_order(&rt, &COMPARED);
+    check_order(&rt, &EITHER_COMPARED);
 }

@@ -1,6 +1,7 @@
 //! Tests: references to the places of a value, and clones and copies of what references point to.
 
 use crate::counted::{Counted, Tally};
+use crate::same::same;
 use either_or_both::EitherOrBoth::{Both, Left, Right};
 use either_or_both::{Either, EitherOrBoth};
 use std::alloc::{AllocError, Global};
@@ -47,67 +48,120 @@ fn boxed(
 
 /// References point to the held values or to their targets, and what is written through them is what is held afterwards.
 #[test]
-fn references_of_either_or_both(rt: HostRuntime) -> Result<(), Fail> {
-    for (value, references, written) in OF_EITHER_OR_BOTH.iter().copied() {
-        assert_eq!(rt; value.as_ref(), references);
-        let mut changed = value;
-        assert_eq!(rt; write(changed.as_mut(), 10, 'm'), value);
-        assert_eq!(rt; changed, written);
-        let mut boxes = boxed(rt.alloc(), value)?;
-        assert_eq!(rt; boxes.as_deref(), references);
-        assert_eq!(rt; write(boxes.as_deref_mut(), 10, 'm'), value);
-        assert_eq!(rt; boxes, boxed(rt.alloc(), written)?);
+fn references_point_to_what_is_held(rt: HostRuntime) -> Result<(), Fail> {
+    for (value, references, written) in &OF_EITHER_OR_BOTH {
+        same(&rt, "as_ref", value, &value.as_ref(), references);
+        let mut changed = *value;
+        let was = write(changed.as_mut(), 10, 'm');
+        same(&rt, "as_mut", value, &(was, changed), &(*value, *written));
+        let mut boxes = boxed(rt.alloc(), *value)?;
+        same(&rt, "as_deref", value, &boxes.as_deref(), references);
+        let was = write(boxes.as_deref_mut(), 10, 'm');
+        same(&rt, "as_deref_mut", value, &was, value);
+        same(
+            &rt,
+            "as_deref_mut",
+            value,
+            &boxes,
+            &boxed(rt.alloc(), *written)?,
+        );
     }
     let mut numbers = Both(1, 2);
-    assert_eq!(rt; write(numbers.as_mut(), 10, 20), Both(1, 2));
-    assert_eq!(rt; numbers, Both(10, 20));
+    let was = write(numbers.as_mut(), 10, 20);
+    same(
+        &rt,
+        "as_mut",
+        &"Both(1, 2)",
+        &(was, numbers),
+        &(Both(1, 2), Both(10, 20)),
+    );
     let mut number = boxed(rt.alloc(), Left(3))?;
-    assert_eq!(rt; number.as_deref(), Left(&3));
-    assert_eq!(rt; write(number.as_deref_mut(), 4, 'm'), Left(3));
-    assert_eq!(rt; number, boxed(rt.alloc(), Left(4))?);
+    same(&rt, "as_deref", &"Left(3)", &number.as_deref(), &Left(&3));
+    same(
+        &rt,
+        "as_deref_mut",
+        &"Left(3)",
+        &write(number.as_deref_mut(), 4, 'm'),
+        &Left(3),
+    );
+    same(
+        &rt,
+        "as_deref_mut",
+        &"Left(3)",
+        &number,
+        &boxed(rt.alloc(), Left(4))?,
+    );
     Ok(())
 }
 
 /// A copy and a clone of what references point to hold the same values, and what is pointed to stays.
 #[test]
-fn copies_of_either_or_both(rt: HostRuntime) -> Result<(), Fail> {
-    for (value, references, _) in OF_EITHER_OR_BOTH.iter().copied() {
-        let mut lent = value;
-        assert_eq!(rt; references.copied(), value);
-        assert_eq!(rt; lent.as_mut().copied(), value);
-        assert_eq!(rt; references.cloned()?, value);
-        assert_eq!(rt; lent.as_mut().cloned()?, value);
-        assert_eq!(rt; lent.clone()?, value);
-        assert_eq!(rt; lent, value);
+fn copies_hold_what_references_show(rt: HostRuntime) -> Result<(), Fail> {
+    for (value, references, _) in &OF_EITHER_OR_BOTH {
+        let mut lent = *value;
+        let made = [
+            references.copied(),
+            lent.as_mut().copied(),
+            references.cloned()?,
+            lent.as_mut().cloned()?,
+            lent.clone()?,
+            lent,
+        ];
+        same(&rt, "copied, cloned and clone", value, &made, &[*value; 6]);
+    }
+    Ok(())
+}
+
+// Both values, with memory of their own.
+fn owned(
+    alloc: Global,
+    text: &str,
+    numbers: &[u8],
+) -> Result<EitherOrBoth<String, Vec<u8>>, AllocError> {
+    Ok(Both(String::from_str(alloc, text)?, numbers.to_vec(alloc)?))
+}
+
+// Adds a letter and a number to what is held.
+fn extend(value: &mut EitherOrBoth<String, Vec<u8>>) -> Result<(), AllocError> {
+    if let Both(l, r) = value.as_mut() {
+        l.push('b')?;
+        r.push(2)?;
+    }
+    Ok(())
+}
+
+fn extend_either(value: &mut Either<String, Vec<u8>>) -> Result<(), AllocError> {
+    if let Either::Right(r) = value.as_mut() {
+        r.push(2)?;
     }
     Ok(())
 }
 
 /// A clone of a value with memory of its own has memory of its own too.
 #[test]
-fn clones_of_owned_memory(rt: HostRuntime) -> Result<(), Fail> {
+fn clone_has_memory_of_its_own(rt: HostRuntime) -> Result<(), Fail> {
     let alloc = rt.alloc();
-    let value = Both(String::from_str(alloc, "a")?, vec![in alloc; 1u8]?);
+    let value = owned(alloc, "a", &[1])?;
     let mut copy = value.clone()?;
-    if let Both(l, r) = copy.as_mut() {
-        l.push('b')?;
-        r.push(2)?;
-    }
-    assert_eq!(rt;
-        copy,
-        Both(String::from_str(alloc, "ab")?, vec![in alloc; 1u8, 2]?)
-    );
-    assert_eq!(rt;
-        value,
-        Both(String::from_str(alloc, "a")?, vec![in alloc; 1u8]?)
-    );
+    extend(&mut copy)?;
+    let want = owned(alloc, "ab", &[1, 2])?;
+    same(&rt, "clone, written", &value, &copy, &want);
+    let want = owned(alloc, "a", &[1])?;
+    same(&rt, "clone, not written", &copy, &value, &want);
+    Ok(())
+}
+
+/// The same of `Either`.
+#[test]
+fn clone_of_either_has_memory_of_its_own(rt: HostRuntime) -> Result<(), Fail> {
+    let alloc = rt.alloc();
     let value: Either<String, Vec<u8>> = Either::Right(vec![in alloc; 1]?);
     let mut copy = value.clone()?;
-    if let Either::Right(r) = copy.as_mut() {
-        r.push(2)?;
-    }
-    assert_eq!(rt; copy, Either::Right(vec![in alloc; 1, 2]?));
-    assert_eq!(rt; value, Either::Right(vec![in alloc; 1]?));
+    extend_either(&mut copy)?;
+    let want = Either::Right(vec![in alloc; 1, 2]?);
+    same(&rt, "clone, written", &value, &copy, &want);
+    let want = Either::Right(vec![in alloc; 1]?);
+    same(&rt, "clone, not written", &copy, &value, &want);
     Ok(())
 }
 
@@ -125,39 +179,56 @@ static CLONES_OF_EITHER_OR_BOTH: [(EitherOrBoth<bool, bool>, bool, u32); 8] = [
     (Right(true),        false, 0),
 ];
 
+// A value whose held values are counted and refuse as told.
+fn counted<'a>(tally: &'a Tally, refusing: EitherOrBoth<bool, bool>) -> EitherOrBoth<Counted<'a>> {
+    match refusing {
+        Left(l) => Left(Counted::new(tally, l)),
+        Both(l, r) => Both(Counted::new(tally, l), Counted::new(tally, r)),
+        Right(r) => Right(Counted::new(tally, r)),
+    }
+}
+
 // Which of the held values refuse.
 fn refusing_in<'a>(value: &EitherOrBoth<Counted<'a>, Counted<'a>>) -> EitherOrBoth<bool, bool> {
     value.as_ref().bimap(|l| l.refuses(), |r| r.refuses())
 }
 
+// A clone of the value, made in this way.
+fn cloned_by<'a>(
+    way: &str,
+    value: &mut EitherOrBoth<Counted<'a>>,
+) -> Result<EitherOrBoth<Counted<'a>>, AllocError> {
+    match way {
+        "clone" => value.clone(),
+        "cloned on &" => value.as_ref().cloned(),
+        _ => value.as_mut().cloned(),
+    }
+}
+
+// How many of so many clones are dropped: all, where the whole is not made.
+fn dropped_of(is_made: bool, count: u32) -> u32 {
+    if is_made { 0 } else { count }
+}
+
 /// A clone is refused where that of a held value is. Then each clone that was made is dropped, and the value stays as it was.
 #[test]
-fn refused_clones_of_either_or_both(rt: HostRuntime) {
-    for (refusing, is_made, count) in CLONES_OF_EITHER_OR_BOTH.iter().copied() {
+fn refused_clone_drops_what_it_made(rt: HostRuntime) {
+    for (refusing, is_made, count) in &CLONES_OF_EITHER_OR_BOTH {
         for way in ["clone", "cloned on &", "cloned on &mut"] {
             let tally = Tally::new();
-            let mut value = refusing.bimap(
-                |l| Counted::new(&tally, l),
-                |r| Counted::new(&tally, r),
+            let mut value = counted(&tally, *refusing);
+            let made = cloned_by(way, &mut value);
+            let dropped = dropped_of(*is_made, *count);
+            same(
+                &rt,
+                way,
+                refusing,
+                &(tally.cloned(), tally.dropped()),
+                &(*count, dropped),
             );
-            let made: Result<EitherOrBoth<Counted<'_>, Counted<'_>>, AllocError> = match way {
-                "clone" => value.clone(),
-                "cloned on &" => value.as_ref().cloned(),
-                _ => value.as_mut().cloned(),
-            };
-            assert_eq!(rt; tally.cloned(), count, "{way} of {refusing:?}");
-            match made {
-                Ok(copy) => {
-                    assert!(rt; is_made, "{way} of {refusing:?}");
-                    assert_eq!(rt; tally.dropped(), 0, "{way} of {refusing:?}");
-                    assert_eq!(rt; refusing_in(&copy), refusing, "{way} of {refusing:?}");
-                }
-                Err(AllocError) => {
-                    assert!(rt; !is_made, "{way} of {refusing:?}");
-                    assert_eq!(rt; tally.dropped(), count, "{way} of {refusing:?}");
-                }
-            }
-            assert_eq!(rt; refusing_in(&value), refusing, "{way} of {refusing:?}");
+            let copied = made.as_ref().ok().map(refusing_in);
+            same(&rt, way, refusing, &copied, &is_made.then_some(*refusing));
+            same(&rt, way, refusing, &refusing_in(&value), refusing);
         }
     }
 }
@@ -199,35 +270,45 @@ fn boxed_either(
 
 /// A reference points to the held value or to its target, and what is written through it is what is held afterwards.
 #[test]
-fn references_of_either(rt: HostRuntime) -> Result<(), Fail> {
-    for (value, reference, written) in OF_EITHER.iter().copied() {
-        assert_eq!(rt; value.as_ref(), reference);
-        assert_eq!(rt; Either::from(&value), reference);
-        let mut changed = value;
-        assert_eq!(rt; write_either(changed.as_mut(), 10, 'm'), value);
-        assert_eq!(rt; changed, written);
-        let mut converted = value;
-        assert_eq!(rt; write_either(Either::from(&mut converted), 10, 'm'), value);
-        assert_eq!(rt; converted, written);
-        let mut boxes = boxed_either(rt.alloc(), value)?;
-        assert_eq!(rt; boxes.as_deref(), reference);
-        assert_eq!(rt; write_either(boxes.as_deref_mut(), 10, 'm'), value);
-        assert_eq!(rt; boxes, boxed_either(rt.alloc(), written)?);
+fn reference_points_to_the_held_value(rt: HostRuntime) -> Result<(), Fail> {
+    for (value, reference, written) in &OF_EITHER {
+        same(&rt, "as_ref", value, &value.as_ref(), reference);
+        same(&rt, "from", value, &Either::from(value), reference);
+        let mut changed = *value;
+        let was = write_either(changed.as_mut(), 10, 'm');
+        same(&rt, "as_mut", value, &(was, changed), &(*value, *written));
+        let mut converted = *value;
+        let was = write_either(Either::from(&mut converted), 10, 'm');
+        same(&rt, "from", value, &(was, converted), &(*value, *written));
+        let mut boxes = boxed_either(rt.alloc(), *value)?;
+        same(&rt, "as_deref", value, &boxes.as_deref(), reference);
+        let was = write_either(boxes.as_deref_mut(), 10, 'm');
+        same(&rt, "as_deref_mut", value, &was, value);
+        same(
+            &rt,
+            "as_deref_mut",
+            value,
+            &boxes,
+            &boxed_either(rt.alloc(), *written)?,
+        );
     }
     Ok(())
 }
 
 /// A copy and a clone of what a reference points to hold the same value, and what is pointed to stays.
 #[test]
-fn copies_of_either(rt: HostRuntime) -> Result<(), Fail> {
-    for (value, reference, _) in OF_EITHER.iter().copied() {
-        let mut lent = value;
-        assert_eq!(rt; reference.copied(), value);
-        assert_eq!(rt; lent.as_mut().copied(), value);
-        assert_eq!(rt; reference.cloned()?, value);
-        assert_eq!(rt; lent.as_mut().cloned()?, value);
-        assert_eq!(rt; lent.clone()?, value);
-        assert_eq!(rt; lent, value);
+fn copy_holds_what_the_reference_shows(rt: HostRuntime) -> Result<(), Fail> {
+    for (value, reference, _) in &OF_EITHER {
+        let mut lent = *value;
+        let made = [
+            reference.copied(),
+            lent.as_mut().copied(),
+            reference.cloned()?,
+            lent.as_mut().cloned()?,
+            lent.clone()?,
+            lent,
+        ];
+        same(&rt, "copied, cloned and clone", value, &made, &[*value; 6]);
     }
     Ok(())
 }
@@ -247,39 +328,44 @@ fn refusing_in_either<'a>(value: &Either<Counted<'a>, Counted<'a>>) -> Either<bo
     value.as_ref().bimap(|l| l.refuses(), |r| r.refuses())
 }
 
+// The same of `Either`.
+fn counted_either<'a>(tally: &'a Tally, refusing: Either<bool, bool>) -> Either<Counted<'a>> {
+    match refusing {
+        Either::Left(l) => Either::Left(Counted::new(tally, l)),
+        Either::Right(r) => Either::Right(Counted::new(tally, r)),
+    }
+}
+
+// The same of `Either`.
+fn cloned_by_either<'a>(
+    way: &str,
+    value: &mut Either<Counted<'a>>,
+) -> Result<Either<Counted<'a>>, AllocError> {
+    match way {
+        "clone" => value.clone(),
+        "cloned on &" => value.as_ref().cloned(),
+        _ => value.as_mut().cloned(),
+    }
+}
+
 /// A clone is refused where that of the held value is. Then no clone was made, and the value stays as it was.
 #[test]
-fn refused_clones_of_either(rt: HostRuntime) {
-    for (refusing, is_made, count) in CLONES_OF_EITHER.iter().copied() {
+fn refused_clone_of_either_makes_none(rt: HostRuntime) {
+    for (refusing, is_made, count) in &CLONES_OF_EITHER {
         for way in ["clone", "cloned on &", "cloned on &mut"] {
             let tally = Tally::new();
-            let mut value = refusing.bimap(
-                |l| Counted::new(&tally, l),
-                |r| Counted::new(&tally, r),
-            );
-            let made: Result<Either<Counted<'_>, Counted<'_>>, AllocError> = match way {
-                "clone" => value.clone(),
-                "cloned on &" => value.as_ref().cloned(),
-                _ => value.as_mut().cloned(),
-            };
-            assert_eq!(rt; tally.cloned(), count, "{way} of {refusing:?}");
-            assert_eq!(rt; tally.dropped(), 0, "{way} of {refusing:?}");
-            match made {
-                Ok(copy) => {
-                    assert!(rt; is_made, "{way} of {refusing:?}");
-                    assert_eq!(rt;
-                        refusing_in_either(&copy),
-                        refusing,
-                        "{way} of {refusing:?}"
-                    );
-                }
-                Err(AllocError) => assert!(rt; !is_made, "{way} of {refusing:?}"),
-            }
-            assert_eq!(rt;
-                refusing_in_either(&value),
+            let mut value = counted_either(&tally, *refusing);
+            let made = cloned_by_either(way, &mut value);
+            same(
+                &rt,
+                way,
                 refusing,
-                "{way} of {refusing:?}"
+                &(tally.cloned(), tally.dropped()),
+                &(*count, 0),
             );
+            let copied = made.as_ref().ok().map(refusing_in_either);
+            same(&rt, way, refusing, &copied, &is_made.then_some(*refusing));
+            same(&rt, way, refusing, &refusing_in_either(&value), refusing);
         }
     }
 }

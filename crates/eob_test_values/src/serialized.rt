@@ -1,7 +1,12 @@
 //! Tests: what the derives of `serde` write and read, through `serde_json`.
 
+use crate::same::same;
 use either_or_both::EitherOrBoth::{Both, Left, Right};
 use either_or_both::{Either, EitherOrBoth};
+use serde::{Deserialize, Serialize};
+use std::alloc::Global;
+use std::fmt::Debug;
+use std::process::Abort;
 use std::test::Fail;
 
 static WRITTEN: [(EitherOrBoth<u8>, &str); 3] = [
@@ -15,38 +20,40 @@ static WRITTEN_BY_EITHER: [(Either<u8>, &str); 2] = [
     (Either::Right(2), "{\"Right\":2}"),
 ];
 
+// The value is written as the text, and the text is read as the value.
+fn check<'de, T: Serialize + Deserialize<'de> + PartialEq + Debug + Drop>(
+    rt: &impl Abort,
+    alloc: Global,
+    value: &T,
+    text: &'de str,
+) -> Result<(), Fail> {
+    let written = serde_json::to_string(alloc, value)?;
+    same(rt, "to_string", value, &written.as_str(), &text);
+    let read: T = serde_json::from_str(alloc, text)?;
+    same(rt, "from_str", &text, &read, value);
+    Ok(())
+}
+
 /// A value is written as its variant with what it holds, and is read back.
 #[test]
-fn written_and_read(rt: HostRuntime) -> Result<(), Fail> {
-    let alloc = rt.alloc();
-    for (value, text) in WRITTEN.iter().copied() {
-        assert_eq!(rt; serde_json::to_string(alloc, &value)?.as_str(), text);
-        let read: EitherOrBoth<u8> = serde_json::from_str(alloc, text)?;
-        assert_eq!(rt; read, value);
+fn values_are_written_and_read_back(rt: HostRuntime) -> Result<(), Fail> {
+    for (value, text) in &WRITTEN {
+        check(&rt, rt.alloc(), value, text)?;
     }
-    for (value, text) in WRITTEN_BY_EITHER.iter().copied() {
-        assert_eq!(rt; serde_json::to_string(alloc, &value)?.as_str(), text);
-        let read: Either<u8> = serde_json::from_str(alloc, text)?;
-        assert_eq!(rt; read, value);
+    for (value, text) in &WRITTEN_BY_EITHER {
+        check(&rt, rt.alloc(), value, text)?;
     }
     Ok(())
 }
 
 /// Values of two types, with memory of their own.
 #[test]
-fn texts_and_lists(rt: HostRuntime) -> Result<(), Fail> {
+fn values_with_memory_are_written_and_read_back(rt: HostRuntime) -> Result<(), Fail> {
     let alloc = rt.alloc();
-    let text = "{\"Both\":[\"a\\n\",[1,2]]}";
     let value = Both(String::from_str(alloc, "a\n")?, vec![in alloc; 1u8, 2]?);
-    assert_eq!(rt; serde_json::to_string(alloc, &value)?.as_str(), text);
-    let read: EitherOrBoth<String, Vec<u8>> = serde_json::from_str(alloc, text)?;
-    assert_eq!(rt; read, value);
-    let text = "{\"Right\":[1,2]}";
+    check(&rt, alloc, &value, "{\"Both\":[\"a\\n\",[1,2]]}")?;
     let value: Either<String, Vec<u8>> = Either::Right(vec![in alloc; 1u8, 2]?);
-    assert_eq!(rt; serde_json::to_string(alloc, &value)?.as_str(), text);
-    let read: Either<String, Vec<u8>> = serde_json::from_str(alloc, text)?;
-    assert_eq!(rt; read, value);
-    Ok(())
+    check(&rt, alloc, &value, "{\"Right\":[1,2]}")
 }
 
 static REFUSED: [&str; 13] = [
@@ -65,21 +72,21 @@ static REFUSED: [&str; 13] = [
     "",
 ];
 
+// The text is refused, and not for want of memory.
+fn check_refused<'de, T: Deserialize<'de> + Drop>(rt: &impl Abort, alloc: Global, text: &'de str) {
+    let read: Result<T, serde_json::Error> = serde_json::from_str(alloc, text);
+    assert!(rt;
+        read.is_err_and(|e| !e.is_memory()),
+        "{text} is not refused"
+    );
+}
+
 /// What is no value of the enum is refused, and nothing is read.
 #[test]
-fn refused_texts(rt: HostRuntime) {
-    for text in REFUSED.iter().copied() {
-        let read: Result<EitherOrBoth<u8>, serde_json::Error> = serde_json::from_str(
-            rt.alloc(),
-            text,
-        );
-        assert!(rt; read.is_err_and(|e| !e.is_memory()), "{text}");
-        let read: Result<Either<u8>, serde_json::Error> = serde_json::from_str(rt.alloc(), text);
-        assert!(rt; read.is_err_and(|e| !e.is_memory()), "{text}");
+fn texts_of_no_value_are_refused(rt: HostRuntime) {
+    for text in REFUSED {
+        check_refused::<EitherOrBoth<u8>>(&rt, rt.alloc(), text);
+        check_refused::<Either<u8>>(&rt, rt.alloc(), text);
     }
-    let read: Result<Either<u8>, serde_json::Error> = serde_json::from_str(
-        rt.alloc(),
-        "{\"Both\":[1,2]}",
-    );
-    assert!(rt; read.is_err_and(|e| !e.is_memory()));
+    check_refused::<Either<u8>>(&rt, rt.alloc(), "{\"Both\":[1,2]}");
 }

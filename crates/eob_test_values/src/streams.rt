@@ -1,6 +1,7 @@
 //! Tests: an `Either` as a container, a pointer, a reader, a seeker and a writer. Bytes and errors pass it unchanged, the calls reach
 //! the held side, and the variant stays.
 
+use crate::same::same;
 use either_or_both::Either;
 use std::alloc::{AllocError, Global};
 use std::fmt::Debug;
@@ -23,15 +24,22 @@ fn held<T: Drop>(is_left: bool, value: T) -> Either<T, T> {
 
 /// A container grows by the items that are put behind it.
 #[test]
-fn containers(rt: HostRuntime) -> Result<(), Fail> {
+fn container_grows_by_what_is_put_behind_it(rt: HostRuntime) -> Result<(), Fail> {
     let alloc = rt.alloc();
     for is_left in SIDES {
         let mut pair = held(is_left, vec![in alloc; 1]?);
         pair.extend([2, 3])?;
-        assert_eq!(rt; pair, held(is_left, vec![in alloc; 1, 2, 3]?));
+        same(
+            &rt,
+            "extend",
+            &is_left,
+            &pair,
+            &held(is_left, vec![in alloc; 1, 2, 3]?),
+        );
         pair.extend(None::<i32>)?;
         pair.extend(vec![in alloc; 4]?.into_iter().chain(Some(5)))?;
-        assert_eq!(rt; pair, held(is_left, vec![in alloc; 1, 2, 3, 4, 5]?));
+        let want = held(is_left, vec![in alloc; 1, 2, 3, 4, 5]?);
+        same(&rt, "extend", &is_left, &pair, &want);
     }
     Ok(())
 }
@@ -44,62 +52,112 @@ fn raise(mut pointer: Either<Box<u8>, &mut u8>) -> u8 {
 
 /// A pointer shows the target of the side that is there, and what is written through it is what that side then holds.
 #[test]
-fn pointers(rt: HostRuntime) -> Result<(), Fail> {
+fn pointer_shows_and_changes_its_target(rt: HostRuntime) -> Result<(), Fail> {
     let alloc = rt.alloc();
     for is_left in SIDES {
         let mut pointer = held(is_left, Box::new(alloc, 3)?);
-        assert_eq!(rt; *pointer.deref(), 3);
+        same(&rt, "deref", &is_left, pointer.deref(), &3);
         *pointer.deref_mut() = 4;
-        assert_eq!(rt; pointer, held(is_left, Box::new(alloc, 4)?));
+        same(
+            &rt,
+            "deref_mut",
+            &is_left,
+            &pointer,
+            &held(is_left, Box::new(alloc, 4)?),
+        );
     }
     let mut number = 7;
-    assert_eq!(rt; raise(Either::Right(&mut number)), 8);
-    assert_eq!(rt; raise(Either::Left(Box::new(alloc, 1)?)), 2);
-    assert_eq!(rt; number, 8);
+    let raised = [
+        raise(Either::Right(&mut number)),
+        raise(Either::Left(Box::new(alloc, 1)?)),
+        number,
+    ];
+    assert_eq!(rt; raised, [8, 2, 8]);
     Ok(())
 }
 
 /// What is written is what the side then holds.
 #[test]
-fn writers(rt: HostRuntime) -> Result<(), Fail> {
+fn side_holds_what_is_written(rt: HostRuntime) -> Result<(), Fail> {
     let alloc = rt.alloc();
     for is_left in SIDES {
         let mut writer = held(is_left, Cursor::new(Vec::new(alloc)));
-        assert_eq!(rt; writer.write(&[1, 2])?, 2);
+        let count = writer.write(&[1, 2])?;
         writer.flush()?;
-        assert_eq!(rt; writer.is_left(), is_left);
+        same(
+            &rt,
+            "write",
+            &is_left,
+            &(count, writer.is_left()),
+            &(2, is_left),
+        );
         let bytes = writer.reduce().into_inner();
-        assert_eq!(rt; bytes.as_slice(), [1, 2].as_slice());
+        same(
+            &rt,
+            "write",
+            &is_left,
+            &bytes.as_slice(),
+            &[1, 2].as_slice(),
+        );
 
         let mut text = held(is_left, String::new(alloc));
         fmt::Write::write_str(&mut text, "ab")?;
-        assert_eq!(rt; text, held(is_left, "ab".to_string(alloc)?));
+        same(
+            &rt,
+            "write_str",
+            &is_left,
+            &text,
+            &held(is_left, "ab".to_string(alloc)?),
+        );
         fmt::Write::write_fmt(&mut text, format_args!("{}-{:>3}", 7, 'c'))?;
-        assert_eq!(rt; text, held(is_left, "ab7-  c".to_string(alloc)?));
+        same(
+            &rt,
+            "write_fmt",
+            &is_left,
+            &text,
+            &held(is_left, "ab7-  c".to_string(alloc)?),
+        );
     }
     Ok(())
 }
 
 /// A line, the rest and a place of a text.
 #[test]
-fn readers(rt: HostRuntime) -> Result<(), Fail> {
+fn line_rest_and_place_are_read(rt: HostRuntime) -> Result<(), Fail> {
     let alloc = rt.alloc();
     let text = "hello\nworld";
     for is_left in SIDES {
         let mut line = Vec::new(alloc);
         let mut reader = held(is_left, Cursor::new(text));
-        assert_eq!(rt; reader.read_until(10, &mut line)?, 6);
-        assert_eq!(rt; line.as_slice(), b"hello\n".as_slice());
+        let count = reader.read_until(10, &mut line)?;
+        let want = (6, b"hello\n".as_slice());
+        same(
+            &rt,
+            "read_until",
+            &is_left,
+            &(count, line.as_slice()),
+            &want,
+        );
 
         let mut whole = Vec::new(alloc);
         let mut reader = held(is_left, Cursor::new(text));
-        assert_eq!(rt; reader.read_to_end(&mut whole)?, 11);
-        assert_eq!(rt; whole.as_slice(), text.as_bytes());
+        let count = reader.read_to_end(&mut whole)?;
+        let want = (11, text.as_bytes());
+        same(
+            &rt,
+            "read_to_end",
+            &is_left,
+            &(count, whole.as_slice()),
+            &want,
+        );
 
         let mut seeker = held(is_left, Cursor::new(text));
-        assert_eq!(rt; seeker.seek(SeekFrom::End(-5))?, 6);
-        assert_eq!(rt; seeker.stream_position()?, 6);
-        assert_eq!(rt; seeker.is_left(), is_left);
+        let places = (
+            seeker.seek(SeekFrom::End(-5))?,
+            seeker.stream_position()?,
+            seeker.is_left(),
+        );
+        same(&rt, "seek", &is_left, &places, &(6, 6, is_left));
     }
     Ok(())
 }
@@ -211,44 +269,92 @@ fn read_by<R: Read>(alloc: Global, reader: &mut R, size: usize) -> io::Result<Ve
     Ok(all)
 }
 
+// Through which side, and in pieces of which size.
+type Way = (bool, usize);
+
+// The bytes read so many at a time.
+fn check_read(rt: &impl Abort, alloc: Global, (is_left, size): Way) -> Result<(), Fail> {
+    let mut reader = held(is_left, Stream::new(alloc, BYTES, NEVER, NEVER)?);
+    let read = read_by(alloc, &mut reader, size)?;
+    same(rt, "read", &(is_left, size), &read.as_slice(), &BYTES);
+    Ok(())
+}
+
+// The first line and the rest of bytes that are shown so many at a time.
+fn check_shown(rt: &impl Abort, alloc: Global, (is_left, size): Way) -> Result<(), Fail> {
+    let mut short = held(is_left, Stream::new(alloc, BYTES, size, NEVER)?);
+    let mut line = Vec::new(alloc);
+    let counts = [
+        short.read_until(10, &mut line)?,
+        short.read_to_end(&mut line)?,
+    ];
+    let want = ([9, 29], BYTES);
+    same(
+        rt,
+        "read_until, read_to_end",
+        &(is_left, size),
+        &(counts, line.as_slice()),
+        &want,
+    );
+    Ok(())
+}
+
+// The bytes written so many at a time.
+fn check_written(rt: &impl Abort, alloc: Global, (is_left, size): Way) -> Result<(), Fail> {
+    let mut writer = held(is_left, Stream::new(alloc, &[], NEVER, NEVER)?);
+    for piece in BYTES.chunks(size.max(1)) {
+        same(
+            rt,
+            "write",
+            &(is_left, size),
+            &writer.write(piece)?,
+            &piece.len(),
+        );
+    }
+    let stayed = writer.is_left();
+    let bytes = writer.reduce().bytes;
+    same(
+        rt,
+        "write",
+        &(is_left, size),
+        &(stayed, bytes.as_slice()),
+        &(is_left, BYTES),
+    );
+    Ok(())
+}
+
+// The bytes copied to the other side with some behind them, where no call moves more at a time.
+fn check_copied(rt: &impl Abort, alloc: Global, (is_left, size): Way) -> Result<(), Fail> {
+    let mut from = held(is_left, Stream::new(alloc, BYTES, size, NEVER)?);
+    let mut to = held(!is_left, Stream::new(alloc, &[], size, NEVER)?);
+    let count = io::copy(&mut from, &mut to)?;
+    to.write_all(b"!")?;
+    write!(to, "{}", 12)?;
+    let copied = to.reduce().bytes;
+    let want = (
+        38,
+        b"one line\nanother, longer line\nthe last!12".as_slice(),
+    );
+    same(
+        rt,
+        "copy",
+        &(is_left, size),
+        &(count, copied.as_slice()),
+        &want,
+    );
+    Ok(())
+}
+
 /// Bytes pass unchanged in pieces of each size, through what is written here and through what `std` provides.
 #[test]
-fn pieces(rt: HostRuntime) -> Result<(), Fail> {
+fn bytes_pass_in_pieces_of_each_size(rt: HostRuntime) -> Result<(), Fail> {
     let alloc = rt.alloc();
     for is_left in SIDES {
         for size in 1..=9 {
-            let mut reader = held(is_left, Stream::new(alloc, BYTES, NEVER, NEVER)?);
-            let read = read_by(alloc, &mut reader, size)?;
-            assert_eq!(rt; read.as_slice(), BYTES, "read by {size}");
-
-            let mut short = held(is_left, Stream::new(alloc, BYTES, size, NEVER)?);
-            let mut line = Vec::new(alloc);
-            assert_eq!(rt; short.read_until(10, &mut line)?, 9);
-            assert_eq!(rt; short.read_to_end(&mut line)?, 29);
-            assert_eq!(rt; line.as_slice(), BYTES, "shown by {size}");
-
-            let mut writer = held(is_left, Stream::new(alloc, &[], NEVER, NEVER)?);
-            for piece in BYTES.chunks(size) {
-                assert_eq!(rt; writer.write(piece)?, piece.len());
-            }
-            assert_eq!(rt; writer.is_left(), is_left);
-            assert_eq!(rt;
-                writer.reduce().bytes.as_slice(),
-                BYTES,
-                "written by {size}"
-            );
-
-            let mut from = held(is_left, Stream::new(alloc, BYTES, size, NEVER)?);
-            let mut to = held(!is_left, Stream::new(alloc, &[], size, NEVER)?);
-            assert_eq!(rt; io::copy(&mut from, &mut to)?, 38);
-            to.write_all(b"!")?;
-            write!(to, "{}", 12)?;
-            let copied = to.reduce().bytes;
-            assert_eq!(rt;
-                copied.as_slice(),
-                b"one line\nanother, longer line\nthe last!12".as_slice(),
-                "copied by {size}"
-            );
+            check_read(&rt, alloc, (is_left, size))?;
+            check_shown(&rt, alloc, (is_left, size))?;
+            check_written(&rt, alloc, (is_left, size))?;
+            check_copied(&rt, alloc, (is_left, size))?;
         }
     }
     Ok(())
@@ -287,32 +393,46 @@ fn call_all<S: BufRead + Seek + Write>(alloc: Global, stream: &mut S) -> Result<
     Ok(log)
 }
 
+// Whether the stream that fails at this call fails on the way: through a side it answers as it does alone.
+fn check_fault(rt: &impl Abort, alloc: Global, is_left: bool, fault: usize) -> Result<bool, Fail> {
+    let mut alone = Stream::new(alloc, BYTES, 6, fault)?;
+    let want = call_all(alloc, &mut alone)?;
+    let mut stream = held(is_left, Stream::new(alloc, BYTES, 6, fault)?);
+    let log = call_all(alloc, &mut stream)?;
+    let has_failed = fault < alone.calls;
+    let is_told = log.contains("fails by TimedOut, the stream broke;");
+    same(
+        rt,
+        "calls",
+        &fault,
+        &(log, stream.is_left()),
+        &(want, is_left),
+    );
+    same(rt, "a fault", &fault, &is_told, &has_failed);
+    let inner = stream.reduce();
+    same(
+        rt,
+        "calls",
+        &fault,
+        &(inner.calls, inner.bytes),
+        &(alone.calls, alone.bytes),
+    );
+    Ok(has_failed)
+}
+
 /// A stream that fails at each of its calls in turn gives its own error, kind and text, and answers the calls around it as it does
 /// alone. The variant stays.
 #[test]
-fn streams_that_fail(rt: HostRuntime) -> Result<(), Fail> {
+fn failing_stream_gives_its_own_error(rt: HostRuntime) -> Result<(), Fail> {
     let alloc = rt.alloc();
     for is_left in SIDES {
         let mut faults = 0usize;
         for fault in 0..40 {
-            let mut alone = Stream::new(alloc, BYTES, 6, fault)?;
-            let want = call_all(alloc, &mut alone)?;
-            let mut stream = held(is_left, Stream::new(alloc, BYTES, 6, fault)?);
-            let log = call_all(alloc, &mut stream)?;
-            assert_eq!(rt; log, want, "call {fault} fails");
-            assert_eq!(rt; stream.is_left(), is_left);
-            let inner = stream.reduce();
-            assert_eq!(rt; inner.calls, alone.calls);
-            assert_eq!(rt; inner.bytes, alone.bytes);
-            assert_eq!(rt;
-                log.contains("fails by TimedOut, the stream broke;"),
-                fault < alone.calls
-            );
-            if fault < alone.calls {
+            if check_fault(&rt, alloc, is_left, fault)? {
                 faults = faults.saturating_add(1);
             }
         }
-        assert!(rt; 15 < faults && faults < 40);
+        assert!(rt; 15 < faults && faults < 40, "{faults} faults");
     }
     Ok(())
 }
@@ -337,7 +457,7 @@ impl fmt::Write for Narrow {
 
 /// A writer of texts that fails gives its error, and what it took before is what it has.
 #[test]
-fn writers_of_texts_that_fail(rt: HostRuntime) {
+fn failing_writer_of_texts_gives_its_error(rt: HostRuntime) {
     for is_left in SIDES {
         for room in 0..=6 {
             let mut writer = held(is_left, Narrow { room });
@@ -349,12 +469,15 @@ fn writers_of_texts_that_fail(rt: HostRuntime) {
                 } else {
                     Err(fmt::Error)
                 };
-                assert_eq!(rt;
-                    fmt::Write::write_str(&mut writer, text),
-                    want,
-                    "{text} in {room} bytes"
+                let came = fmt::Write::write_str(&mut writer, text);
+                same(&rt, text, &room, &came, &want);
+                same(
+                    &rt,
+                    text,
+                    &room,
+                    &writer,
+                    &held(is_left, Narrow { room: left }),
                 );
-                assert_eq!(rt; writer, held(is_left, Narrow { room: left }));
             }
         }
     }

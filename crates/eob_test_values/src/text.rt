@@ -1,5 +1,6 @@
 //! Tests: what values print, under the settings of a formatter, and into a writer that fails.
 
+use crate::same::same;
 use either_or_both::EitherOrBoth::{Both, Left, Right};
 use either_or_both::{Either, EitherOrBoth, TryFromOptionsError};
 use std::alloc::{AllocError, Global};
@@ -60,23 +61,26 @@ static FRACTIONS: [Row; 4] = [
     ("{:-<6.2}", "0.25--", "2.50--"),
 ];
 
+// The value prints so in this style.
 fn check_style(
     rt: &impl Abort,
     alloc: Global,
     style: &str,
-    value: &impl Display,
+    value: &(impl Display + Debug),
     want: &str,
 ) -> Result<(), AllocError> {
-    assert_eq!(rt;
-        printed(alloc, style, value)?.as_str(),
-        want,
-        "{style} of {value}"
+    same(
+        rt,
+        style,
+        value,
+        &printed(alloc, style, value)?.as_str(),
+        &want,
     );
     Ok(())
 }
 
 // A lone value prints as the row says, and both print `both` in every style.
-fn check_rows<L: Display + Copy, R: Display + Copy>(
+fn check_rows<L: Display + Debug + Copy, R: Display + Debug + Copy>(
     rt: &impl Abort,
     alloc: Global,
     held: (L, R),
@@ -84,7 +88,7 @@ fn check_rows<L: Display + Copy, R: Display + Copy>(
     rows: &[Row],
 ) -> Result<(), AllocError> {
     let (l, r) = held;
-    for (style, left, right) in rows.iter().copied() {
+    for (style, left, right) in rows {
         check_style(rt, alloc, style, &EitherOrBoth::<L, R>::Left(l), left)?;
         check_style(rt, alloc, style, &Both(l, r), both)?;
         check_style(rt, alloc, style, &EitherOrBoth::<L, R>::Right(r), right)?;
@@ -97,7 +101,7 @@ fn check_rows<L: Display + Copy, R: Display + Copy>(
 /// A lone value and an `Either` print as the held value does under the formatter's settings. Both print under default settings,
 /// the left value, a newline and the right one, whatever the formatter's settings are.
 #[test]
-fn settings(rt: HostRuntime) -> Result<(), Fail> {
+fn lone_values_print_under_settings_and_both_do_not(rt: HostRuntime) -> Result<(), Fail> {
     let alloc = rt.alloc();
     check_rows(&rt, alloc, (7u8, 8i64), "7\n8", &NUMBERS)?;
     check_rows(&rt, alloc, ("one", "other"), "one\nother", &TEXTS)?;
@@ -109,16 +113,25 @@ const REFUSAL: &str = "Either the left, right or both values must be present";
 
 /// The refusal of two absent values prints its text alone, whatever the settings are.
 #[test]
-fn settings_of_the_refusal(rt: HostRuntime) -> Result<(), Fail> {
+fn refusal_prints_its_text_under_all_settings(rt: HostRuntime) -> Result<(), Fail> {
     let alloc = rt.alloc();
     let refused = TryFromOptionsError;
-    assert_eq!(rt; format!(in alloc; "{refused}")?.as_str(), REFUSAL);
-    assert_eq!(rt; format!(in alloc; "{refused:>60}")?.as_str(), REFUSAL);
-    assert_eq!(rt; format!(in alloc; "{refused:*^70}")?.as_str(), REFUSAL);
-    assert_eq!(rt; format!(in alloc; "{refused:<060.3}")?.as_str(), REFUSAL);
-    assert_eq!(rt;
-        format!(in alloc; "{refused:?}")?.as_str(),
-        "TryFromOptionsError"
+    let printed = [
+        format!(in alloc; "{refused}")?,
+        format!(in alloc; "{refused:>60}")?,
+        format!(in alloc; "{refused:*^70}")?,
+        format!(in alloc; "{refused:<060.3}")?,
+    ];
+    for text in &printed {
+        same(&rt, "format", &refused, &text.as_str(), &REFUSAL);
+    }
+    let text = format!(in alloc; "{refused:?}")?;
+    same(
+        &rt,
+        "debug",
+        &refused,
+        &text.as_str(),
+        &"TryFromOptionsError",
     );
     Ok(())
 }
@@ -135,18 +148,36 @@ static DEBUG_OF_EITHER: [(Either<u8, char>, &str, &str); 2] = [
     (Either::Right('c'), "Right('c')", "Right(\n    'c',\n)"),
 ];
 
+// Each value shows as its row says, on one line and on several.
+fn check_debug<V: Debug>(
+    rt: &impl Abort,
+    alloc: Global,
+    rows: &[(V, &str, &str)],
+) -> Result<(), AllocError> {
+    for (value, short, long) in rows {
+        same(
+            rt,
+            "debug",
+            value,
+            &format!(in alloc; "{value:?}")?.as_str(),
+            short,
+        );
+        same(
+            rt,
+            "debug over lines",
+            value,
+            &format!(in alloc; "{value:#?}")?.as_str(),
+            long,
+        );
+    }
+    Ok(())
+}
+
 /// The debug text is the variant with what it holds.
 #[test]
-fn debug_texts(rt: HostRuntime) -> Result<(), Fail> {
-    let alloc = rt.alloc();
-    for (value, short, long) in DEBUG_OF_EITHER_OR_BOTH.iter().copied() {
-        assert_eq!(rt; format!(in alloc; "{value:?}")?.as_str(), short);
-        assert_eq!(rt; format!(in alloc; "{value:#?}")?.as_str(), long);
-    }
-    for (value, short, long) in DEBUG_OF_EITHER.iter().copied() {
-        assert_eq!(rt; format!(in alloc; "{value:?}")?.as_str(), short);
-        assert_eq!(rt; format!(in alloc; "{value:#?}")?.as_str(), long);
-    }
+fn debug_text_is_the_variant_with_its_values(rt: HostRuntime) -> Result<(), Fail> {
+    check_debug(&rt, rt.alloc(), &DEBUG_OF_EITHER_OR_BOTH)?;
+    check_debug(&rt, rt.alloc(), &DEBUG_OF_EITHER)?;
     Ok(())
 }
 
@@ -171,38 +202,36 @@ impl Write for Narrow {
     }
 }
 
-// Prints the value into writers with room for no byte, for one, and so on up to the whole text. Where the text finds room the
-// print succeeds, and else it gives the writer's error.
+// How a text ends in a writer with so much room: where it finds room the print succeeds, and else it gives the writer's error.
+fn ended(text: &str, room: usize) -> fmt::Result {
+    if room == text.len() {
+        Ok(())
+    } else {
+        Err(fmt::Error)
+    }
+}
+
+// Prints the value into writers with room for no byte, for one, and so on up to the whole text.
 fn check_narrow(rt: &impl Abort, value: &(impl Display + Debug), displayed: &str, debugged: &str) {
     for room in 0..=displayed.len() {
-        let want = if room == displayed.len() {
-            Ok(())
-        } else {
-            Err(fmt::Error)
-        };
-        assert_eq!(rt;
-            write!(Narrow { room }, "{value}"),
-            want,
-            "{value:?} in {room} bytes"
+        let came = write!(Narrow { room }, "{value}");
+        same(
+            rt,
+            "display",
+            &(value, room),
+            &came,
+            &ended(displayed, room),
         );
     }
     for room in 0..=debugged.len() {
-        let want = if room == debugged.len() {
-            Ok(())
-        } else {
-            Err(fmt::Error)
-        };
-        assert_eq!(rt;
-            write!(Narrow { room }, "{value:?}"),
-            want,
-            "{value:?} in {room} bytes"
-        );
+        let came = write!(Narrow { room }, "{value:?}");
+        same(rt, "debug", &(value, room), &came, &ended(debugged, room));
     }
 }
 
 /// A writer that fails gives its error back through the printing of a value.
 #[test]
-fn writers_that_fail(rt: HostRuntime) {
+fn error_of_a_failing_writer_comes_back(rt: HostRuntime) {
     check_narrow(&rt, &TryFromOptionsError, REFUSAL, "TryFromOptionsError");
     check_narrow(&rt, &EitherOrBoth::<u8>::Left(12), "12", "Left(12)");
     check_narrow(&rt, &Both(12, "word"), "12\nword", "Both(12, \"word\")");

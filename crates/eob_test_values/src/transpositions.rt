@@ -2,7 +2,8 @@
 
 use either_or_both::EitherOrBoth::{Both, Left, Right};
 use either_or_both::{Either, EitherOrBoth};
-use eob_testkit::rows::Calls;
+use eob_testkit::rows::{Calls, check_made, check_noted};
+use std::test::Fail;
 
 // The sum of two numbers, after a note of the call.
 fn sum(calls: &Calls, left: u8, right: u8) -> u8 {
@@ -12,58 +13,59 @@ fn sum(calls: &Calls, left: u8, right: u8) -> u8 {
 
 type Pairs = EitherOrBoth<(u8, char), (char, &'static str)>;
 
-/// A value, the first parts of its tuples, and their second parts.
-static TUPLES: [(Pairs, EitherOrBoth<u8, char>, EitherOrBoth<char, &str>); 3] = [
-    (Left((1, 'a')), Left(1), Left('a')),
-    (Both((1, 'a'), ('c', "b")), Both(1, 'c'), Both('a', "b")),
-    (Right(('c', "b")), Right('c'), Right("b")),
+/// A value, and the first parts of its tuples with their second parts.
+#[rattlefmt::skip]
+static TUPLES: [(Pairs, (EitherOrBoth<u8, char>, EitherOrBoth<char, &str>)); 3] = [
+    // value                     firsts       seconds
+    (Left((1, 'a')),             (Left(1),      Left('a'))),
+    (Both((1, 'a'), ('c', "b")), (Both(1, 'c'), Both('a', "b"))),
+    (Right(('c', "b")),          (Right('c'),   Right("b"))),
 ];
 
 type NumbersFirst = EitherOrBoth<(u8, char)>;
 
-static LIKE_TUPLES: [(NumbersFirst, EitherOrBoth<u8>, EitherOrBoth<char>); 3] = [
-    (Left((1, 'a')), Left(1), Left('a')),
-    (Both((1, 'a'), (2, 'b')), Both(1, 2), Both('a', 'b')),
-    (Right((2, 'b')), Right(2), Right('b')),
+/// The same of tuples of one type.
+#[rattlefmt::skip]
+static LIKE_TUPLES: [(NumbersFirst, (EitherOrBoth<u8>, EitherOrBoth<char>)); 3] = [
+    // value                   firsts      seconds
+    (Left((1, 'a')),           (Left(1),    Left('a'))),
+    (Both((1, 'a'), (2, 'b')), (Both(1, 2), Both('a', 'b'))),
+    (Right((2, 'b')),          (Right(2),   Right('b'))),
 ];
 
-/// A value, its first parts or their sum, its second parts, and the calls of the closure.
-static FIRSTS: [(NumbersFirst, u8, EitherOrBoth<char>, &str); 3] = [
-    (Left((1, 'a')), 1, Left('a'), ""),
-    (Both((1, 'a'), (2, 'b')), 3, Both('a', 'b'), "f(1, 2)"),
-    (Right((2, 'b')), 2, Right('b'), ""),
+/// A value, its first parts or their sum with its second parts, and the calls of the closure.
+#[rattlefmt::skip]
+static FIRSTS: [(NumbersFirst, (u8, EitherOrBoth<char>), &str); 3] = [
+    // value                   first and seconds    closure
+    (Left((1, 'a')),           (1, Left('a')),      ""),
+    (Both((1, 'a'), (2, 'b')), (3, Both('a', 'b')), "f(1, 2)"),
+    (Right((2, 'b')),          (2, Right('b')),     ""),
 ];
 
 type NumbersSecond = EitherOrBoth<(char, u8)>;
 
-/// A value, its first parts, its second parts or their sum, and the calls of the closure.
-static SECONDS: [(NumbersSecond, EitherOrBoth<char>, u8, &str); 3] = [
-    (Left(('a', 1)), Left('a'), 1, ""),
-    (Both(('a', 1), ('b', 2)), Both('a', 'b'), 3, "f(1, 2)"),
-    (Right(('b', 2)), Right('b'), 2, ""),
+/// A value, its first parts with its second parts or their sum, and the calls of the closure.
+#[rattlefmt::skip]
+static SECONDS: [(NumbersSecond, (EitherOrBoth<char>, u8), &str); 3] = [
+    // value                   firsts and second    closure
+    (Left(('a', 1)),           (Left('a'), 1),      ""),
+    (Both(('a', 1), ('b', 2)), (Both('a', 'b'), 3), "f(1, 2)"),
+    (Right(('b', 2)),          (Right('b'), 2),     ""),
 ];
 
 /// Of tuples, the first parts and the second parts keep the places of their tuples. The form for one side makes one value of
 /// the parts of that side, by its closure where there are two.
 #[test]
-fn tuples_of_either_or_both(rt: HostRuntime) {
-    let calls = Calls::new(rt.alloc());
-    for (value, firsts, seconds) in TUPLES.iter().copied() {
-        assert_eq!(rt; value.transpose(), (firsts, seconds), "{value:?}");
-    }
-    for (value, firsts, seconds) in LIKE_TUPLES.iter().copied() {
-        assert_eq!(rt; value.transpose(), (firsts, seconds), "{value:?}");
-    }
-    for (value, first, seconds, want_calls) in FIRSTS.iter().copied() {
-        let answer = value.transpose_left(|a, b| sum(&calls, a, b));
-        assert_eq!(rt; answer, (first, seconds), "{value:?}");
-        assert_eq!(rt; calls.take().as_str(), want_calls, "{value:?}");
-    }
-    for (value, firsts, second, want_calls) in SECONDS.iter().copied() {
-        let answer = value.transpose_right(|a, b| sum(&calls, a, b));
-        assert_eq!(rt; answer, (firsts, second), "{value:?}");
-        assert_eq!(rt; calls.take().as_str(), want_calls, "{value:?}");
-    }
+fn parts_of_tuples_keep_their_places(rt: HostRuntime) -> Result<(), Fail> {
+    let alloc = rt.alloc();
+    check_made("transpose", &TUPLES, |value| value.transpose())?;
+    check_made("transpose", &LIKE_TUPLES, |value| value.transpose())?;
+    check_noted(alloc, "transpose_left", &FIRSTS, |value, calls| {
+        value.transpose_left(|a, b| sum(calls, a, b))
+    })?;
+    check_noted(alloc, "transpose_right", &SECONDS, |value, calls| {
+        value.transpose_right(|a, b| sum(calls, a, b))
+    })
 }
 
 type Options = EitherOrBoth<Option<u8>, Option<char>>;
@@ -135,60 +137,54 @@ static CONTENTS: [(Numbers, Result<u8, Errors>, &str); 8] = [
 /// Of options, None where a place holds None. Of results, the errors in the places that err. The forms for one side make one
 /// value of two errors or of two contents, by their closure.
 #[test]
-fn options_and_results_of_either_or_both(rt: HostRuntime) {
-    let calls = Calls::new(rt.alloc());
-    for (value, want) in OPTIONS.iter().copied() {
-        assert_eq!(rt; value.transpose(), want, "{value:?}");
-    }
-    for (value, want) in RESULTS.iter().copied() {
-        assert_eq!(rt; value.transpose(), want, "{value:?}");
-    }
-    for (value, want, want_calls) in ERRORS.iter().copied() {
-        let answer = value.transpose_err(|a, b| sum(&calls, a, b));
-        assert_eq!(rt; answer, want, "{value:?}");
-        assert_eq!(rt; calls.take().as_str(), want_calls, "{value:?}");
-    }
-    for (value, want, want_calls) in CONTENTS.iter().copied() {
-        let answer = value.transpose_ok(|a, b| sum(&calls, a, b));
-        assert_eq!(rt; answer, want, "{value:?}");
-        assert_eq!(rt; calls.take().as_str(), want_calls, "{value:?}");
-    }
+fn options_and_results_change_places(rt: HostRuntime) -> Result<(), Fail> {
+    let alloc = rt.alloc();
+    check_made("transpose", &OPTIONS, |value| value.transpose())?;
+    check_made("transpose", &RESULTS, |value| value.transpose())?;
+    check_noted(alloc, "transpose_err", &ERRORS, |value, calls| {
+        value.transpose_err(|a, b| sum(calls, a, b))
+    })?;
+    check_noted(alloc, "transpose_ok", &CONTENTS, |value, calls| {
+        value.transpose_ok(|a, b| sum(calls, a, b))
+    })
 }
 
 type EitherPairs = Either<(u8, char), (char, &'static str)>;
 
-/// A tuple, its first part in its place, and its second part there.
+/// A tuple, and its first part in its place with its second part there.
 #[rattlefmt::skip]
-static EITHER_TUPLES: [(EitherPairs, Either<u8, char>, Either<char, &str>); 2] = [
+static EITHER_TUPLES: [(EitherPairs, (Either<u8, char>, Either<char, &str>)); 2] = [
     // value                    firsts              seconds
-    (Either::Left((1, 'a')),    Either::Left(1),    Either::Left('a')),
-    (Either::Right(('c', "b")), Either::Right('c'), Either::Right("b")),
+    (Either::Left((1, 'a')),    (Either::Left(1),    Either::Left('a'))),
+    (Either::Right(('c', "b")), (Either::Right('c'), Either::Right("b"))),
 ];
 
-/// A value, its first part, and its second part in its place.
-static EITHER_FIRSTS: [(Either<(&str, u8), (&str, char)>, &str, Either<u8, char>); 2] = [
-    (Either::Left(("t", 1)), "t", Either::Left(1)),
-    (Either::Right(("u", 'c')), "u", Either::Right('c')),
+/// A value, and its first part with its second part in its place.
+static EITHER_FIRSTS: [(Either<(char, u8), (char, char)>, (char, Either<u8, char>)); 2] = [
+    (Either::Left(('t', 1)), ('t', Either::Left(1))),
+    (Either::Right(('u', 'c')), ('u', Either::Right('c'))),
 ];
 
-/// A value, its first part in its place, and its second part.
-static EITHER_SECONDS: [(Either<(u8, &str), (char, &str)>, Either<u8, char>, &str); 2] = [
-    (Either::Left((1, "t")), Either::Left(1), "t"),
-    (Either::Right(('c', "u")), Either::Right('c'), "u"),
+/// A value, and its first part in its place with its second part.
+static EITHER_SECONDS: [(Either<(u8, char), (char, char)>, (Either<u8, char>, char)); 2] = [
+    (Either::Left((1, 't')), (Either::Left(1), 't')),
+    (Either::Right(('c', 'u')), (Either::Right('c'), 'u')),
 ];
 
 /// Of a tuple, both parts keep its place, but for the part of the side whose form is called.
 #[test]
-fn tuples_of_either(rt: HostRuntime) {
-    for (value, first, second) in EITHER_TUPLES.iter().copied() {
-        assert_eq!(rt; value.transpose(), (first, second), "{value:?}");
-    }
-    for (value, first, second) in EITHER_FIRSTS.iter().copied() {
-        assert_eq!(rt; value.transpose_left(), (first, second), "{value:?}");
-    }
-    for (value, first, second) in EITHER_SECONDS.iter().copied() {
-        assert_eq!(rt; value.transpose_right(), (first, second), "{value:?}");
-    }
+fn parts_of_a_tuple_keep_its_place() -> Result<(), Fail> {
+    check_made("transpose", &EITHER_TUPLES, |value| value.transpose())?;
+    check_made(
+        "transpose_left",
+        &EITHER_FIRSTS,
+        |value| value.transpose_left(),
+    )?;
+    check_made(
+        "transpose_right",
+        &EITHER_SECONDS,
+        |value| value.transpose_right(),
+    )
 }
 
 static EITHER_OPTIONS: [(Either<Option<u8>, Option<char>>, Option<Either<u8, char>>); 4] = [
@@ -226,17 +222,17 @@ static EITHER_CONTENTS: [(EitherNumbers, Result<u8, Either<char, &str>>); 4] = [
 /// Of an option, None where it is None. Of a result, its content or its error in its place, but for the side whose form is
 /// called.
 #[test]
-fn options_and_results_of_either(rt: HostRuntime) {
-    for (value, want) in EITHER_OPTIONS.iter().copied() {
-        assert_eq!(rt; value.transpose(), want, "{value:?}");
-    }
-    for (value, want) in EITHER_RESULTS.iter().copied() {
-        assert_eq!(rt; value.transpose(), want, "{value:?}");
-    }
-    for (value, want) in EITHER_ERRORS.iter().copied() {
-        assert_eq!(rt; value.transpose_err(), want, "{value:?}");
-    }
-    for (value, want) in EITHER_CONTENTS.iter().copied() {
-        assert_eq!(rt; value.transpose_ok(), want, "{value:?}");
-    }
+fn option_and_result_of_either_change_places() -> Result<(), Fail> {
+    check_made("transpose", &EITHER_OPTIONS, |value| value.transpose())?;
+    check_made("transpose", &EITHER_RESULTS, |value| value.transpose())?;
+    check_made(
+        "transpose_err",
+        &EITHER_ERRORS,
+        |value| value.transpose_err(),
+    )?;
+    check_made(
+        "transpose_ok",
+        &EITHER_CONTENTS,
+        |value| value.transpose_ok(),
+    )
 }

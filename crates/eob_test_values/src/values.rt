@@ -1,5 +1,6 @@
 //! Tests: the walks over the values of both enums, and what is held once their items were written through.
 
+use crate::same::same;
 use either_or_both::EitherOrBoth::{Both, Left, Right};
 use either_or_both::iter::{IntoIterEitherOrBoth, IterEitherOrBoth, IterMutEitherOrBoth};
 use either_or_both::iter_either::{IntoIterEither, IterEither, IterMutEither};
@@ -17,7 +18,8 @@ const BACK: bool = true;
 #[rattlefmt::skip]
 static OF_EITHER_OR_BOTH: [(EitherOrBoth<u8>, usize, &[Call]); 6] = [
     // value     count calls
-    (Both(1, 2), 2,    &[(BACK, Some(2), 1), (FRONT, Some(1), 0), (FRONT, None, 0), (BACK, None, 0), (FRONT, None, 0)]),
+    (Both(1, 2), 2,    &[(BACK, Some(2), 1), (FRONT, Some(1), 0), (FRONT, None, 0), (BACK, None, 0),
+                         (FRONT, None, 0)]),
     (Both(1, 2), 2,    &[(FRONT, Some(1), 1), (BACK, Some(2), 0), (BACK, None, 0), (FRONT, None, 0)]),
     (Both(1, 2), 2,    &[(FRONT, Some(1), 1), (FRONT, Some(2), 0), (BACK, None, 0), (FRONT, None, 0)]),
     (Both(1, 2), 2,    &[(BACK, Some(2), 1), (BACK, Some(1), 0), (FRONT, None, 0), (BACK, None, 0)]),
@@ -25,44 +27,59 @@ static OF_EITHER_OR_BOTH: [(EitherOrBoth<u8>, usize, &[Call]); 6] = [
     (Right(2),   1,    &[(FRONT, Some(2), 0), (FRONT, None, 0), (BACK, None, 0)]),
 ];
 
+// What a call of this end of a walk over the values of an `EitherOrBoth` answers.
+fn owned_answer(walk: &mut IntoIterEitherOrBoth<u8>, back: bool) -> Option<u8> {
+    if back { walk.next_back() } else { walk.next() }
+}
+
+fn lent_answer(walk: &mut IterEitherOrBoth<'_, u8>, back: bool) -> Option<u8> {
+    if back {
+        walk.next_back().copied()
+    } else {
+        walk.next().copied()
+    }
+}
+
+fn written_answer(walk: &mut IterMutEitherOrBoth<'_, u8>, back: bool) -> Option<u8> {
+    if back {
+        walk.next_back().copied()
+    } else {
+        walk.next().copied()
+    }
+}
+
 /// The values come from the end that is asked, each once, and the length and the hint are the number still to come. A walk by value,
 /// one by reference and one for writing do the same, and so does a clone that is taken on the way.
 #[test]
-fn calls_of_both_ends_of_either_or_both(rt: HostRuntime) -> Result<(), Fail> {
+fn each_value_comes_from_the_end_that_is_asked(rt: HostRuntime) -> Result<(), Fail> {
     for (value, count, calls) in OF_EITHER_OR_BOTH.iter().copied() {
         let mut held = value;
         let mut owned = value.into_iter();
         let mut lent = value.iter();
         let mut written = held.iter_mut();
         let lengths = [owned.len(), lent.len(), written.len()];
-        assert_eq!(rt; lengths, [count; 3], "{value:?}");
+        same(&rt, "len", &value, &lengths, &[count; 3]);
         for (back, answer, left) in calls.iter().copied() {
             let mut clone = owned.clone()?;
             let mut lent_clone = lent.clone()?;
-            let answers = if back {
-                [
-                    owned.next_back(),
-                    clone.next_back(),
-                    lent.next_back().copied(),
-                    lent_clone.next_back().copied(),
-                    written.next_back().copied(),
-                ]
-            } else {
-                [
-                    owned.next(),
-                    clone.next(),
-                    lent.next().copied(),
-                    lent_clone.next().copied(),
-                    written.next().copied(),
-                ]
-            };
-            assert_eq!(rt; answers, [answer; 5], "{value:?}");
-            let clones = [clone.len(), lent_clone.len()];
-            assert_eq!(rt; clones, [left; 2], "{value:?}");
-            let lengths = [owned.len(), lent.len(), written.len()];
-            assert_eq!(rt; lengths, [left; 3], "{value:?}");
+            let answers = [
+                owned_answer(&mut owned, back),
+                owned_answer(&mut clone, back),
+                lent_answer(&mut lent, back),
+                lent_answer(&mut lent_clone, back),
+                written_answer(&mut written, back),
+            ];
+            same(&rt, "a call", &value, &answers, &[answer; 5]);
+            let lengths = [
+                clone.len(),
+                lent_clone.len(),
+                owned.len(),
+                lent.len(),
+                written.len(),
+            ];
+            same(&rt, "len", &value, &lengths, &[left; 5]);
             let hints = [owned.size_hint(), lent.size_hint(), written.size_hint()];
-            assert_eq!(rt; hints, [(left, Some(left)); 3], "{value:?}");
+            same(&rt, "size_hint", &value, &hints, &[(left, Some(left)); 3]);
         }
     }
     Ok(())
@@ -70,15 +87,18 @@ fn calls_of_both_ends_of_either_or_both(rt: HostRuntime) -> Result<(), Fail> {
 
 /// A default walk has nothing to give.
 #[test]
-fn default_walks_over_values_of_either_or_both(rt: HostRuntime) {
+fn default_walks_give_nothing(rt: HostRuntime) {
     let mut owned = IntoIterEitherOrBoth::<u8>::default();
     assert_eq!(rt; owned.len(), 0);
-    assert_eq!(rt; owned.next(), None);
-    assert_eq!(rt; owned.next_back(), None);
-    assert_eq!(rt; IterEitherOrBoth::<u8>::default().next(), None);
-    assert_eq!(rt; IterEitherOrBoth::<u8>::default().next_back(), None);
-    assert_eq!(rt; IterMutEitherOrBoth::<u8>::default().next(), None);
-    assert_eq!(rt; IterMutEitherOrBoth::<u8>::default().next_back(), None);
+    let items = [
+        owned.next(),
+        owned.next_back(),
+        IterEitherOrBoth::<u8>::default().next().copied(),
+        IterEitherOrBoth::<u8>::default().next_back().copied(),
+        IterMutEitherOrBoth::<u8>::default().next().copied(),
+        IterMutEitherOrBoth::<u8>::default().next_back().copied(),
+    ];
+    assert_eq!(rt; items, [None; 6]);
 }
 
 /// A value, and what it holds once its values were written through the items of a walk.
@@ -90,18 +110,17 @@ static WRITTEN: [(EitherOrBoth<u8>, EitherOrBoth<u8>); 3] = [
 
 /// What is written through the items is what is held afterwards, from either end.
 #[test]
-fn values_of_either_or_both_are_written(rt: HostRuntime) {
-    for (value, want) in WRITTEN.iter().copied() {
-        let mut forward = value;
+fn items_of_either_or_both_are_written(rt: HostRuntime) {
+    for (value, want) in &WRITTEN {
+        let mut forward = *value;
         for item in forward.iter_mut() {
             *item = item.saturating_add(10);
         }
-        assert_eq!(rt; forward, want, "{value:?}");
-        let mut backward = value;
+        let mut backward = *value;
         for item in backward.iter_mut().rev() {
             *item = item.saturating_add(10);
         }
-        assert_eq!(rt; backward, want, "{value:?}");
+        same(&rt, "iter_mut", value, &[forward, backward], &[*want; 2]);
     }
     let mut pair = Both(1, 2);
     if let Some(last) = pair.iter_mut().next_back() {
@@ -110,9 +129,30 @@ fn values_of_either_or_both_are_written(rt: HostRuntime) {
     assert_eq!(rt; pair, Both(1, 20));
 }
 
+// What a call of this end of a walk over the value of an `Either` answers.
+fn owned_answer_of_either(walk: &mut IntoIterEither<u8>, back: bool) -> Option<u8> {
+    if back { walk.next_back() } else { walk.next() }
+}
+
+fn lent_answer_of_either(walk: &mut IterEither<'_, u8>, back: bool) -> Option<u8> {
+    if back {
+        walk.next_back().copied()
+    } else {
+        walk.next().copied()
+    }
+}
+
+fn written_answer_of_either(walk: &mut IterMutEither<'_, u8>, back: bool) -> Option<u8> {
+    if back {
+        walk.next_back().copied()
+    } else {
+        walk.next().copied()
+    }
+}
+
 /// The one value comes from the end that is asked first, and then nothing, whichever walk gives it.
 #[test]
-fn calls_of_both_ends_of_either(rt: HostRuntime) -> Result<(), Fail> {
+fn one_value_comes_from_the_end_asked_first(rt: HostRuntime) -> Result<(), Fail> {
     for (value, back) in [
         (Either::Left(1u8), FRONT),
         (Either::Left(1), BACK),
@@ -124,93 +164,148 @@ fn calls_of_both_ends_of_either(rt: HostRuntime) -> Result<(), Fail> {
         let mut lent = value.iter();
         let mut written = held.iter_mut();
         let lengths = [owned.len(), lent.len(), written.len()];
-        assert_eq!(rt; lengths, [1; 3], "{value:?}");
+        same(&rt, "len", &value, &lengths, &[1; 3]);
         for answer in [Some(1), None, None] {
             let mut clone = owned.clone()?;
             let mut lent_clone = lent.clone()?;
-            let answers = if back {
-                [
-                    owned.next_back(),
-                    clone.next_back(),
-                    lent.next_back().copied(),
-                    lent_clone.next_back().copied(),
-                    written.next_back().copied(),
-                ]
-            } else {
-                [
-                    owned.next(),
-                    clone.next(),
-                    lent.next().copied(),
-                    lent_clone.next().copied(),
-                    written.next().copied(),
-                ]
-            };
-            assert_eq!(rt; answers, [answer; 5], "{value:?}");
+            let answers = [
+                owned_answer_of_either(&mut owned, back),
+                owned_answer_of_either(&mut clone, back),
+                lent_answer_of_either(&mut lent, back),
+                lent_answer_of_either(&mut lent_clone, back),
+                written_answer_of_either(&mut written, back),
+            ];
+            same(&rt, "a call", &value, &answers, &[answer; 5]);
             let lengths = [owned.len(), lent.len(), written.len()];
-            assert_eq!(rt; lengths, [0; 3], "{value:?}");
+            same(&rt, "len", &value, &lengths, &[0; 3]);
             let hints = [owned.size_hint(), lent.size_hint(), written.size_hint()];
-            assert_eq!(rt; hints, [(0, Some(0)); 3], "{value:?}");
+            same(&rt, "size_hint", &value, &hints, &[(0, Some(0)); 3]);
         }
         let answers = [
             owned.next_back(),
             lent.next().copied(),
             written.next().copied(),
         ];
-        assert_eq!(rt; answers, [None; 3], "{value:?}");
+        same(&rt, "a call of the other end", &value, &answers, &[None; 3]);
     }
     Ok(())
 }
 
 /// A default walk over the value of an `Either` has nothing to give.
 #[test]
-fn default_walks_over_value_of_either(rt: HostRuntime) {
-    assert_eq!(rt; IntoIterEither::<u8>::default().len(), 0);
-    assert_eq!(rt; IntoIterEither::<u8>::default().next(), None);
-    assert_eq!(rt; IterEither::<u8>::default().len(), 0);
-    assert_eq!(rt; IterEither::<u8>::default().next_back(), None);
-    assert_eq!(rt; IterMutEither::<u8>::default().len(), 0);
-    assert_eq!(rt; IterMutEither::<u8>::default().next(), None);
+fn default_walks_of_either_give_nothing(rt: HostRuntime) {
+    let lengths = [
+        IntoIterEither::<u8>::default().len(),
+        IterEither::<u8>::default().len(),
+        IterMutEither::<u8>::default().len(),
+    ];
+    assert_eq!(rt; lengths, [0; 3]);
+    let items = [
+        IntoIterEither::<u8>::default().next(),
+        IterEither::<u8>::default().next_back().copied(),
+        IterMutEither::<u8>::default().next().copied(),
+    ];
+    assert_eq!(rt; items, [None; 3]);
 }
 
 /// The items of the held side come from both ends, alone or in the held variant, and the length is the number still to come. A clone
 /// of a walk that has begun goes on where it is.
 #[test]
-fn walks_of_held_side(rt: HostRuntime) -> Result<(), Fail> {
+fn items_of_the_held_side_come_from_both_ends(rt: HostRuntime) -> Result<(), Fail> {
     let right = Either::<Vec<u8>>::Right(vec![in rt.alloc(); 1, 2, 3]?);
     let mut inner = right.iter_inner();
-    assert_eq!(rt; inner.len(), 3);
-    assert_eq!(rt; inner.next(), Some(&1));
+    let length = inner.len();
+    let first = inner.next();
     let mut clone = inner.clone()?;
-    assert_eq!(rt; clone.next(), Some(&2));
-    assert_eq!(rt; clone.next(), Some(&3));
-    assert_eq!(rt; clone.next(), None);
-    assert_eq!(rt; inner.next_back(), Some(&3));
-    assert_eq!(rt; inner.size_hint(), (1, Some(1)));
-    assert_eq!(rt; inner.next_back(), Some(&2));
-    assert_eq!(rt; inner.next(), None);
-    assert_eq!(rt; inner.next_back(), None);
+    let cloned = [first, clone.next(), clone.next(), clone.next()];
+    same(
+        &rt,
+        "clone",
+        &right,
+        &cloned,
+        &[Some(&1), Some(&2), Some(&3), None],
+    );
+    let last = inner.next_back();
+    same(
+        &rt,
+        "len and size_hint",
+        &right,
+        &(length, inner.size_hint()),
+        &(3, (1, Some(1))),
+    );
+    let items = [last, inner.next_back(), inner.next(), inner.next_back()];
+    same(
+        &rt,
+        "iter_inner",
+        &right,
+        &items,
+        &[Some(&3), Some(&2), None, None],
+    );
+    Ok(())
+}
+
+/// The same of a walk that gives the items in the held variant.
+#[test]
+fn items_of_the_held_side_come_in_its_variant(rt: HostRuntime) -> Result<(), Fail> {
+    let right = Either::<Vec<u8>>::Right(vec![in rt.alloc(); 1, 2, 3]?);
     let mut swap = right.iter_swap();
-    assert_eq!(rt; swap.len(), 3);
-    assert_eq!(rt; swap.next(), Some(Either::Right(&1)));
+    let length = swap.len();
+    let first = swap.next();
     let mut clone = swap.clone()?;
-    assert_eq!(rt; clone.next_back(), Some(Either::Right(&3)));
-    assert_eq!(rt; clone.next(), Some(Either::Right(&2)));
-    assert_eq!(rt; clone.next(), None);
-    assert_eq!(rt; swap.next_back(), Some(Either::Right(&3)));
-    assert_eq!(rt; swap.size_hint(), (1, Some(1)));
-    assert_eq!(rt; swap.next(), Some(Either::Right(&2)));
-    assert_eq!(rt; swap.next(), None);
-    assert_eq!(rt; swap.next_back(), None);
+    let cloned = [first, clone.next_back(), clone.next(), clone.next()];
+    let [one, two, three] = [Either::Right(&1), Either::Right(&2), Either::Right(&3)];
+    same(
+        &rt,
+        "clone",
+        &right,
+        &cloned,
+        &[Some(one), Some(three), Some(two), None],
+    );
+    let last = swap.next_back();
+    same(
+        &rt,
+        "len and size_hint",
+        &right,
+        &(length, swap.size_hint()),
+        &(3, (1, Some(1))),
+    );
+    let items = [last, swap.next(), swap.next(), swap.next_back()];
+    same(
+        &rt,
+        "iter_swap",
+        &right,
+        &items,
+        &[Some(three), Some(two), None, None],
+    );
+    Ok(())
+}
+
+/// The same of walks that own the items, and of a left side.
+#[test]
+fn items_of_an_owned_side_come_from_both_ends(rt: HostRuntime) -> Result<(), Fail> {
+    let right = Either::<Vec<u8>>::Right(vec![in rt.alloc(); 1, 2, 3]?);
     let mut owned = right.into_iter_swap();
-    assert_eq!(rt; owned.next(), Some(Either::Right(1)));
-    assert_eq!(rt; owned.next_back(), Some(Either::Right(3)));
+    let items = [owned.next(), owned.next_back()];
+    let want = [Some(Either::Right(1)), Some(Either::Right(3))];
+    same(&rt, "into_iter_swap", &"Right([1, 2, 3])", &items, &want);
     let left = Either::<Vec<u8>>::Left(vec![in rt.alloc(); 4]?);
-    assert_eq!(rt; left.iter_swap().next(), Some(Either::Left(&4)));
+    same(
+        &rt,
+        "iter_swap",
+        &left,
+        &left.iter_swap().next(),
+        &Some(Either::Left(&4)),
+    );
     let mut owned = left.into_iter_inner();
-    assert_eq!(rt; owned.len(), 1);
-    assert_eq!(rt; owned.next(), Some(4));
-    assert_eq!(rt; owned.next(), None);
-    assert_eq!(rt; owned.next_back(), None);
+    let length = owned.len();
+    let items = [owned.next(), owned.next(), owned.next_back()];
+    same(
+        &rt,
+        "into_iter_inner",
+        &"Left([4])",
+        &(length, items),
+        &(1, [Some(4), None, None]),
+    );
     Ok(())
 }
 
@@ -221,21 +316,22 @@ fn items_of_either_are_written(rt: HostRuntime) -> Result<(), Fail> {
         (Either::Left(1u8), Either::Left(11u8)),
         (Either::Right(2), Either::Right(12)),
     ] {
-        let mut value = value;
-        for item in value.iter_mut() {
+        let mut changed = value;
+        for item in changed.iter_mut() {
             *item = item.saturating_add(10);
         }
-        assert_eq!(rt; value, want);
-        for item in &mut value {
+        same(&rt, "iter_mut", &value, &changed, &want);
+        for item in &mut changed {
             *item = 5;
         }
-        assert_eq!(rt; value.reduce(), 5);
+        same(&rt, "into_iter of &mut", &value, &changed.reduce(), &5);
     }
     let mut right = Either::<Vec<u8>>::Right(vec![in rt.alloc(); 1, 2]?);
     for item in right.iter_inner_mut() {
         *item = item.saturating_add(10);
     }
-    assert_eq!(rt; right, Either::Right(vec![in rt.alloc(); 11, 12]?));
+    let want = Either::Right(vec![in rt.alloc(); 11, 12]?);
+    same(&rt, "iter_inner_mut", &"Right([1, 2])", &right, &want);
     let mut left = Either::<Vec<u8>, Vec<char>>::Left(vec![in rt.alloc(); 1, 2]?);
     for item in left.iter_swap_mut() {
         match item {
@@ -243,6 +339,7 @@ fn items_of_either_are_written(rt: HostRuntime) -> Result<(), Fail> {
             Either::Right(letter) => *letter = 'z',
         }
     }
-    assert_eq!(rt; left, Either::Left(vec![in rt.alloc(); 21, 22]?));
+    let want = Either::Left(vec![in rt.alloc(); 21, 22]?);
+    same(&rt, "iter_swap_mut", &"Left([1, 2])", &left, &want);
     Ok(())
 }
