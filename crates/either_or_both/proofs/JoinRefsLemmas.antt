@@ -19,7 +19,7 @@ use Rattle.eob_both.specs.Places.{left_place, right_place, map_places}
 use Rattle.either_or_both.specs.declared.join.walk.JoinedPairs.{JoinedPairs}
 use Rattle.either_or_both.specs.Join.{Rising, IsJoin, value_under}
 use Rattle.either_or_both.specs.JoinLaws.{HasJoinCounts, deref_joined, shared_keys}
-use Rattle.either_or_both.specs.OuterJoin.{HoldsFirsts, IsJoinRun, IsShownJoinRun, ShowsJoin, ShowsPlaces, StepsFrom, join_steps}
+use Rattle.either_or_both.specs.OuterJoin.{BeginsJoin, BeginsJoinLaw, HoldsFirsts, IsJoinRun, IsShownJoinRun, ShowsJoin, ShowsPlaces, StepsFrom, join_steps}
 use Rattle.either_or_both.proofs.JoinLemmas.{join_counts, join_length, join_places}
 use Rattle.either_or_both.proofs.MergeLemmas.{IsJoin-merge, Up, by_order, merge, rising, up}
 use Rattle.either_or_both.proofs.OuterJoinLemmas.{both_ended, some_same}
@@ -34,6 +34,15 @@ module _ {W S T K A B : Type 0} {joins : W → Option (Bor K × EitherOrBoth (Bo
       let b = h.2.0 in
       let is = h.2.2 in
       (a, h.1, (b, h.2.1, (is.0, is.1, is.2, is.3, λ up_x up_y. shown_join cmp A B a.items b.items p.items (is.4 (shown_rises cmp A a.items up_x) (shown_rises cmp B b.items up_y)))))
+
+-- a beginning of a join, from the rows after it, and what it says
+begins : {K A B : Type 0} (cmp : K → K → Ordering) (xs : List (K × A)) (ys : List (K × B)) (zs rest : List (K × EitherOrBoth A B)) → IsJoin cmp xs ys (zs ++ rest) → BeginsJoin cmp xs ys zs
+unfolding BeginsJoin
+begins cmp xs ys zs rest is = (rest, is)
+
+pub begins_join : {K : Type 0} (cmp : K → K → Ordering) (A B : Type 0) → BeginsJoinLaw cmp A B
+unfolding BeginsJoin
+begins_join cmp A B xs ys zs = (λ h. h, λ h. h)
 
 -- what a side has still to give: the item that it holds, and then what is left of its iterator
 module _ {S A X : Type 0} (view : A → X) (rest : S → List X) where
@@ -193,7 +202,7 @@ module _ {S T K A B : Type 0} (cmp : K → K → Ordering) (lefts : S → List (
           whole,
           (λ k. subst (λ r. IfSome r (ShowsPlaces cmp xs ys)) (sym (at-is p k)) (places_at cmp xs ys p.items rest (join_places cmp o A B xs ys _ is) k)),
           rising cmp (λ k. ⊤) (map deref_joined p.items) (up_before cmp (λ k. ⊤) (map deref_joined p.items) rest (up cmp _ is.rises)),
-          (rest, is),
+          begins cmp xs ys _ rest is,
           (λ w. let all = join_length cmp o A B xs ys _ up_x up_y (whole w) in omega (arith, all, rows, p.long)),
           λ w. counts_shown cmp xs ys p.items (join_counts cmp o A B xs ys _ up_x up_y (whole w)),
         )

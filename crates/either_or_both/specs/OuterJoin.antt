@@ -1,5 +1,5 @@
 -- The sides, the steps and the runs of `OuterJoin`.
-use Rattle.std.specs.Prelude.{◌≡◌, ℕ, ◌<◌, ◌≤◌, ◌+◌, ◌^◌, true, List, ◌++◌, length, map, Option, Some, None, IfSome, SomeIff, option_map}
+use Rattle.std.specs.Prelude.{◌≡◌, ◌↔◌, ℕ, ◌<◌, ◌≤◌, ◌+◌, ◌^◌, true, List, ◌++◌, length, map, Option, Some, None, IfSome, SomeIff, option_map}
 use Rattle.std.specs.Borrow.{Bor}
 use Rattle.std.specs.Slice.Iter.{iter_rest}
 use Rattle.std.specs.Iterator.{Count, IsFinite, at_most, count_add, count_map}
@@ -109,9 +109,14 @@ abbrev pub ShowsPlaces : {K A B : Type 0} → (K → K → Ordering) → List (K
 ShowsPlaces cmp xs ys z = (option_map (λ a. a.now) (left_place z.1) ≡ value_under cmp xs z.0.now)
     × (option_map (λ b. b.now) (right_place z.1) ≡ value_under cmp ys z.0.now)
 
--- the rows are a beginning of the join
-abbrev pub BeginsJoin : {K A B : Type 0} → (K → K → Ordering) → List (K × A) → List (K × B) → List (K × EitherOrBoth A B) → Type 0
+-- the rows are a beginning of the join; `law_begins_join` opens it, since left open it led the search astray behind `take`
+unfoldable pub BeginsJoin : {K A B : Type 0} → (K → K → Ordering) → List (K × A) → List (K × B) → List (K × EitherOrBoth A B) → Type 0
 BeginsJoin {K} {A} {B} cmp xs ys zs = (rest : List (K × EitherOrBoth A B)) × IsJoin cmp xs ys (zs ++ rest)
+
+-- rows are a beginning of the join exactly where some rows after them make it whole
+abbrev pub BeginsJoinLaw : {K : Type 0} → (K → K → Ordering) → (A B : Type 0) → Type 0
+BeginsJoinLaw {K} cmp A B = (xs : List (K × A)) (ys : List (K × B)) (zs : List (K × EitherOrBoth A B))
+    → BeginsJoin cmp xs ys zs ↔ ((rest : List (K × EitherOrBoth A B)) × IsJoin cmp xs ys (zs ++ rest))
 
 -- p gave no more rows than both lists have; each shows what the two lists have under its key, their keys rise, and they are a
 -- beginning of the join; where p ended they are all of it, a row for each key of either list

@@ -12,8 +12,8 @@ mod walk;
 
 use crate::EitherOrBoth;
 pub use laws::{
-    law_first_call, law_join_both, law_join_counts, law_join_flip, law_join_length,
-    law_join_overlaid, law_join_places, law_join_sides, law_one_join, law_rising,
+    law_begins_join, law_first_call, law_join_both, law_join_counts, law_join_flip,
+    law_join_length, law_join_overlaid, law_join_places, law_join_sides, law_one_join, law_rising,
     law_rising_hash_map, law_rising_keys, law_rising_map, law_shown_join, law_shown_rises,
     law_sorted_rises,
 };

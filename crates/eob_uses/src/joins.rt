@@ -6,12 +6,12 @@ ghost use Rattle.std.specs.Option.{option_or, option_zip};
 ghost use Rattle.either_or_both.specs.Places.{from_places, left_place, right_place};
 ghost use Rattle.either_or_both.specs.Join.{IsJoin, Rising, value_under};
 ghost use Rattle.either_or_both.specs.JoinLaws.{deref_joined, overlaid, shared_keys};
-ghost use Rattle.either_or_both.specs.OuterJoin.{ShowsPlaces};
+ghost use Rattle.either_or_both.specs.OuterJoin.{BeginsJoin, ShowsPlaces};
 
 use either_or_both::EitherOrBoth;
 use either_or_both::join::{
-    law_join_overlaid, law_rising_hash_map, law_rising_map, law_sorted_rises, outer_join,
-    outer_join_lazily, outer_join_slices,
+    law_first_call, law_join_overlaid, law_rising_hash_map, law_rising_map, law_sorted_rises,
+    outer_join, outer_join_lazily, outer_join_slices,
 };
 use indexmap::IndexMap;
 use std::alloc::{AllocError, Global};
@@ -90,6 +90,35 @@ pub fn nth_row<'a, K: Ord, A, B>(
     ensures { IfSome result (ShowsPlaces K.cmp left.now right.now) }
 {
     outer_join_slices(left, right).nth(n)
+}
+
+/// The first row, by `next`.
+pub fn first_row<'a, K: Ord, A, B>(
+    left: &'a [(K, A)],
+    right: &'a [(K, B)],
+) -> Option<(&'a K, EitherOrBoth<&'a A, &'a B>)>
+    requires left { Rising K.cmp left.now }
+    requires right { Rising K.cmp right.now }
+    ensures { IfSome result (ShowsPlaces K.cmp left.now right.now) }
+{
+    let mut rows = outer_join_slices(left, right);
+    law_first_call(&rows);
+    rows.next()
+}
+
+/// The first `n` rows, or all where there are no more: a beginning of the join.
+pub fn first_rows<'a, K: Ord, A, B>(
+    alloc: Global,
+    left: &'a [(K, A)],
+    right: &'a [(K, B)],
+    n: usize,
+) -> Result<Vec<(&'a K, EitherOrBoth<&'a A, &'a B>)>, AllocError>
+    requires left { Rising K.cmp left.now }
+    requires right { Rising K.cmp right.now }
+    ensures begins { IfOk result (λ rows. BeginsJoin K.cmp left.now right.now (map deref_joined rows.items)) }
+    ensures most { IfOk result (λ rows. length rows.items ≤ n) }
+{
+    outer_join_slices(left, right).take(n).collect(alloc)
 }
 
 /// The join of two lists as an ordered map, which has under each key what the two lists have there.

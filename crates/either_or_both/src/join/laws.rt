@@ -7,6 +7,7 @@ ghost use Rattle.either_or_both.specs.JoinLaws.{JoinLengthLaw, JoinPlacesLaw};
 ghost use Rattle.either_or_both.specs.JoinLaws.{JoinSidesLaw, OneJoinLaw, RisingEqMapLaw, RisingKeysLaw};
 ghost use Rattle.either_or_both.specs.JoinLaws.{RisingLaw, RisingMapLaw, ShownJoinLaw};
 ghost use Rattle.either_or_both.specs.JoinLaws.{ShownRisesLaw, SortedRisesLaw, overlaid};
+ghost use Rattle.either_or_both.specs.OuterJoin.{BeginsJoinLaw};
 
 use crate::EitherOrBoth;
 
@@ -82,8 +83,15 @@ pub fn law_rising_hash_map<K: Ord, V>()
 {}
 
 /// What a clause says of the runs of an iterator, it says of the first call of `next`. Called before that call, on the iterator.
+// The conclusion repeats the call, since the search takes a law only at a term that shows all its variables.
 pub fn law_first_call<I: Iterator>(_walk: &I)
-    ensures { (r : _) (t : I) → I.next_gives _walk.now r t → IsCallRun I.next_gives _walk.now r }
+    ensures { (r : _) (t : I) → I.next_gives _walk.now r t
+        → I.next_gives _walk.now r t × IsCallRun I.next_gives _walk.now r }
+{}
+
+/// Rows are a beginning of a join exactly where some rows after them make it whole.
+pub fn law_begins_join<K: Ord, A, B>()
+    ensures { BeginsJoinLaw K.cmp A B }
 {}
 
 /// A list of references rises where what it shows does.
