@@ -1,64 +1,8 @@
 //! What the command line asks for.
 
 use clap::{Arg, ArgAction, ArgMatches, Command, Error};
+use eob_csv::{Form, Kind, Request, Settings};
 use std::alloc::{AllocError, Global};
-
-/// How tables are written: the byte between cells, and whether the first row is a header. Where it is not, columns are named by number.
-#[derive(Clone, Copy)]
-pub struct Form {
-    pub delimiter: u8,
-    pub has_header: bool,
-}
-
-/// What all requests may set: how tables are written, the names of the columns that are the key, whether rows come out in the order of the
-/// files and not in that of their keys, whether rows with the same key are a group, and whether tables are read as they rise.
-#[derive(Clone, Copy)]
-pub struct Settings<'a> {
-    pub form: Form,
-    pub key: Option<&'a str>,
-    pub keeps_order: bool,
-    pub groups: bool,
-    pub rises: bool,
-}
-
-/// Which rows a join has, of which tables.
-#[derive(Clone, Copy)]
-pub enum Kind {
-    Outer,
-    Inner,
-    Left,
-    Right,
-    Semi,
-    Anti,
-}
-
-/// What is asked for, of files by name.
-#[derive(Clone, Copy)]
-pub enum Request<'a> {
-    /// What changed, as a table that a person reads, or as CSV that `Apply` takes.
-    Diff {
-        old: &'a str,
-        new: &'a str,
-        csv: bool,
-    },
-    /// A table with changes made to it.
-    Apply {
-        old: &'a str,
-        changes: &'a str,
-    },
-    /// Two versions of a table merged over their base.
-    Merge {
-        base: &'a str,
-        ours: &'a str,
-        theirs: &'a str,
-    },
-    /// Two tables joined by key.
-    Join {
-        left: &'a str,
-        right: &'a str,
-        kind: Kind,
-    },
-}
 
 /// The request that the words of a command line make, with its settings, or None for them where the delimiter is not one byte that may
 /// stand between cells. `Error` has the text for words that make no request, and for help.
@@ -66,15 +10,7 @@ pub fn parse<'a>(
     alloc: Global,
     words: &'a [String],
 ) -> Result<(Option<Settings<'a>>, Request<'a>), Error> {
-    let command = Command::new(alloc, "eob_diff")
-        .version("0.1.0")
-        .about("Compares, changes, merges and joins tables of CSV by key.")
-        .subcommand_required(true)
-        .subcommand(diff_command(alloc)?)?
-        .subcommand(apply_command(alloc)?)?
-        .subcommand(merge_command(alloc)?)?
-        .subcommand(join_command(alloc)?)?;
-    let matches = command.try_get_matches_from(words)?;
+    let matches = command(alloc)?.try_get_matches_from(words)?;
     match matches.subcommand() {
         Some((name, matches)) => Ok((settings_of(matches), request_of(name, matches))),
         None => Err(Error::from(AllocError)),
@@ -106,65 +42,6 @@ fn request_of<'a>(name: &str, matches: &ArgMatches<'a>) -> Request<'a> {
     }
 }
 
-fn diff_command<'a>(alloc: Global) -> Result<Command<'a>, AllocError> {
-    let format = Arg::new(alloc, "format")
-        .long("format")
-        .value_name("table|csv")
-        .value_parser(["table", "csv"].as_slice())
-        .default_value("table")
-        .help("A table to read, or CSV that apply takes");
-    let command = Command::new(alloc, "diff")
-        .about("Prints the rows that changed. Status 0: none did, 1: some did, 2: trouble.")
-        .arg(file(alloc, "OLD", "The old table; - is the standard input"))?
-        .arg(file(alloc, "NEW", "The new table; - is the standard input"))?
-        .arg(format)?
-        .arg(sorted_flag(alloc)?)?;
-    with_settings(alloc, command)
-}
-
-fn apply_command<'a>(alloc: Global) -> Result<Command<'a>, AllocError> {
-    let command = Command::new(alloc, "apply")
-        .about(
-            "Prints a table with changes made to it. Status 0: all fit, 1: some do not, 2: trouble.",
-        )
-        .arg(file(alloc, "OLD", "The table; - is the standard input"))?
-        .arg(file(
-            alloc,
-            "CHANGES",
-            "What diff --format csv printed; - is the standard input",
-        ))?;
-    with_settings(alloc, command)
-}
-
-fn merge_command<'a>(alloc: Global) -> Result<Command<'a>, AllocError> {
-    let command = Command::new(alloc, "merge")
-        .about(
-            "Prints two versions of a table merged over their base. Status 0: merged, 1: rows in conflict, 2: trouble.",
-        )
-        .arg(file(alloc, "BASE", "The base; - is the standard input"))?
-        .arg(file(alloc, "OURS", "Our version; - is the standard input"))?
-        .arg(file(alloc, "THEIRS", "Their version; - is the standard input"))?;
-    with_settings(alloc, command)
-}
-
-fn join_command<'a>(alloc: Global) -> Result<Command<'a>, AllocError> {
-    let kind = Arg::new(alloc, "kind")
-        .long("kind")
-        .value_name("KIND")
-        .value_parser(["outer", "inner", "left", "right", "semi", "anti"].as_slice())
-        .default_value("outer")
-        .help(
-            "Which rows: of either table, of both, of the left, of the right; semi and anti: of the left, with its cells alone",
-        );
-    let command = Command::new(alloc, "join")
-        .about("Prints two tables joined by key as CSV. Status 0, or 2: trouble.")
-        .arg(file(alloc, "LEFT", "The left table; - is the standard input"))?
-        .arg(file(alloc, "RIGHT", "The right table; - is the standard input"))?
-        .arg(kind)?
-        .arg(sorted_flag(alloc)?)?;
-    with_settings(alloc, command)
-}
-
 fn kind_of(name: &str) -> Kind {
     match name {
         "inner" => Kind::Inner,
@@ -176,49 +53,149 @@ fn kind_of(name: &str) -> Kind {
     }
 }
 
-fn file<'a>(alloc: Global, name: &'a str, help: &'a str) -> Arg<'a> {
-    Arg::new(alloc, name).required(true).help(help)
+// A command below the program's: its name, what it prints, and the files that it takes, each with its help.
+type Below<'a> = (&'a str, &'a str, &'a [(&'a str, &'a str)]);
+
+const COMMANDS: [Below<'static>; 4] = [
+    (
+        "diff",
+        "Prints the rows that changed. Status 0: none did, 1: some did, 2: trouble.",
+        &[
+            ("OLD", "The old table; - is the standard input"),
+            ("NEW", "The new table; - is the standard input"),
+        ],
+    ),
+    (
+        "apply",
+        "Prints a table with changes made to it. Status 0: all fit, 1: some do not, 2: trouble.",
+        &[
+            ("OLD", "The table; - is the standard input"),
+            (
+                "CHANGES",
+                "What diff --format csv printed; - is the standard input",
+            ),
+        ],
+    ),
+    (
+        "merge",
+        "Prints two versions of a table merged over their base. Status 0: merged, 1: rows in conflict, 2: trouble.",
+        &[
+            ("BASE", "The base; - is the standard input"),
+            ("OURS", "Our version; - is the standard input"),
+            ("THEIRS", "Their version; - is the standard input"),
+        ],
+    ),
+    (
+        "join",
+        "Prints two tables joined by key as CSV. Status 0, or 2: trouble.",
+        &[
+            ("LEFT", "The left table; - is the standard input"),
+            ("RIGHT", "The right table; - is the standard input"),
+        ],
+    ),
+];
+
+// The options that are set or not: the name of each, and its help.
+const FLAGS: [(&str, &str); 3] = [
+    (
+        "no-header",
+        "The first row is no header: columns are named 1, 2 and so on",
+    ),
+    (
+        "keep-order",
+        "Rows come out in the order of the files, and not in that of their keys",
+    ),
+    (
+        "group",
+        "Keys may repeat: rows with the same key are a group",
+    ),
+];
+
+fn command<'a>(alloc: Global) -> Result<Command<'a>, AllocError> {
+    let mut command = Command::new(alloc, "eob_diff")
+        .version("0.1.0")
+        .about("Compares, changes, merges and joins tables of CSV by key.")
+        .subcommand_required(true);
+    for below in COMMANDS {
+        let subcommand = subcommand(alloc, below)?;
+        command = command.subcommand(subcommand)?;
+    }
+    Ok(command)
 }
 
-fn with_settings<'a>(alloc: Global, command: Command<'a>) -> Result<Command<'a>, AllocError> {
-    command
-        .arg(
-            Arg::new(alloc, "key")
-                .long("key")
-                .value_name("COLUMN[,COLUMN..]")
-                .help("The columns that are the key; the first column else"),
-        )?
-        .arg(
-            Arg::new(alloc, "delimiter")
-                .long("delimiter")
-                .value_name("BYTE")
-                .default_value(",")
-                .help("The byte between cells"),
-        )?
-        .arg(flag(
-            alloc,
-            "no-header",
-            "The first row is no header: columns are named 1, 2 and so on",
-        ))?
-        .arg(flag(
-            alloc,
-            "keep-order",
-            "Rows come out in the order of the files, and not in that of their keys",
-        ))?
-        .arg(flag(
-            alloc,
-            "group",
-            "Keys may repeat: rows with the same key are a group",
-        ))
+fn subcommand<'a>(alloc: Global, below: Below<'a>) -> Result<Command<'a>, AllocError> {
+    let (name, about, files) = below;
+    let mut args = Vec::new(alloc);
+    for file in files {
+        args.push(Arg::new(alloc, file.0).required(true).help(file.1))?;
+    }
+    put_options(alloc, &mut args, name)?;
+    put_settings(alloc, &mut args)?;
+    Command::new(alloc, name).about(about).args(args)
 }
 
-fn sorted_flag<'a>(alloc: Global) -> Result<Arg<'a>, AllocError> {
+// Puts the options that a command has beside the settings of all.
+fn put_options<'a>(alloc: Global, args: &mut Vec<Arg<'a>>, name: &str) -> Result<(), AllocError> {
+    match name {
+        "diff" => args.push(format(alloc))?,
+        "join" => args.push(kind(alloc))?,
+        _ => return Ok(()),
+    }
+    args.push(sorted(alloc)?)?;
+    Ok(())
+}
+
+fn format<'a>(alloc: Global) -> Arg<'a> {
+    Arg::new(alloc, "format")
+        .long("format")
+        .value_name("table|csv")
+        .value_parser(["table", "csv"].as_slice())
+        .default_value("table")
+        .help("A table to read, or CSV that apply takes")
+}
+
+fn kind<'a>(alloc: Global) -> Arg<'a> {
+    Arg::new(alloc, "kind")
+        .long("kind")
+        .value_name("KIND")
+        .value_parser(["outer", "inner", "left", "right", "semi", "anti"].as_slice())
+        .default_value("outer")
+        .help(
+            "Which rows: of either table, of both, of the left, of the right; semi and anti: of the left, with its cells alone",
+        )
+}
+
+fn sorted<'a>(alloc: Global) -> Result<Arg<'a>, AllocError> {
     let sorted = flag(
         alloc,
         "sorted",
         "The keys of both tables rise: they are joined as they are read, in memory that does not grow",
     );
     sorted.conflicts_with("group")?.conflicts_with("keep-order")
+}
+
+fn put_settings<'a>(alloc: Global, args: &mut Vec<Arg<'a>>) -> Result<(), AllocError> {
+    args.push(key(alloc))?;
+    args.push(delimiter(alloc))?;
+    for (name, help) in FLAGS {
+        args.push(flag(alloc, name, help))?;
+    }
+    Ok(())
+}
+
+fn key<'a>(alloc: Global) -> Arg<'a> {
+    Arg::new(alloc, "key")
+        .long("key")
+        .value_name("COLUMN[,COLUMN..]")
+        .help("The columns that are the key; the first column else")
+}
+
+fn delimiter<'a>(alloc: Global) -> Arg<'a> {
+    Arg::new(alloc, "delimiter")
+        .long("delimiter")
+        .value_name("BYTE")
+        .default_value(",")
+        .help("The byte between cells")
 }
 
 fn flag<'a>(alloc: Global, name: &'a str, help: &'a str) -> Arg<'a> {

@@ -1,10 +1,11 @@
 //! Tables written as CSV, whole, in memory.
 
-use crate::arguments::Form;
+use crate::columns::Columns;
 use crate::fault::Reason;
-use crate::table::{Cells, Columns, Group};
+use crate::request::Form;
 use csv::{Writer, WriterBuilder};
 use eob_joins::Change;
+use eob_tables::{Cells, Group};
 use std::alloc::Global;
 
 /// A table in the making.

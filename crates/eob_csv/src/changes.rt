@@ -1,12 +1,10 @@
-//! What changed between two tables, and how that is shown.
-ghost use Rattle.std.specs.Prelude.{IfOk};
-ghost use Rattle.eob_joins.specs.Changes.{changed};
-ghost use Rattle.eob_joins.specs.Tables.{IsKeptOfJoin};
+//! What changed between two tables, as a person reads it.
 
-use crate::lined_up::{Grid, Shown, line_up};
-use crate::table::{Cells, Columns, Group, Rows, place_of};
+use crate::columns::{Columns, place_of};
+use crate::lined_up::{Grid, Line, Shown, line_up, put_shown};
 use either_or_both::EitherOrBoth;
-use eob_joins::{Change, diff, group_join_unordered};
+use eob_joins::{Change, group_join_unordered};
+use eob_tables::{Cells, Group};
 use std::alloc::{AllocError, Global};
 use std::fmt::Write;
 
@@ -20,17 +18,6 @@ struct Counts {
     removed: usize,
     changed: usize,
     same: usize,
-}
-
-/// The rows of the join of both tables that changed, which are all that is printed.
-pub fn changes_of<K: Ord + Drop, V: Eq + Drop>(
-    alloc: Global,
-    old: Rows<K, V>,
-    new: Rows<K, V>,
-) -> Result<Vec<(K, Change<V>)>, AllocError>
-    ensures { IfOk result (λ rows. IsKeptOfJoin K.cmp (changed V.eq) old.pairs.items new.pairs.items rows.items) }
-{
-    diff(alloc, old.pairs, new.pairs)
 }
 
 /// The changes as text that a person reads: what is said of columns, the rows that changed, and the counts. The old table had this many
@@ -189,36 +176,44 @@ fn is_same_order(old: &[Vec<u8>], new: &[Vec<u8>]) -> bool {
 }
 
 /// The names of the columns, behind an empty cell.
-pub fn heading(alloc: Global, columns: &Columns) -> Result<Vec<String>, AllocError> {
+pub fn heading(alloc: Global, columns: &Columns) -> Result<Line, AllocError> {
+    let mut line = line_under(alloc, "", &columns.key)?;
+    put_shown(alloc, &mut line, &columns.rest)?;
+    Ok(line)
+}
+
+/// A line that begins with a word and the cells of a key.
+pub fn line_under(alloc: Global, word: &str, key: &[Vec<u8>]) -> Result<Line, AllocError> {
     let mut line = Vec::new(alloc);
-    line.push(String::new(alloc))?;
-    for name in columns.key.iter().chain(columns.rest.iter()) {
-        line.push(format!(in alloc; "{}", Shown(name))?)?;
-    }
+    line.push(String::from_str(alloc, word)?)?;
+    put_shown(alloc, &mut line, key)?;
     Ok(line)
 }
 
 // The line of a row that changed.
-fn line_of(alloc: Global, row: &RowChange<'_>) -> Result<Vec<String>, AllocError> {
+fn line_of(alloc: Global, row: &RowChange<'_>) -> Result<Line, AllocError> {
     let (key, change) = *row;
-    let mut line = Vec::new(alloc);
-    line.push(String::from_str(alloc, mark(change))?)?;
-    for cell in key {
-        line.push(format!(in alloc; "{}", Shown(cell))?)?;
-    }
+    let mut line = line_under(alloc, mark(change), key)?;
     match change {
         EitherOrBoth::Left(cells) | EitherOrBoth::Right(cells) => {
-            for cell in cells {
-                line.push(format!(in alloc; "{}", Shown(cell))?)?;
-            }
+            put_shown(alloc, &mut line, cells)?
         }
-        EitherOrBoth::Both(old, new) => {
-            for (cell, next) in old.iter().zip(new.iter()) {
-                line.push(changed_cell(alloc, cell, next)?)?;
-            }
-        }
+        EitherOrBoth::Both(old, new) => put_changed(alloc, &mut line, old, new)?,
     }
     Ok(line)
+}
+
+// Puts the cells of both versions of a row.
+fn put_changed(
+    alloc: Global,
+    line: &mut Line,
+    old: &[Vec<u8>],
+    new: &[Vec<u8>],
+) -> Result<(), AllocError> {
+    for (cell, next) in old.iter().zip(new.iter()) {
+        line.push(changed_cell(alloc, cell, next)?)?;
+    }
+    Ok(())
 }
 
 // What is said of a row that changed.

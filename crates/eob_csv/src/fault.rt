@@ -1,6 +1,7 @@
 //! What can be wrong with an input, and the line that says so.
 
 use crate::lined_up::Shown;
+use eob_tables::{Cells, Ungathered};
 use std::alloc::{AllocError, AllocFailed};
 use std::{fmt, io};
 
@@ -30,7 +31,7 @@ pub enum Reason {
     NeedsCsv,
     TwiceStdin,
     RepeatedKey {
-        key: Vec<Vec<u8>>,
+        key: Cells,
         first: u64,
         second: u64,
     },
@@ -45,6 +46,17 @@ impl From<AllocError> for Reason {
 impl<T: Drop> From<AllocFailed<T>> for Reason {
     fn from(_refused: AllocFailed<T>) -> Self {
         Reason::NoMemory
+    }
+}
+
+impl From<Ungathered> for Reason {
+    fn from(error: Ungathered) -> Self {
+        match error {
+            Ungathered::NoMemory => Reason::NoMemory,
+            Ungathered::RepeatedKey { key, first, second } => {
+                Reason::RepeatedKey { key, first, second }
+            }
+        }
     }
 }
 
@@ -81,6 +93,22 @@ impl fmt::Display for Fault<'_> {
     }
 }
 
+// The cells of a key, with commas between them.
+#[derive(Clone, Copy)]
+struct ShownKey<'a>(&'a [Vec<u8>]);
+
+impl fmt::Display for ShownKey<'_> {
+    fn fmt<W: fmt::Write>(&self, f: &mut fmt::Formatter<W>) -> fmt::Result {
+        for (place, cell) in self.0.iter().enumerate() {
+            if place > 0 {
+                f.write_char(',')?;
+            }
+            write!(f, "{}", Shown(cell))?;
+        }
+        Ok(())
+    }
+}
+
 impl fmt::Display for Reason {
     fn fmt<W: fmt::Write>(&self, f: &mut fmt::Formatter<W>) -> fmt::Result {
         match self {
@@ -108,14 +136,11 @@ impl fmt::Display for Reason {
                 "line {line}: {found} cells, and there are {expected} columns"
             ),
             Reason::RepeatedKey { key, first, second } => {
-                write!(f, "line {second}: the key ")?;
-                for (place, cell) in key.iter().enumerate() {
-                    if place > 0 {
-                        write!(f, ",")?;
-                    }
-                    write!(f, "{}", Shown(cell))?;
-                }
-                write!(f, " stands on line {first} too")
+                write!(
+                    f,
+                    "line {second}: the key {} stands on line {first} too",
+                    ShownKey(key)
+                )
             }
         }
     }

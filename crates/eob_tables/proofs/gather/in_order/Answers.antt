@@ -1,7 +1,7 @@
 use Rattle.std.proofs.lemmas.List.Sorted.{answers_always, ranks_by}
 use Rattle.std.proofs.Common.{rules}
 use Rattle.eob_joins.proofs.GroupLemmas.{below, ordered_sorted}
-use Rattle.eob_diff.proofs.read.in_order.Goals as goal
+use Rattle.eob_tables.proofs.gather.in_order.Goals as goal
 
 pub returns : goal.returns
 returns g c =

@@ -1,14 +1,10 @@
 //! From a reader to a table: the header first, and then the rows under the columns that are asked for.
-ghost use Rattle.std.specs.Prelude.{IfOk};
-ghost use Rattle.eob_joins.specs.Groups.{Ordered};
 
-use crate::arguments::Form;
+use crate::columns::{Columns, place_of};
 use crate::fault::Reason;
-use crate::order::Order;
-use crate::table::{Cells, Columns, Group, Rows, place_of};
+use crate::request::Form;
 use csv::{ByteRecord, Reader, ReaderBuilder};
-use either_or_both::join::is_rising;
-use eob_joins::group_by_key;
+use eob_tables::{Cells, Group, Order, ReadRow, Rows, gathered};
 use std::alloc::{AllocError, Global};
 use std::io::Read;
 
@@ -43,22 +39,16 @@ impl<R: Read + Drop> Source<R> {
             .from_reader(alloc, reader);
         let mut record = ByteRecord::new(alloc);
         let is_there = reader.read_byte_record(&mut record)?;
-        if form.has_header && !is_there {
-            return Err(Reason::NoHeader);
-        }
-        let header = if form.has_header {
-            names_of(alloc, &record, before)?
+        let header = header_of(alloc, form, before, &record, is_there)?;
+        let first = if form.has_header || !is_there {
+            None
         } else {
-            numbers(alloc, record.len().saturating_sub(before))?
+            Some(record)
         };
         Ok(Source {
             alloc,
             reader,
-            first: if form.has_header || !is_there {
-                None
-            } else {
-                Some(record)
-            },
+            first,
             before,
             header,
         })
@@ -67,52 +57,47 @@ impl<R: Read + Drop> Source<R> {
     /// Reads the rows, and gathers them by key, of which no two rows have the same unless keys may repeat. A cell of a column that the
     /// header lacks is empty.
     pub fn read_rows(
-        mut self,
+        &mut self,
         columns: &Columns,
         order: &mut Order,
         repeats: bool,
     ) -> Result<Rows<Cells, Group>, Reason> {
         let places = self.places(columns)?;
-        let mut rows = Vec::new(self.alloc);
         let mut record = ByteRecord::new(self.alloc);
+        let mut rows = Vec::new(self.alloc);
         for _ in 0..u64::MAX {
-            if !self.read_record(&mut record)? {
-                break;
+            match self.read_row(&places, &mut record)? {
+                Some(row) => note_and_push(order, &mut rows, row)?,
+                None => break,
             }
-            let row = places.pick_row(self.alloc, &record)?;
-            order.note(&row.0)?;
-            rows.push(row)?;
         }
-        gathered(self.alloc, rows, repeats)
+        Ok(gathered(self.alloc, rows, repeats)?)
     }
 
     /// Reads the rows of changes, and gathers them by key: those whose first cell is `-`, which go, and those where it is `+`, which come.
     pub fn read_changes(
-        mut self,
+        &mut self,
         columns: &Columns,
         order: &mut Order,
         repeats: bool,
     ) -> Result<(Rows<Cells, Group>, Rows<Cells, Group>), Reason> {
         let places = self.places(columns)?;
+        let mut record = ByteRecord::new(self.alloc);
         let mut gone = Vec::new(self.alloc);
         let mut come = Vec::new(self.alloc);
-        let mut record = ByteRecord::new(self.alloc);
         for _ in 0..u64::MAX {
-            if !self.read_record(&mut record)? {
+            let Some(row) = self.read_row(&places, &mut record)? else {
                 break;
-            }
-            let row = places.pick_row(self.alloc, &record)?;
-            order.note(&row.0)?;
+            };
             match record.get(0) {
-                Some(b"-") => gone.push(row)?,
-                Some(b"+") => come.push(row)?,
+                Some(b"-") => note_and_push(order, &mut gone, row)?,
+                Some(b"+") => note_and_push(order, &mut come, row)?,
                 _ => return Err(Reason::NoSign(line_of(&record))),
             }
         }
-        Ok((
-            gathered(self.alloc, gone, repeats)?,
-            gathered(self.alloc, come, repeats)?,
-        ))
+        let gone = gathered(self.alloc, gone, repeats)?;
+        let come = gathered(self.alloc, come, repeats)?;
+        Ok((gone, come))
     }
 
     /// Where the cells of these columns stand in a row.
@@ -120,8 +105,20 @@ impl<R: Read + Drop> Source<R> {
         Places::new(self.alloc, &self.header, self.before, columns)
     }
 
-    /// Reads the next row, if there is one.
-    pub fn read_record(&mut self, record: &mut ByteRecord) -> Result<bool, Reason> {
+    /// Reads the next row, if there is one, by way of a record.
+    pub fn read_row(
+        &mut self,
+        places: &Places,
+        record: &mut ByteRecord,
+    ) -> Result<Option<ReadRow>, Reason> {
+        if self.read_record(record)? {
+            Ok(Some(places.pick_row(self.alloc, record)?))
+        } else {
+            Ok(None)
+        }
+    }
+
+    fn read_record(&mut self, record: &mut ByteRecord) -> Result<bool, Reason> {
         match self.first.take() {
             Some(first) => {
                 *record = first;
@@ -130,6 +127,34 @@ impl<R: Read + Drop> Source<R> {
             None => Ok(self.reader.read_byte_record(record)?),
         }
     }
+}
+
+// The header, of which the first row is the record, if there is one.
+fn header_of(
+    alloc: Global,
+    form: Form,
+    before: usize,
+    record: &ByteRecord,
+    is_there: bool,
+) -> Result<Cells, Reason> {
+    if !form.has_header {
+        return Ok(numbers(alloc, record.len().saturating_sub(before))?);
+    }
+    if is_there {
+        names_of(alloc, record, before)
+    } else {
+        Err(Reason::NoHeader)
+    }
+}
+
+fn note_and_push(
+    order: &mut Order,
+    rows: &mut Vec<ReadRow>,
+    row: ReadRow,
+) -> Result<(), AllocError> {
+    order.note(&row.0)?;
+    rows.push(row)?;
+    Ok(())
 }
 
 // The names in a header, behind the cells that stand before them.
@@ -181,12 +206,8 @@ impl Places {
         })
     }
 
-    /// The key of a record, its line, and its other cells.
-    pub fn pick_row(
-        &self,
-        alloc: Global,
-        record: &ByteRecord,
-    ) -> Result<(Cells, (u64, Cells)), AllocError> {
+    // The key of a record, its line, and its other cells.
+    fn pick_row(&self, alloc: Global, record: &ByteRecord) -> Result<ReadRow, AllocError> {
         let key = pick(alloc, record, &self.key)?;
         let rest = pick(alloc, record, &self.rest)?;
         Ok((key, (line_of(record), rest)))
@@ -226,74 +247,4 @@ fn pick(alloc: Global, record: &ByteRecord, places: &[Option<usize>]) -> Result<
         cells.push(Vec::from_slice(alloc, cell)?)?;
     }
     Ok(cells)
-}
-
-/// The rows by key. Where keys may not repeat, no two have the same.
-pub fn gathered(
-    alloc: Global,
-    mut rows: Vec<(Cells, (u64, Cells))>,
-    repeats: bool,
-) -> Result<Rows<Cells, Group>, Reason> {
-    if repeats {
-        return Ok(grouped(alloc, rows)?);
-    }
-    rows.sort_by(|row, next| row.0.cmp(&next.0))?;
-    let mut pairs = Vec::with_capacity(alloc, rows.len())?;
-    let mut lines = Vec::with_capacity(alloc, rows.len())?;
-    for (key, (line, cells)) in rows {
-        let mut group = Vec::with_capacity(alloc, 1)?;
-        group.push(cells)?;
-        pairs.push((key, group))?;
-        lines.push(line)?;
-    }
-    if is_rising(&pairs) {
-        Ok(Rows { pairs })
-    } else {
-        Err(repeated_key(alloc, &pairs, &lines)?)
-    }
-}
-
-// The rows in groups by key, each in the order of its cells.
-fn grouped(
-    alloc: Global,
-    rows: Vec<(Cells, (u64, Cells))>,
-) -> Result<Rows<Cells, Group>, AllocError> {
-    let mut pairs = Vec::with_capacity(alloc, rows.len())?;
-    for (key, (_line, cells)) in rows {
-        pairs.push((key, cells))?;
-    }
-    pairs.sort_by(|row, next| row.1.cmp(&next.1))?;
-    let pairs = in_order(pairs)?;
-    let pairs = group_by_key(alloc, pairs)?;
-    Ok(Rows { pairs })
-}
-
-// The rows in the order of their keys, those under a key as they stood.
-fn in_order<K: Ord + Drop, V: Drop>(mut rows: Vec<(K, V)>) -> Result<Vec<(K, V)>, AllocError>
-    ensures { IfOk result (λ sorted. Ordered K.cmp sorted.items) }
-{
-    rows.sort_by(|row, next| row.0.cmp(&next.0))?;
-    Ok(rows)
-}
-
-// The first key that stands twice, with both of its lines.
-fn repeated_key(
-    alloc: Global,
-    pairs: &[(Cells, Group)],
-    lines: &[u64],
-) -> Result<Reason, AllocError> {
-    let mut key: Cells = Vec::new(alloc);
-    let mut place = 0;
-    for (number, pair) in pairs.iter().enumerate() {
-        if pair.0 == key {
-            place = number;
-            break;
-        }
-        key = pair.0.clone()?;
-    }
-    Ok(Reason::RepeatedKey {
-        key,
-        first: lines.get(place.saturating_sub(1)).copied().unwrap_or(0),
-        second: lines.get(place).copied().unwrap_or(0),
-    })
 }

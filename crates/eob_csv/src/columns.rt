@@ -1,21 +1,8 @@
-//! Tables in memory: the names of their columns, and their rows by key.
-ghost use Rattle.either_or_both.specs.Join.{Rising};
-ghost use Rattle.eob_diff.specs.RisingRows.{Rising-prop};
+//! The columns of tables: from headers to the columns of what is written.
 
+use crate::request::Settings;
+use eob_tables::Cells;
 use std::alloc::{AllocError, Global};
-
-/// Cells side by side: the key of a row, the rest of it, or the names of columns.
-pub type Cells = Vec<Vec<u8>>;
-
-/// The rows under a key, without the key: one, or where keys repeat all of them, in order.
-pub type Group = Vec<Cells>;
-
-/// Rows by key, whose keys rise: each key stands once.
-#[derive(Drop)]
-pub struct Rows<K: Ord, V> {
-    pub pairs: Vec<(K, V)>,
-    ghost rises: { Rising K.cmp pairs.items } by { Rising-prop K.cmp pairs.items },
-}
 
 /// The names of a table's columns: those that are its key, the others, and in which order they are written.
 #[derive(Drop)]
@@ -90,4 +77,57 @@ fn add_names(names: &mut Cells, header: &[Vec<u8>]) -> Result<(), AllocError> {
         }
     }
     Ok(())
+}
+
+/// The names of the columns of both tables, whose keys have the same names.
+#[derive(Drop)]
+pub struct JoinColumns {
+    pub left: Columns,
+    pub right: Columns,
+}
+
+/// The columns of all tables, with the key that is set or else the first column.
+pub fn columns_of(
+    alloc: Global,
+    settings: Settings<'_>,
+    headers: &[&[Vec<u8>]],
+) -> Result<Columns, AllocError> {
+    let key = match settings.key {
+        Some(names) => split_names(alloc, names)?,
+        None => first_name(alloc, headers)?,
+    };
+    Columns::new(alloc, key, headers)
+}
+
+fn split_names(alloc: Global, names: &str) -> Result<Cells, AllocError> {
+    let mut key = Vec::new(alloc);
+    for name in names.split(',') {
+        key.push(Vec::from_slice(alloc, name.as_bytes())?)?;
+    }
+    Ok(key)
+}
+
+// The first column, if there is one: an empty file with no header has none.
+fn first_name(alloc: Global, headers: &[&[Vec<u8>]]) -> Result<Cells, AllocError> {
+    let mut key = Vec::new(alloc);
+    for header in headers {
+        if let Some(name) = header.first() {
+            key.push(name.clone()?)?;
+            break;
+        }
+    }
+    Ok(key)
+}
+
+/// The columns of two tables, with the key of the left one.
+pub fn join_columns(
+    alloc: Global,
+    settings: Settings<'_>,
+    left: &[Vec<u8>],
+    right: &[Vec<u8>],
+) -> Result<JoinColumns, AllocError> {
+    let left = columns_of(alloc, settings, &[left])?;
+    let key = copy_cells(alloc, &left.key)?;
+    let right = Columns::new(alloc, key, &[right])?;
+    Ok(JoinColumns { left, right })
 }

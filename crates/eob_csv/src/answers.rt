@@ -1,0 +1,187 @@
+//! The answer to each request, from tables whose headers are read.
+
+use crate::changes::{ColumnChanges, count_rows, report};
+use crate::columns::{Columns, columns_of, join_columns};
+use crate::fault::{Fault, Reason};
+use crate::joined::Joining;
+use crate::merged::render_conflicts;
+use crate::opened::{Opened, at};
+use crate::patch::misfits;
+use crate::request::{Form, Kind, Settings};
+use crate::written::{write_changes, write_table};
+use eob_joins::Merged;
+use eob_tables::{Cells, Group, Order, Rows, changes_of, merge_of, paired, patched};
+use std::alloc::{AllocError, Global};
+use std::io::Read;
+
+/// What stands on the output, and the status that the program ends with.
+#[derive(Drop)]
+pub struct Answer {
+    pub bytes: Vec<u8>,
+    pub status: u8,
+}
+
+/// The answer to `diff`.
+pub fn compare<'a, A: Read + Drop, B: Read + Drop>(
+    alloc: Global,
+    settings: Settings<'a>,
+    csv: bool,
+    mut old: Opened<'a, A>,
+    mut new: Opened<'a, B>,
+) -> Result<Answer, Fault<'a>> {
+    let headers = [old.source.header.as_slice(), new.source.header.as_slice()];
+    let columns = at(old.file, columns_of(alloc, settings, &headers))?;
+    let said = ColumnChanges::new(alloc, &old.source.header, &new.source.header);
+    let said = at(new.file, said)?;
+    let mut order = order_of(alloc, settings);
+    let left = old.read_rows(&columns, &mut order, settings.groups)?;
+    let right = new.read_rows(&columns, &mut order, settings.groups)?;
+    let form = if csv { Some(settings.form) } else { None };
+    at(
+        new.file,
+        compared(alloc, form, &columns, &said, &order, (left, right)),
+    )
+}
+
+// The changes between two tables, as CSV of a form or else as a person reads them.
+fn compared(
+    alloc: Global,
+    form: Option<Form>,
+    columns: &Columns,
+    said: &ColumnChanges,
+    order: &Order,
+    tables: (Rows<Cells, Group>, Rows<Cells, Group>),
+) -> Result<Answer, Reason> {
+    let (old, new) = tables;
+    let rows = count_rows(&old.pairs);
+    let changes = order.arrange(changes_of(alloc, old, new)?)?;
+    let bytes = match form {
+        Some(form) => write_changes(alloc, form, columns, &changes)?,
+        None => report(alloc, columns, &said.text, rows, &changes)?,
+    };
+    let is_same = changes.is_empty() && !said.has_lone;
+    Ok(Answer {
+        bytes,
+        status: if is_same { 0 } else { 1 },
+    })
+}
+
+/// The answer to `apply`.
+pub fn change<'a, A: Read + Drop, B: Read + Drop>(
+    alloc: Global,
+    settings: Settings<'a>,
+    mut old: Opened<'a, A>,
+    mut changes: Opened<'a, B>,
+) -> Result<Answer, Fault<'a>> {
+    let headers = [
+        old.source.header.as_slice(),
+        changes.source.header.as_slice(),
+    ];
+    let columns = at(old.file, columns_of(alloc, settings, &headers))?;
+    let mut order = order_of(alloc, settings);
+    let rows = old.read_rows(&columns, &mut order, settings.groups)?;
+    let changed_rows = changes.read_changes(&columns, &mut order, settings.groups)?;
+    at(
+        changes.file,
+        changed(alloc, settings.form, &columns, &order, rows, changed_rows),
+    )
+}
+
+fn changed(
+    alloc: Global,
+    form: Form,
+    columns: &Columns,
+    order: &Order,
+    old: Rows<Cells, Group>,
+    changes: (Rows<Cells, Group>, Rows<Cells, Group>),
+) -> Result<Answer, Reason> {
+    let changes = paired(alloc, changes.0, changes.1)?;
+    let misfits = misfits(alloc, columns, &old, &changes)?;
+    if !misfits.is_empty() {
+        return Ok(Answer {
+            bytes: misfits.into_bytes(),
+            status: 1,
+        });
+    }
+    let rows = order.arrange(patched(alloc, old, changes)?)?;
+    Ok(Answer {
+        bytes: write_table(alloc, form, columns, &rows)?,
+        status: 0,
+    })
+}
+
+/// The answer to `merge`.
+pub fn merge<'a, A: Read + Drop, B: Read + Drop, C: Read + Drop>(
+    alloc: Global,
+    settings: Settings<'a>,
+    mut base: Opened<'a, A>,
+    mut ours: Opened<'a, B>,
+    mut theirs: Opened<'a, C>,
+) -> Result<Answer, Fault<'a>> {
+    let headers = [
+        base.source.header.as_slice(),
+        ours.source.header.as_slice(),
+        theirs.source.header.as_slice(),
+    ];
+    let columns = at(base.file, columns_of(alloc, settings, &headers))?;
+    // The base is not written: rows come out in the order of ours, and then in that of theirs.
+    let mut order = order_of(alloc, settings);
+    let our_rows = ours.read_rows(&columns, &mut order, settings.groups)?;
+    let their_rows = theirs.read_rows(&columns, &mut order, settings.groups)?;
+    let base_rows = base.read_rows(&columns, &mut Order::by_key(), settings.groups)?;
+    let merge = merge_of(alloc, base_rows, our_rows, their_rows);
+    at(
+        theirs.file,
+        merged(alloc, settings.form, &columns, &order, merge),
+    )
+}
+
+fn merged(
+    alloc: Global,
+    form: Form,
+    columns: &Columns,
+    order: &Order,
+    merge: Result<Merged<Cells, Group>, AllocError>,
+) -> Result<Answer, Reason> {
+    match merge? {
+        Merged::Whole(rows) => Ok(Answer {
+            bytes: write_table(alloc, form, columns, &order.arrange(rows)?)?,
+            status: 0,
+        }),
+        Merged::Conflicts(rows) => Ok(Answer {
+            bytes: render_conflicts(alloc, columns, &order.arrange(rows)?)?.into_bytes(),
+            status: 1,
+        }),
+    }
+}
+
+/// The answer to `join`.
+pub fn join<'a, A: Read + Drop, B: Read + Drop>(
+    alloc: Global,
+    settings: Settings<'a>,
+    kind: Kind,
+    mut left: Opened<'a, A>,
+    mut right: Opened<'a, B>,
+) -> Result<Answer, Fault<'a>> {
+    let columns = join_columns(alloc, settings, &left.source.header, &right.source.header);
+    let columns = at(left.file, columns)?;
+    let mut order = order_of(alloc, settings);
+    let left_rows = left.read_rows(&columns.left, &mut order, settings.groups)?;
+    let right_rows = right.read_rows(&columns.right, &mut order, settings.groups)?;
+    let joining = Joining {
+        alloc,
+        form: settings.form,
+        columns: &columns,
+        order: &order,
+    };
+    let bytes = at(right.file, joining.write(kind, left_rows, right_rows))?;
+    Ok(Answer { bytes, status: 0 })
+}
+
+fn order_of(alloc: Global, settings: Settings<'_>) -> Order {
+    if settings.keeps_order {
+        Order::by_file(alloc)
+    } else {
+        Order::by_key()
+    }
+}

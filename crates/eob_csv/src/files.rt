@@ -1,0 +1,148 @@
+//! From the files that a request names to its answer.
+
+use crate::answers::{Answer, change, compare, join, merge};
+use crate::fault::{Fault, Reason};
+use crate::opened::{Opened, at};
+use crate::request::{Request, Settings};
+use crate::sorted::{compare_sorted, join_sorted};
+use either_or_both::Either;
+use std::io::Write;
+use std::rt::Files;
+use std::{fs, io};
+
+/// Writes the answer to a request, all of it or nothing of it where something is wrong with an input, and returns the status.
+pub fn write_request<'a, R: Files + Input + AllocGlobal, W: Write>(
+    rt: &R,
+    settings: Settings<'a>,
+    request: Request<'a>,
+    output: &mut W,
+) -> Result<u8, Fault<'a>> {
+    let answer = answer_request(rt, settings, request)?;
+    at("the standard output", write_whole(output, &answer.bytes))?;
+    Ok(answer.status)
+}
+
+/// Writes the answer to a request while its tables are read, whose keys rise, and returns the status.
+pub fn stream_request<'a, R: Files + Input + AllocGlobal, W: Write>(
+    rt: &R,
+    settings: Settings<'a>,
+    request: Request<'a>,
+    output: &mut W,
+) -> Result<u8, Fault<'a>> {
+    match request {
+        Request::Diff {
+            old,
+            new,
+            csv: true,
+        } => {
+            let (old, new) = open_two(rt, settings, old, new)?;
+            compare_sorted(rt.alloc(), settings, old, new, output)
+        }
+        Request::Join { left, right, kind } => {
+            let (left, right) = open_two(rt, settings, left, right)?;
+            join_sorted(rt.alloc(), settings, kind, left, right, output)
+        }
+        _ => Err(Fault {
+            file: "--sorted",
+            reason: Reason::NeedsCsv,
+        }),
+    }
+}
+
+/// Writes all bytes, as far as the output takes them.
+pub fn write_whole<W: Write>(output: &mut W, bytes: &[u8]) -> io::Result<()> {
+    output.write_all(bytes)?;
+    output.flush()
+}
+
+/// The answer to a request, of the files that it names.
+pub fn answer_request<'a, R: Files + Input + AllocGlobal>(
+    rt: &R,
+    settings: Settings<'a>,
+    request: Request<'a>,
+) -> Result<Answer, Fault<'a>> {
+    match request {
+        Request::Diff { old, new, csv } => {
+            let (old, new) = open_two(rt, settings, old, new)?;
+            compare(rt.alloc(), settings, csv, old, new)
+        }
+        Request::Apply { old, changes } => {
+            check_stdin(&[old, changes])?;
+            let old = open(rt, settings, old)?;
+            let changes = open_changes(rt, settings, changes)?;
+            change(rt.alloc(), settings, old, changes)
+        }
+        Request::Merge { base, ours, theirs } => {
+            check_stdin(&[base, ours, theirs])?;
+            let base = open(rt, settings, base)?;
+            let ours = open(rt, settings, ours)?;
+            let theirs = open(rt, settings, theirs)?;
+            merge(rt.alloc(), settings, base, ours, theirs)
+        }
+        Request::Join { left, right, kind } => {
+            let (left, right) = open_two(rt, settings, left, right)?;
+            join(rt.alloc(), settings, kind, left, right)
+        }
+    }
+}
+
+// One of the files at most is the standard input.
+fn check_stdin<'a>(files: &[&'a str]) -> Result<(), Fault<'a>> {
+    if files.iter().filter(|file| **file == "-").count() > 1 {
+        Err(Fault {
+            file: "-",
+            reason: Reason::TwiceStdin,
+        })
+    } else {
+        Ok(())
+    }
+}
+
+type Stream<R> = Either<<R as Files>::File, <R as Input>::Reader>;
+
+// A file or the standard input, with its header read.
+type File<'a, R> = Opened<'a, Stream<R>>;
+
+// Two tables, with their headers read.
+fn open_two<'a, R: Files + Input + AllocGlobal>(
+    rt: &R,
+    settings: Settings<'a>,
+    first: &'a str,
+    second: &'a str,
+) -> Result<(File<'a, R>, File<'a, R>), Fault<'a>> {
+    check_stdin(&[first, second])?;
+    let first = open(rt, settings, first)?;
+    let second = open(rt, settings, second)?;
+    Ok((first, second))
+}
+
+// A table, with its header read.
+fn open<'a, R: Files + Input + AllocGlobal>(
+    rt: &R,
+    settings: Settings<'a>,
+    file: &'a str,
+) -> Result<File<'a, R>, Fault<'a>> {
+    let stream = at(file, stream_of(rt, file))?;
+    Opened::table(rt.alloc(), settings, file, stream)
+}
+
+// A table of changes, with its header read.
+fn open_changes<'a, R: Files + Input + AllocGlobal>(
+    rt: &R,
+    settings: Settings<'a>,
+    file: &'a str,
+) -> Result<File<'a, R>, Fault<'a>> {
+    let stream = at(file, stream_of(rt, file))?;
+    Opened::changes(rt.alloc(), settings, file, stream)
+}
+
+// The file, or the standard input where its name is `-`.
+fn stream_of<R: Files + Input>(rt: &R, file: &str) -> Result<Stream<R>, Reason> {
+    if file == "-" {
+        return Ok(Either::Right(rt.reader()));
+    }
+    match fs::open(rt, file) {
+        Ok(opened) => Ok(Either::Left(opened)),
+        Err(error) => Err(Reason::Io(error)),
+    }
+}

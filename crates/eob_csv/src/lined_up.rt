@@ -1,0 +1,82 @@
+//! Text as a person reads it in a terminal: a cell on one line, and cells lined up in columns.
+
+use std::alloc::{AllocError, Global};
+use std::fmt;
+use unicode_width::UnicodeWidthStr;
+
+/// Bytes as text on one line: control characters are escaped, and so are bytes that are no UTF-8.
+#[derive(Clone, Copy)]
+pub struct Shown<'a>(pub &'a [u8]);
+
+impl fmt::Display for Shown<'_> {
+    fn fmt<W: fmt::Write>(&self, f: &mut fmt::Formatter<W>) -> fmt::Result {
+        for chunk in self.0.utf8_chunks() {
+            for c in chunk.valid().chars() {
+                if c.is_control() {
+                    write!(f, "{}", c.escape_debug())?;
+                } else {
+                    f.write_char(c)?;
+                }
+            }
+            for byte in chunk.invalid() {
+                write!(f, "\\x{byte:02x}")?;
+            }
+        }
+        Ok(())
+    }
+}
+
+/// A line of cells.
+pub type Line = Vec<String>;
+
+/// Lines of cells.
+pub type Grid = Vec<Line>;
+
+/// Puts cells behind those of a line.
+pub fn put_shown(alloc: Global, line: &mut Line, cells: &[Vec<u8>]) -> Result<(), AllocError> {
+    for cell in cells {
+        let shown = format!(in alloc; "{}", Shown(cell))?;
+        line.push(shown)?;
+    }
+    Ok(())
+}
+
+/// The lines with their cells lined up, two spaces between columns.
+pub fn line_up(alloc: Global, grid: &[Line]) -> Result<String, AllocError> {
+    let mut widths: Vec<usize> = Vec::new(alloc);
+    for line in grid {
+        widen(&mut widths, line)?;
+    }
+    let mut text = String::new(alloc);
+    for line in grid {
+        put_line(&mut text, line, &widths)?;
+    }
+    Ok(text)
+}
+
+// Makes columns as wide as the cells of a line.
+fn widen(widths: &mut Vec<usize>, line: &[String]) -> Result<(), AllocError> {
+    for (place, cell) in line.iter().enumerate() {
+        let width = cell.as_str().width();
+        match widths.get_mut(place) {
+            Some(widest) => *widest = width.max(*widest),
+            None => widths.push(width)?,
+        }
+    }
+    Ok(())
+}
+
+// Puts a line whose columns have these widths.
+fn put_line(text: &mut String, line: &[String], widths: &[usize]) -> Result<(), AllocError> {
+    let mut gap = 0;
+    for (cell, widest) in line.iter().zip(widths.iter()) {
+        for _ in 0..gap {
+            text.push(' ')?;
+        }
+        text.push_str(cell)?;
+        let width = cell.as_str().width();
+        gap = widest.saturating_sub(width).saturating_add(2);
+    }
+    text.push('\n')?;
+    Ok(())
+}

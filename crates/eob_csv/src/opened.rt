@@ -1,0 +1,74 @@
+//! A file whose header is read, and what is wrong with it.
+
+use crate::columns::Columns;
+use crate::fault::{Fault, Reason};
+use crate::read::Source;
+use crate::request::Settings;
+use eob_tables::{Cells, Group, Order, Rows};
+use std::alloc::Global;
+use std::io::Read;
+
+/// A table that is read from a file.
+#[derive(Drop)]
+pub struct Opened<'a, R> {
+    pub file: &'a str,
+    pub source: Source<R>,
+}
+
+/// The outcome, with the file that it is of.
+pub fn at<'a, T: Drop, E: Drop>(file: &'a str, outcome: Result<T, E>) -> Result<T, Fault<'a>>
+where
+    Reason: From<E>,
+{
+    match outcome {
+        Ok(value) => Ok(value),
+        Err(error) => Err(Fault {
+            file,
+            reason: Reason::from(error),
+        }),
+    }
+}
+
+impl<'a, R: Read + Drop> Opened<'a, R> {
+    /// A table, with its header read.
+    pub fn table(
+        alloc: Global,
+        settings: Settings<'_>,
+        file: &'a str,
+        reader: R,
+    ) -> Result<Self, Fault<'a>> {
+        let source = at(file, Source::open(alloc, reader, settings.form))?;
+        Ok(Opened { file, source })
+    }
+
+    /// A table of changes, with its header read.
+    pub fn changes(
+        alloc: Global,
+        settings: Settings<'_>,
+        file: &'a str,
+        reader: R,
+    ) -> Result<Self, Fault<'a>> {
+        let source = at(file, Source::open_changes(alloc, reader, settings.form))?;
+        Ok(Opened { file, source })
+    }
+
+    /// Reads the rows (`Source::read_rows`).
+    pub fn read_rows(
+        &mut self,
+        columns: &Columns,
+        order: &mut Order,
+        repeats: bool,
+    ) -> Result<Rows<Cells, Group>, Fault<'a>> {
+        at(self.file, self.source.read_rows(columns, order, repeats))
+    }
+
+    /// Reads the rows of changes (`Source::read_changes`).
+    pub fn read_changes(
+        &mut self,
+        columns: &Columns,
+        order: &mut Order,
+        repeats: bool,
+    ) -> Result<(Rows<Cells, Group>, Rows<Cells, Group>), Fault<'a>> {
+        at(self.file, self.source.read_changes(columns, order, repeats))
+    }
+}

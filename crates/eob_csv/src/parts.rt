@@ -1,0 +1,110 @@
+//! A table whose keys rise, read part by part.
+
+use crate::columns::Columns;
+use crate::fault::{Fault, Reason};
+use crate::opened::{Opened, at};
+use crate::read::{Places, Source};
+use csv::ByteRecord;
+use eob_tables::{Cells, Group, ReadRow, Rows, gathered};
+use std::alloc::Global;
+use std::collections::VecDeque;
+use std::io::Read;
+
+// How many rows of a table are held at most.
+const PART: usize = 512;
+
+/// A table whose rows are read part by part, with the rows that wait.
+#[derive(Drop)]
+pub struct Parts<'a, R> {
+    pub file: &'a str,
+    alloc: Global,
+    source: Source<R>,
+    places: Places,
+    waiting: VecDeque<ReadRow>,
+    last: Option<Cells>,
+    is_ended: bool,
+}
+
+impl<'a, R: Read + Drop> Parts<'a, R> {
+    /// No row is read yet.
+    pub fn new(alloc: Global, table: Opened<'a, R>, columns: &Columns) -> Result<Self, Fault<'a>> {
+        let places = at(table.file, table.source.places(columns))?;
+        Ok(Parts {
+            file: table.file,
+            alloc,
+            source: table.source,
+            places,
+            waiting: VecDeque::new(alloc),
+            last: None,
+            is_ended: false,
+        })
+    }
+
+    /// Reads until as many rows wait as may. A key that is not greater than the one before it is a fault.
+    pub fn fill(&mut self) -> Result<(), Fault<'a>> {
+        at(self.file, self.read_part())
+    }
+
+    fn read_part(&mut self) -> Result<(), Reason> {
+        let mut record = ByteRecord::new(self.alloc);
+        for _ in self.waiting.len()..PART {
+            if self.is_ended {
+                break;
+            }
+            match self.source.read_row(&self.places, &mut record)? {
+                Some(row) => self.put(row)?,
+                None => self.is_ended = true,
+            }
+        }
+        Ok(())
+    }
+
+    fn put(&mut self, row: ReadRow) -> Result<(), Reason> {
+        if let Some(last) = &self.last {
+            if row.0 <= *last {
+                return Err(Reason::NotRising(row.1.0));
+            }
+        }
+        self.last = Some(row.0.clone()?);
+        self.waiting.push_back(row)?;
+        Ok(())
+    }
+
+    /// The key up to which all rows are read, or None where all are.
+    pub fn bound(&self) -> Option<&Cells> {
+        if self.is_ended {
+            None
+        } else {
+            self.last.as_ref()
+        }
+    }
+
+    /// Takes the rows up to a key, or all that wait.
+    pub fn take(&mut self, bound: &Option<Cells>) -> Result<Rows<Cells, Group>, Fault<'a>> {
+        at(self.file, self.rows_up_to(bound))
+    }
+
+    fn rows_up_to(&mut self, bound: &Option<Cells>) -> Result<Rows<Cells, Group>, Reason> {
+        let mut rows = Vec::new(self.alloc);
+        for _ in 0..self.waiting.len() {
+            if !self.is_within(bound) {
+                break;
+            }
+            if let Some(row) = self.waiting.pop_front() {
+                rows.push(row)?;
+            }
+        }
+        Ok(gathered(self.alloc, rows, false)?)
+    }
+
+    // Whether a row waits that is not beyond a key.
+    fn is_within(&self, bound: &Option<Cells>) -> bool {
+        match self.waiting.front() {
+            Some(row) => match bound {
+                Some(key) => row.0 <= *key,
+                None => true,
+            },
+            None => false,
+        }
+    }
+}

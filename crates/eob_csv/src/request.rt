@@ -1,0 +1,58 @@
+//! What is asked for of which tables, and the settings of every request.
+
+/// How tables are written: the byte between cells, and whether the first row is a header. Where it is not, columns are named by number.
+#[derive(Clone, Copy)]
+pub struct Form {
+    pub delimiter: u8,
+    pub has_header: bool,
+}
+
+/// What all requests may set: how tables are written, the names of the columns that are the key, whether rows come out in the order of the
+/// files and not in that of their keys, whether rows with the same key are a group, and whether tables are read as they rise.
+#[derive(Clone, Copy)]
+pub struct Settings<'a> {
+    pub form: Form,
+    pub key: Option<&'a str>,
+    pub keeps_order: bool,
+    pub groups: bool,
+    pub rises: bool,
+}
+
+/// Which rows a join has, of which tables.
+#[derive(Clone, Copy)]
+pub enum Kind {
+    Outer,
+    Inner,
+    Left,
+    Right,
+    Semi,
+    Anti,
+}
+
+/// What is asked for, of files by name.
+#[derive(Clone, Copy)]
+pub enum Request<'a> {
+    /// What changed, as a table that a person reads, or as CSV that `Apply` takes.
+    Diff {
+        old: &'a str,
+        new: &'a str,
+        csv: bool,
+    },
+    /// A table with changes made to it.
+    Apply {
+        old: &'a str,
+        changes: &'a str,
+    },
+    /// Two versions of a table merged over their base.
+    Merge {
+        base: &'a str,
+        ours: &'a str,
+        theirs: &'a str,
+    },
+    /// Two tables joined by key.
+    Join {
+        left: &'a str,
+        right: &'a str,
+        kind: Kind,
+    },
+}

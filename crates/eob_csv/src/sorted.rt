@@ -1,0 +1,151 @@
+//! Tables whose keys rise, compared and joined as they are read: part by part, so that memory does not grow with the tables.
+//!
+//! Where all rows of both tables up to a key are read, their join is the first part of the whole join (`law_cut_join` of `eob_joins`).
+
+use crate::answers::Answer;
+use crate::changes::ColumnChanges;
+use crate::columns::{Columns, JoinColumns, columns_of, join_columns};
+use crate::fault::{Fault, Reason};
+use crate::joined::Joining;
+use crate::opened::{Opened, at};
+use crate::parts::Parts;
+use crate::request::{Form, Kind, Settings};
+use crate::written::write_changes;
+use eob_tables::{Cells, Group, Order, Rows, changes_of};
+use std::alloc::{AllocError, Global};
+use std::io::{Read, Write};
+
+// What is written of the rows of two tables.
+#[derive(Clone, Copy)]
+enum Work<'c> {
+    Changes(&'c Columns),
+    Join(Kind, &'c JoinColumns),
+}
+
+impl Work<'_> {
+    fn answer(
+        &self,
+        alloc: Global,
+        form: Form,
+        left: Rows<Cells, Group>,
+        right: Rows<Cells, Group>,
+    ) -> Result<Answer, Reason> {
+        match self {
+            Work::Changes(columns) => changes_as_csv(alloc, form, columns, left, right),
+            Work::Join(kind, columns) => {
+                let joining = Joining {
+                    alloc,
+                    form,
+                    columns,
+                    order: &Order::by_key(),
+                };
+                let bytes = joining.write(*kind, left, right)?;
+                Ok(Answer { bytes, status: 0 })
+            }
+        }
+    }
+}
+
+fn changes_as_csv(
+    alloc: Global,
+    form: Form,
+    columns: &Columns,
+    old: Rows<Cells, Group>,
+    new: Rows<Cells, Group>,
+) -> Result<Answer, Reason> {
+    let changes = changes_of(alloc, old, new)?;
+    let bytes = write_changes(alloc, form, columns, &changes)?;
+    let status = if changes.is_empty() { 0 } else { 1 };
+    Ok(Answer { bytes, status })
+}
+
+/// Writes the changes between two tables as CSV while they are read, and returns the status.
+pub fn compare_sorted<'a, A: Read + Drop, B: Read + Drop, W: Write>(
+    alloc: Global,
+    settings: Settings<'a>,
+    old: Opened<'a, A>,
+    new: Opened<'a, B>,
+    output: &mut W,
+) -> Result<u8, Fault<'a>> {
+    let headers = [old.source.header.as_slice(), new.source.header.as_slice()];
+    let columns = at(old.file, columns_of(alloc, settings, &headers))?;
+    let said = ColumnChanges::new(alloc, &old.source.header, &new.source.header);
+    let said = at(new.file, said)?;
+    let old = Parts::new(alloc, old, &columns)?;
+    let new = Parts::new(alloc, new, &columns)?;
+    let work = Work::Changes(&columns);
+    let status = write_parts(alloc, settings.form, work, old, new, output)?;
+    Ok(if said.has_lone { 1 } else { status })
+}
+
+/// Writes a join of two tables as CSV while they are read, and returns the status.
+pub fn join_sorted<'a, A: Read + Drop, B: Read + Drop, W: Write>(
+    alloc: Global,
+    settings: Settings<'a>,
+    kind: Kind,
+    left: Opened<'a, A>,
+    right: Opened<'a, B>,
+    output: &mut W,
+) -> Result<u8, Fault<'a>> {
+    let columns = join_columns(alloc, settings, &left.source.header, &right.source.header);
+    let columns = at(left.file, columns)?;
+    let left = Parts::new(alloc, left, &columns.left)?;
+    let right = Parts::new(alloc, right, &columns.right)?;
+    let work = Work::Join(kind, &columns);
+    write_parts(alloc, settings.form, work, left, right, output)
+}
+
+fn write_parts<'a, A: Read + Drop, B: Read + Drop, W: Write>(
+    alloc: Global,
+    mut form: Form,
+    work: Work<'_>,
+    mut left: Parts<'a, A>,
+    mut right: Parts<'a, B>,
+    output: &mut W,
+) -> Result<u8, Fault<'a>> {
+    let mut status = 0;
+    for _ in 0..u64::MAX {
+        let (left_rows, right_rows, is_last) = next_part(&mut left, &mut right)?;
+        let part = work.answer(alloc, form, left_rows, right_rows);
+        let part = at(right.file, part)?;
+        at("the standard output", output.write_all(&part.bytes))?;
+        // One header stands before all parts.
+        form.has_header = false;
+        status = part.status.max(status);
+        if is_last {
+            break;
+        }
+    }
+    at("the standard output", output.flush())?;
+    Ok(status)
+}
+
+// The rows of both tables up to a key, and whether they are the last.
+type Part = (Rows<Cells, Group>, Rows<Cells, Group>, bool);
+
+fn next_part<'a, A: Read + Drop, B: Read + Drop>(
+    left: &mut Parts<'a, A>,
+    right: &mut Parts<'a, B>,
+) -> Result<Part, Fault<'a>> {
+    left.fill()?;
+    right.fill()?;
+    let bound = at(left.file, lesser(left.bound(), right.bound()))?;
+    let left_rows = left.take(&bound)?;
+    let right_rows = right.take(&bound)?;
+    Ok((left_rows, right_rows, bound.is_none()))
+}
+
+// The lesser key of those that are there.
+fn lesser(left: Option<&Cells>, right: Option<&Cells>) -> Result<Option<Cells>, AllocError> {
+    let least = match left {
+        Some(key) => match right {
+            Some(other) => Some(if other < key { other } else { key }),
+            None => Some(key),
+        },
+        None => right,
+    };
+    match least {
+        Some(key) => Ok(Some(key.clone()?)),
+        None => Ok(None),
+    }
+}

@@ -1,0 +1,103 @@
+//! From the rows of a file to a table.
+ghost use Rattle.std.specs.Prelude.{IfOk};
+ghost use Rattle.eob_joins.specs.Groups.{Ordered};
+
+use crate::table::{Cells, Group, Rows};
+use either_or_both::join::is_rising;
+use eob_joins::group_by_key;
+use std::alloc::{AllocError, AllocFailed, Global};
+
+/// A row as it is read: its key, its line, and its other cells.
+pub type ReadRow = (Cells, (u64, Cells));
+
+/// Why rows are no table.
+#[derive(Debug, Drop)]
+pub enum Ungathered {
+    /// A request for memory was refused.
+    NoMemory,
+    /// A key stands twice: the first that does, with the lines of its first two rows.
+    RepeatedKey { key: Cells, first: u64, second: u64 },
+}
+
+impl From<AllocError> for Ungathered {
+    fn from(_refused: AllocError) -> Self {
+        Ungathered::NoMemory
+    }
+}
+
+impl<T: Drop> From<AllocFailed<T>> for Ungathered {
+    fn from(_refused: AllocFailed<T>) -> Self {
+        Ungathered::NoMemory
+    }
+}
+
+/// The rows by key. Where keys may not repeat, no two have the same.
+///
+/// # Errors
+///
+/// `RepeatedKey` where a key stands twice and may not, `NoMemory` where a request for memory was refused.
+pub fn gathered(
+    alloc: Global,
+    mut rows: Vec<ReadRow>,
+    repeats: bool,
+) -> Result<Rows<Cells, Group>, Ungathered> {
+    if repeats {
+        return Ok(grouped(alloc, rows)?);
+    }
+    rows.sort_by(|row, next| row.0.cmp(&next.0))?;
+    let mut pairs = Vec::with_capacity(alloc, rows.len())?;
+    let mut lines = Vec::with_capacity(alloc, rows.len())?;
+    for (key, (line, cells)) in rows {
+        let mut group = Vec::with_capacity(alloc, 1)?;
+        group.push(cells)?;
+        pairs.push((key, group))?;
+        lines.push(line)?;
+    }
+    if is_rising(&pairs) {
+        Ok(Rows { pairs })
+    } else {
+        Err(repeated_key(alloc, &pairs, &lines)?)
+    }
+}
+
+// The rows in groups by key, each in the order of its cells.
+fn grouped(alloc: Global, rows: Vec<ReadRow>) -> Result<Rows<Cells, Group>, AllocError> {
+    let mut pairs = Vec::with_capacity(alloc, rows.len())?;
+    for (key, (_line, cells)) in rows {
+        pairs.push((key, cells))?;
+    }
+    pairs.sort_by(|row, next| row.1.cmp(&next.1))?;
+    let pairs = in_order(pairs)?;
+    let pairs = group_by_key(alloc, pairs)?;
+    Ok(Rows { pairs })
+}
+
+// The rows in the order of their keys, those under a key as they stood.
+fn in_order<K: Ord + Drop, V: Drop>(mut rows: Vec<(K, V)>) -> Result<Vec<(K, V)>, AllocError>
+    ensures { IfOk result (λ sorted. Ordered K.cmp sorted.items) }
+{
+    rows.sort_by(|row, next| row.0.cmp(&next.0))?;
+    Ok(rows)
+}
+
+// The first key that stands twice, with both of its lines.
+fn repeated_key(
+    alloc: Global,
+    pairs: &[(Cells, Group)],
+    lines: &[u64],
+) -> Result<Ungathered, AllocError> {
+    let mut key: Cells = Vec::new(alloc);
+    let mut place = 0;
+    for (number, pair) in pairs.iter().enumerate() {
+        if pair.0 == key {
+            place = number;
+            break;
+        }
+        key = pair.0.clone()?;
+    }
+    Ok(Ungathered::RepeatedKey {
+        key,
+        first: lines.get(place.saturating_sub(1)).copied().unwrap_or(0),
+        second: lines.get(place).copied().unwrap_or(0),
+    })
+}

@@ -1,0 +1,59 @@
+//! What changed between two versions of a table, changes made again, and three versions merged.
+ghost use Rattle.std.specs.Prelude.{IfOk};
+ghost use Rattle.either_or_both.specs.Join.{IsJoin};
+ghost use Rattle.eob_joins.specs.Changes.{applied, changed};
+ghost use Rattle.eob_joins.specs.Tables.{IsKeptOfJoin};
+ghost use Rattle.eob_joins.specs.Versions.{IsMerge, IsMergeByKey};
+
+use crate::table::Rows;
+use either_or_both::join::outer_join;
+use eob_joins::{Change, Merged, apply, diff, merge_versions};
+use std::alloc::{AllocError, Global};
+
+/// The rows of the join of both tables that changed.
+pub fn changes_of<K: Ord + Drop, V: Eq + Drop>(
+    alloc: Global,
+    old: Rows<K, V>,
+    new: Rows<K, V>,
+) -> Result<Vec<(K, Change<V>)>, AllocError>
+    ensures { IfOk result (λ rows. IsKeptOfJoin K.cmp (changed V.eq) old.pairs.items new.pairs.items rows.items) }
+{
+    diff(alloc, old.pairs, new.pairs)
+}
+
+/// The changes by which the rows of one table go and those of another come: a key of both changes its row.
+pub fn paired<K: Ord + Drop, V: Drop>(
+    alloc: Global,
+    gone: Rows<K, V>,
+    come: Rows<K, V>,
+) -> Result<Rows<K, Change<V>>, AllocError>
+    ensures { IfOk result (λ changes. IsJoin K.cmp gone.pairs.items come.pairs.items changes.pairs.items) }
+{
+    let pairs = outer_join(alloc, gone.pairs, come.pairs)?;
+    Ok(Rows { pairs })
+}
+
+/// The table with the changes made to it.
+pub fn patched<K: Ord + Drop, V: Drop>(
+    alloc: Global,
+    old: Rows<K, V>,
+    changes: Rows<K, Change<V>>,
+) -> Result<Vec<(K, V)>, AllocError>
+    ensures { IfOk result (λ rows. IsKeptOfJoin K.cmp applied old.pairs.items changes.pairs.items rows.items) }
+{
+    apply(alloc, old.pairs, changes.pairs)
+}
+
+/// The merged table, which has whatever one side alone changed as that side has it; or the rows that both sides changed, to rows that
+/// are not the same.
+pub fn merge_of<K: Ord + Drop, V: Eq + Drop>(
+    alloc: Global,
+    base: Rows<K, V>,
+    ours: Rows<K, V>,
+    theirs: Rows<K, V>,
+) -> Result<Merged<K, V>, AllocError>
+    ensures rows { IfOk result (λ m. IsMerge K.cmp V.eq base.pairs.items ours.pairs.items theirs.pairs.items m) }
+    ensures values { IfOk result (λ m. IsMergeByKey K.cmp V.eq base.pairs.items ours.pairs.items theirs.pairs.items m) }
+{
+    merge_versions(alloc, base.pairs, ours.pairs, theirs.pairs)
+}
