@@ -16,7 +16,8 @@ pub fn changes_of<K: Ord + Drop, V: Eq + Drop>(
     old: Rows<K, V>,
     new: Rows<K, V>,
 ) -> Result<Vec<(K, Change<V>)>, AllocError>
-    ensures { IfOk result (λ rows. IsKeptOfJoin K.cmp (changed V.eq) old.pairs.items new.pairs.items rows.items) }
+    ensures { IfOk result
+        (λ rows. IsKeptOfJoin K.cmp (changed V.eq) old.pairs.items new.pairs.items rows.items) }
 {
     diff(alloc, old.pairs, new.pairs)
 }
@@ -39,7 +40,8 @@ pub fn patched<K: Ord + Drop, V: Drop>(
     old: Rows<K, V>,
     changes: Rows<K, Change<V>>,
 ) -> Result<Vec<(K, V)>, AllocError>
-    ensures { IfOk result (λ rows. IsKeptOfJoin K.cmp applied old.pairs.items changes.pairs.items rows.items) }
+    ensures { IfOk result
+        (λ rows. IsKeptOfJoin K.cmp applied old.pairs.items changes.pairs.items rows.items) }
 {
     apply(alloc, old.pairs, changes.pairs)
 }
@@ -52,8 +54,10 @@ pub fn merge_of<K: Ord + Drop, V: Eq + Drop>(
     ours: Rows<K, V>,
     theirs: Rows<K, V>,
 ) -> Result<Merged<K, V>, AllocError>
-    ensures rows { IfOk result (λ m. IsMerge K.cmp V.eq base.pairs.items ours.pairs.items theirs.pairs.items m) }
-    ensures values { IfOk result (λ m. IsMergeByKey K.cmp V.eq base.pairs.items ours.pairs.items theirs.pairs.items m) }
+    ensures rows { IfOk result
+        (λ m. IsMerge K.cmp V.eq base.pairs.items ours.pairs.items theirs.pairs.items m) }
+    ensures values { IfOk result
+        (λ m. IsMergeByKey K.cmp V.eq base.pairs.items ours.pairs.items theirs.pairs.items m) }
 {
     merge_versions(alloc, base.pairs, ours.pairs, theirs.pairs)
 }
