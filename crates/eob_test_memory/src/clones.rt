@@ -1,5 +1,6 @@
 //! Clones of both enums and of their walks, and clones of what references show.
 
+use crate::same::same;
 use either_or_both::EitherOrBoth::{Both, Left, Right};
 use either_or_both::{Either, EitherOrBoth};
 use eob_testkit::memory::{RUNS, Refusing, Tokens};
@@ -32,19 +33,22 @@ fn check<V: Clone + Debug + Drop>(
         memory.refuse(number);
         let ended: Result<V, AllocError> = value.clone();
         let judged = memory.judge(ended)?;
-        assert_eq!(rt; shown(alloc, &value)?, want, "request {number} refused");
+        same(rt, "the value", &number, &shown(alloc, &value)?, &want);
+        let is_whole = judged.is_some();
         if let Some(whole) = judged {
-            assert_eq!(rt; shown(alloc, &whole)?, want);
-            drop(whole);
-            assert_eq!(rt; tokens.alive(), alive, "{want}");
-            assert!(rt; 1 < number, "{want}");
+            same(rt, "clone", &number, &shown(alloc, &whole)?, &want);
+        }
+        same(
+            rt,
+            "values alive",
+            &(&want, number),
+            &tokens.alive(),
+            &alive,
+        );
+        if is_whole {
+            same(rt, "refused runs", &want, &(1 < number), &true);
             return Ok(());
         }
-        assert_eq!(rt;
-            tokens.alive(),
-            alive,
-            "{want} with request {number} refused"
-        );
     }
     Err("each run was refused")?;
     Ok(())
@@ -59,65 +63,44 @@ fn list<'a>(memory: Memory<'a>, tokens: &Tokens) -> Result<List<'a>, AllocError>
     Ok(list)
 }
 
-/// Each variant of both enums, and their walks: a clone is made whole, or where memory is refused is dropped.
+// The same on both sides.
+fn lists<'a>(
+    memory: Memory<'a>,
+    tokens: &Tokens,
+) -> Result<EitherOrBoth<List<'a>, List<'a>>, AllocError> {
+    Ok(Both(list(memory, tokens)?, list(memory, tokens)?))
+}
+
+/// Each variant of both enums: a clone is made whole, or where memory is refused is dropped.
 #[test]
-fn values_and_walks_are_cloned(rt: HostRuntime) -> Result<(), Fail> {
+fn values_are_cloned(rt: HostRuntime) -> Result<(), Fail> {
     let alloc = rt.alloc();
     let m = &Refusing::new(alloc);
     let t = &Tokens::new(alloc)?;
-    check(
-        &rt,
-        alloc,
-        m,
-        t,
-        EitherOrBoth::<List, u8>::Left(list(m, t)?),
-    )?;
-    check(&rt, alloc, m, t, Both(list(m, t)?, list(m, t)?))?;
-    check(
-        &rt,
-        alloc,
-        m,
-        t,
-        EitherOrBoth::<u8, List>::Right(list(m, t)?),
-    )?;
+    let left = EitherOrBoth::<List, u8>::Left(list(m, t)?);
+    check(&rt, alloc, m, t, left)?;
+    check(&rt, alloc, m, t, lists(m, t)?)?;
+    let right = EitherOrBoth::<u8, List>::Right(list(m, t)?);
+    check(&rt, alloc, m, t, right)?;
     check(&rt, alloc, m, t, Either::<List, u8>::Left(list(m, t)?))?;
-    check(&rt, alloc, m, t, Either::<u8, List>::Right(list(m, t)?))?;
-    check(&rt, alloc, m, t, Both(list(m, t)?, list(m, t)?).into_iter())?;
-    check(
-        &rt,
-        alloc,
-        m,
-        t,
-        Both(list(m, t)?, list(m, t)?).into_iter_chain(),
-    )?;
-    check(
-        &rt,
-        alloc,
-        m,
-        t,
-        Either::<List>::Left(list(m, t)?).into_iter(),
-    )?;
-    check(
-        &rt,
-        alloc,
-        m,
-        t,
-        Either::<List>::Right(list(m, t)?).into_iter_inner(),
-    )?;
-    check(
-        &rt,
-        alloc,
-        m,
-        t,
-        Either::<List>::Left(list(m, t)?).into_iter_swap(),
-    )?;
-    check(
-        &rt,
-        alloc,
-        m,
-        t,
-        Both(list(m, t)?, list(m, t)?).into_iter_swap(),
-    )
+    check(&rt, alloc, m, t, Either::<u8, List>::Right(list(m, t)?))
+}
+
+/// The same of the walks over both enums.
+#[test]
+fn walks_are_cloned(rt: HostRuntime) -> Result<(), Fail> {
+    let alloc = rt.alloc();
+    let m = &Refusing::new(alloc);
+    let t = &Tokens::new(alloc)?;
+    check(&rt, alloc, m, t, lists(m, t)?.into_iter())?;
+    check(&rt, alloc, m, t, lists(m, t)?.into_iter_chain())?;
+    check(&rt, alloc, m, t, lists(m, t)?.into_iter_swap())?;
+    let left = Either::<List>::Left(list(m, t)?);
+    check(&rt, alloc, m, t, left.into_iter())?;
+    let right = Either::<List>::Right(list(m, t)?);
+    check(&rt, alloc, m, t, right.into_iter_inner())?;
+    let left = Either::<List>::Left(list(m, t)?);
+    check(&rt, alloc, m, t, left.into_iter_swap())
 }
 
 // A value whose places are cloned through references to them.
@@ -162,19 +145,32 @@ fn check_cloned<V: ClonedPlaces>(
         let shared = memory.judge(value.cloned_places())?;
         memory.refuse(number);
         let lent = memory.judge(value.cloned_places_mut())?;
-        assert_eq!(rt; shown(alloc, &value)?, want, "request {number} refused");
+        same(rt, "the value", &number, &shown(alloc, &value)?, &want);
+        let is_whole = shared.is_some();
+        same(
+            rt,
+            "cloned on &mut",
+            &(&want, number),
+            &lent.is_some(),
+            &is_whole,
+        );
         if let Some(shared) = shared {
-            assert_eq!(rt; shown(alloc, &shared)?, want);
-            assert_eq!(rt; shown(alloc, &lent)?, format!(in alloc; "Some({want})")?);
-            assert!(rt; 1 < number, "{want}");
+            same(rt, "cloned on &", &number, &shown(alloc, &shared)?, &want);
+        }
+        if let Some(lent) = lent {
+            same(rt, "cloned on &mut", &number, &shown(alloc, &lent)?, &want);
+        }
+        same(
+            rt,
+            "values alive",
+            &(&want, number),
+            &tokens.alive(),
+            &alive,
+        );
+        if is_whole {
+            same(rt, "refused runs", &want, &(1 < number), &true);
             return Ok(());
         }
-        assert!(rt; lent.is_none(), "{want} with request {number} refused");
-        assert_eq!(rt;
-            tokens.alive(),
-            alive,
-            "{want} with request {number} refused"
-        );
     }
     Err("each run was refused")?;
     Ok(())
@@ -187,7 +183,7 @@ fn places_are_cloned_through_references(rt: HostRuntime) -> Result<(), Fail> {
     let m = &Refusing::new(alloc);
     let t = &Tokens::new(alloc)?;
     check_cloned(&rt, alloc, m, t, Left(list(m, t)?))?;
-    check_cloned(&rt, alloc, m, t, Both(list(m, t)?, list(m, t)?))?;
+    check_cloned(&rt, alloc, m, t, lists(m, t)?)?;
     check_cloned(&rt, alloc, m, t, Right(list(m, t)?))?;
     check_cloned(&rt, alloc, m, t, Either::Left(list(m, t)?))?;
     check_cloned(&rt, alloc, m, t, Either::Right(list(m, t)?))
@@ -209,9 +205,13 @@ fn clone_that_refuses_by_itself_is_handed_on(rt: HostRuntime) {
     let left = 1;
     let right = Stubborn;
     let refused: Result<EitherOrBoth<i32, Stubborn>, AllocError> = Both(&left, &right).cloned();
-    assert!(rt; refused.is_err());
-    assert_eq!(rt; (left, right), (1, Stubborn));
     let either: Either<Stubborn> = Either::Right(Stubborn);
-    assert!(rt; either.clone().is_err() && either.as_ref().cloned().is_err());
-    assert_eq!(rt; either, Either::Right(Stubborn));
+    let are_refused = [
+        refused.is_err(),
+        either.clone().is_err(),
+        either.as_ref().cloned().is_err(),
+    ];
+    assert_eq!(rt; are_refused, [true; 3]);
+    let held = (left, right, either);
+    assert_eq!(rt; held, (1, Stubborn, Either::Right(Stubborn)));
 }

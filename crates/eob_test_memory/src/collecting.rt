@@ -2,6 +2,7 @@
 
 ghost use Rattle.std.specs.Prelude.{List};
 
+use crate::same::same;
 use either_or_both::EitherOrBoth::{Both, Left, Right};
 use either_or_both::{Either, EitherOrBoth};
 use eob_testkit::memory::{RUNS, Refusing, Source, Tokens, Watch};
@@ -35,19 +36,18 @@ fn check<'a, I: Clone + Drop, P: FromIterator<I, Alloc = Memory<'a>> + Debug + D
         let watch = Watch::new(memory);
         memory.refuse(number);
         let ended: Result<P, AllocError> = Source::new(items, &watch).collect(memory);
-        assert!(rt; !watch.is_late(), "{want} with request {number} refused");
-        if let Some(whole) = memory.judge(ended)? {
-            assert_eq!(rt; format!(in alloc; "{whole:?}")?.as_str(), want);
-            drop(whole);
-            assert_eq!(rt; tokens.alive(), alive, "{want}");
-            assert!(rt; 1 < number, "{want}");
+        same(rt, "a late call", &(want, number), &watch.is_late(), &false);
+        let judged = memory.judge(ended)?;
+        let is_whole = judged.is_some();
+        if let Some(whole) = judged {
+            let shown = format!(in alloc; "{whole:?}")?;
+            same(rt, "collect", &number, &shown.as_str(), &want);
+        }
+        same(rt, "values alive", &(want, number), &tokens.alive(), &alive);
+        if is_whole {
+            same(rt, "refused runs", &want, &(1 < number), &true);
             return Ok(());
         }
-        assert_eq!(rt;
-            tokens.alive(),
-            alive,
-            "{want} with request {number} refused"
-        );
     }
     Err("each run was refused")?;
     Ok(())
@@ -73,19 +73,72 @@ type IndexMaps<M> = EitherOrBoth<IndexMap<One, One, Hasher, M>>;
 
 type BTreeMaps<M> = EitherOrBoth<BTreeMap<One, One, M>>;
 
+// Numbers of which values are made.
+trait Numbers: Copy {
+    type Values: Drop;
+
+    fn values(self, tokens: &Tokens) -> Result<Self::Values, AllocError>;
+}
+
+impl Numbers for u8 {
+    type Values = One;
+
+    fn values(self, tokens: &Tokens) -> Result<One, AllocError> {
+        tokens.of(self)
+    }
+}
+
+impl Numbers for (u8, u8) {
+    type Values = Entry;
+
+    fn values(self, tokens: &Tokens) -> Result<Entry, AllocError> {
+        Ok((tokens.of(self.0)?, tokens.of(self.1)?))
+    }
+}
+
+// The values of these numbers, in their places.
+fn values<N: Numbers>(
+    alloc: Global,
+    tokens: &Tokens,
+    rows: &[EitherOrBoth<N>],
+) -> Result<Vec<EitherOrBoth<N::Values>>, AllocError> {
+    let mut values = Vec::new(alloc);
+    for row in rows {
+        let value = match *row {
+            Left(l) => Left(l.values(tokens)?),
+            Both(l, r) => Both(l.values(tokens)?, r.values(tokens)?),
+            Right(r) => Right(r.values(tokens)?),
+        };
+        values.push(value)?;
+    }
+    Ok(values)
+}
+
+// The same of `Either`.
+fn eithers<N: Numbers>(
+    alloc: Global,
+    tokens: &Tokens,
+    rows: &[Either<N>],
+) -> Result<Vec<Either<N::Values>>, AllocError> {
+    let mut values = Vec::new(alloc);
+    for row in rows {
+        let value = match *row {
+            Either::Left(l) => Either::Left(l.values(tokens)?),
+            Either::Right(r) => Either::Right(r.values(tokens)?),
+        };
+        values.push(value)?;
+    }
+    Ok(values)
+}
+
 /// Lists and sets, from values of `EitherOrBoth`. A hashed set has one value a side here, since its order is not told.
 #[test]
 fn lists_and_sets_are_collected(rt: HostRuntime) -> Result<(), Fail> {
     let alloc = rt.alloc();
     let m = &Refusing::new(alloc);
     let t = &Tokens::new(alloc)?;
-    let items = [
-        Left(t.three()?),
-        Both(t.one()?, t.two()?),
-        Right(t.one()?),
-        Left(t.three()?),
-    ];
-    let alike = [Left(t.three()?), Both(t.three()?, t.two()?)];
+    let items = values(alloc, t, &[Left(3), Both(1, 2), Right(1), Left(3)])?;
+    let alike = values(alloc, t, &[Left(3), Both(3, 2)])?;
     let lists = "Both([3, 1, 3], [2, 1])";
     check::<_, Vecs<_>>(&rt, alloc, m, t, &items, lists)?;
     check::<_, VecDeques<_>>(&rt, alloc, m, t, &items, lists)?;
@@ -100,12 +153,9 @@ fn lists_and_sets_are_collected_from_either(rt: HostRuntime) -> Result<(), Fail>
     let alloc = rt.alloc();
     let m = &Refusing::new(alloc);
     let t = &Tokens::new(alloc)?;
-    let items = [
-        Either::Right(t.three()?),
-        Either::Left(t.two()?),
-        Either::Right(t.one()?),
-    ];
-    let alike = [Either::Right(t.three()?), Either::Right(t.three()?)];
+    let numbers = [Either::Right(3), Either::Left(2), Either::Right(1)];
+    let items = eithers(alloc, t, &numbers)?;
+    let alike = eithers(alloc, t, &[Either::Right(3), Either::Right(3)])?;
     check::<_, Vecs<_>>(&rt, alloc, m, t, &items, "Both([2], [3, 1])")?;
     check::<_, VecDeques<_>>(&rt, alloc, m, t, &items, "Both([2], [3, 1])")?;
     check::<_, HashSets<_>>(&rt, alloc, m, t, &alike, "Right({3})")?;
@@ -119,15 +169,12 @@ fn maps_are_collected(rt: HostRuntime) -> Result<(), Fail> {
     let alloc = rt.alloc();
     let m = &Refusing::new(alloc);
     let t = &Tokens::new(alloc)?;
-    let items: [EitherOrBoth<Entry>; 3] = [
-        Left((t.three()?, t.one()?)),
-        Both((t.one()?, t.one()?), (t.two()?, t.two()?)),
-        Left((t.three()?, t.two()?)),
-    ];
-    let alike: [EitherOrBoth<Entry>; 2] = [
-        Left((t.three()?, t.one()?)),
-        Both((t.three()?, t.two()?), (t.two()?, t.two()?)),
-    ];
+    let items = values(
+        alloc,
+        t,
+        &[Left((3, 1)), Both((1, 1), (2, 2)), Left((3, 2))],
+    )?;
+    let alike = values(alloc, t, &[Left((3, 1)), Both((3, 2), (2, 2))])?;
     check::<_, HashMaps<_>>(&rt, alloc, m, t, &alike, "Both({3: 2}, {2: 2})")?;
     check::<_, IndexMaps<_>>(&rt, alloc, m, t, &items, "Both({3: 2, 1: 1}, {2: 2})")?;
     check::<_, BTreeMaps<_>>(&rt, alloc, m, t, &items, "Both({1: 1, 3: 2}, {2: 2})")
@@ -139,15 +186,13 @@ fn maps_are_collected_from_either(rt: HostRuntime) -> Result<(), Fail> {
     let alloc = rt.alloc();
     let m = &Refusing::new(alloc);
     let t = &Tokens::new(alloc)?;
-    let items: [Either<Entry>; 3] = [
-        Either::Left((t.three()?, t.one()?)),
-        Either::Left((t.one()?, t.two()?)),
-        Either::Left((t.three()?, t.three()?)),
+    let numbers = [
+        Either::Left((3, 1)),
+        Either::Left((1, 2)),
+        Either::Left((3, 3)),
     ];
-    let alike: [Either<Entry>; 2] = [
-        Either::Left((t.three()?, t.one()?)),
-        Either::Right((t.three()?, t.two()?)),
-    ];
+    let items = eithers(alloc, t, &numbers)?;
+    let alike = eithers(alloc, t, &[Either::Left((3, 1)), Either::Right((3, 2))])?;
     check::<_, HashMaps<_>>(&rt, alloc, m, t, &alike, "Both({3: 1}, {3: 2})")?;
     check::<_, IndexMaps<_>>(&rt, alloc, m, t, &items, "Left({3: 3, 1: 2})")?;
     check::<_, BTreeMaps<_>>(&rt, alloc, m, t, &items, "Left({1: 2, 3: 3})")

@@ -1,6 +1,7 @@
 //! Tests: a paired walk that is driven from both ends, with each request for memory refused in turn. The drivers of the chain and of
 //! the one or two values go over the same loop.
 
+use crate::same::same;
 use either_or_both::EitherOrBoth;
 use either_or_both::EitherOrBoth::{Both, Left};
 use either_or_both::laws::{End, drive_swap_in};
@@ -14,6 +15,8 @@ type Memory<'a> = &'a Refusing<Global>;
 type Side<'a> = Vec<Rc<u8>, Memory<'a>>;
 
 type Answers<'a> = Vec<Option<EitherOrBoth<Rc<u8>>>, Memory<'a>>;
+
+type Wanted = Vec<Option<EitherOrBoth<Rc<u8>>>>;
 
 fn drive<'a>(
     memory: Memory<'a>,
@@ -32,50 +35,69 @@ fn item(tokens: &Tokens, place: u16) -> Result<Rc<u8>, AllocError> {
     }
 }
 
+// So many values on a side, which count up in turn from this place.
+fn side<'a>(
+    memory: Memory<'a>,
+    tokens: &Tokens,
+    length: u16,
+    first: u16,
+) -> Result<Side<'a>, AllocError> {
+    let mut side = Vec::new(memory);
+    for place in 0..length {
+        side.push(item(tokens, place.saturating_add(first))?)?;
+    }
+    Ok(side)
+}
+
+// What the call of this number answers: the front and the back are called in turn.
+fn answer(tokens: &Tokens, call: u16) -> Result<Option<EitherOrBoth<Rc<u8>>>, AllocError> {
+    let place = if call % 2 == 0 {
+        call / 2
+    } else {
+        299u16.saturating_sub(call / 2)
+    };
+    if call >= 300 {
+        return Ok(None);
+    }
+    let left = item(tokens, place)?;
+    if place < 200 {
+        Ok(Some(Both(left, item(tokens, place.saturating_add(1))?)))
+    } else {
+        Ok(Some(Left(left)))
+    }
+}
+
+// So many calls, and what each answers.
+fn calls(alloc: Global, tokens: &Tokens) -> Result<(Vec<End>, Wanted), AllocError> {
+    let mut ends = Vec::new(alloc);
+    let mut want = Vec::new(alloc);
+    for call in 0..320u16 {
+        ends.push(if call % 2 == 0 { End::Front } else { End::Back })?;
+        want.push(answer(tokens, call)?)?;
+    }
+    Ok((ends, want))
+}
+
 /// Sides of three hundred and of two hundred values are driven past their end, from the front and the back in turn. Where memory is
 /// refused, the pair, what it still has to give and what it has given are dropped.
 #[test]
 fn walk_is_driven_past_its_end(rt: HostRuntime) -> Result<(), Fail> {
     let memory = Refusing::new(rt.alloc());
     let tokens = Tokens::new(rt.alloc())?;
-    let mut ends = Vec::new(rt.alloc());
-    let mut want: Vec<Option<EitherOrBoth<Rc<u8>>>> = Vec::new(rt.alloc());
-    for call in 0..320u16 {
-        let is_front = call % 2 == 0;
-        ends.push(if is_front { End::Front } else { End::Back })?;
-        let place = if is_front {
-            call / 2
-        } else {
-            299u16.saturating_sub(call / 2)
-        };
-        let left = item(&tokens, place)?;
-        if call >= 300 {
-            want.push(None)?;
-        } else if place < 200 {
-            want.push(Some(Both(left, item(&tokens, place.saturating_add(1))?)))?;
-        } else {
-            want.push(Some(Left(left)))?;
-        }
-    }
+    let (ends, want) = calls(rt.alloc(), &tokens)?;
     let alive = tokens.alive();
     for number in 1..RUNS {
         memory.refuse(0);
-        let mut left = Vec::new(&memory);
-        for place in 0..300u16 {
-            left.push(item(&tokens, place)?)?;
-        }
-        let mut right = Vec::new(&memory);
-        for place in 0..200u16 {
-            right.push(item(&tokens, place.saturating_add(1))?)?;
-        }
+        let left = side(&memory, &tokens, 300, 0)?;
+        let right = side(&memory, &tokens, 200, 1)?;
         memory.refuse(number);
         let ended = drive(&memory, Both(left, right), &ends);
         if let Some((answers, rest)) = memory.judge(ended)? {
-            assert!(rt; answers.as_slice() == want.as_slice());
-            assert_eq!(rt; rest, 0);
+            let came = (answers.as_slice(), rest);
+            same(&rt, "drive_swap", &number, &came, &(want.as_slice(), 0));
             return Ok(());
         }
-        assert_eq!(rt; tokens.alive(), alive, "request {number} refused");
+        same(&rt, "values alive", &number, &tokens.alive(), &alive);
     }
     Err("each run was refused")?;
     Ok(())

@@ -1,7 +1,8 @@
 //! Tests: a walk that is given up after any number of calls from either end drops each value that it still has, once.
 
-use either_or_both::Either;
+use crate::same::same;
 use either_or_both::EitherOrBoth::{Both, Left, Right};
+use either_or_both::{Either, EitherOrBoth};
 use eob_testkit::memory::Tokens;
 use std::alloc::{AllocError, Global};
 use std::rc::Rc;
@@ -87,9 +88,18 @@ fn give_up_held(
     Ok(())
 }
 
+// The values of both places, and the value of an `Either`.
+fn give_up_values(value: EitherOrBoth<Rc<u8>>, calls: (usize, usize)) {
+    give_up!(value.into_iter(), calls.0, calls.1);
+}
+
+fn give_up_value(value: Either<Rc<u8>>, calls: (usize, usize)) {
+    give_up!(value.into_iter(), calls.0, calls.1);
+}
+
 /// Whatever ends were called, and however often, the values that are alive are those from before the walk was made.
 #[test]
-fn walks_that_are_given_up(rt: HostRuntime) -> Result<(), Fail> {
+fn walks_that_are_given_up_drop_what_they_have(rt: HostRuntime) -> Result<(), Fail> {
     let alloc = rt.alloc();
     let tokens = Tokens::new(alloc)?;
     let alive = tokens.alive();
@@ -101,18 +111,27 @@ fn walks_that_are_given_up(rt: HostRuntime) -> Result<(), Fail> {
                 for r in 0..4usize {
                     give_up_pairs(alloc, &tokens, (l, r), (count, order))?;
                     give_up_chain(alloc, &tokens, (l, r), (count, order))?;
-                    assert_eq!(rt; tokens.alive(), alive, "{l} {r}: {count} {order}");
+                    same(
+                        &rt,
+                        "values alive",
+                        &(l, r, count, order),
+                        &tokens.alive(),
+                        &alive,
+                    );
                 }
             }
-            give_up!(Left(tokens.one()?).into_iter(), count, order);
-            give_up!(Both(tokens.one()?, tokens.two()?).into_iter(), count, order);
-            give_up!(Right(tokens.two()?).into_iter(), count, order);
-            give_up!(
-                Either::<Rc<u8>>::Left(tokens.one()?).into_iter(),
-                count,
-                order
+            let calls = (count, order);
+            give_up_values(Left(tokens.one()?), calls);
+            give_up_values(Both(tokens.one()?, tokens.two()?), calls);
+            give_up_values(Right(tokens.two()?), calls);
+            give_up_value(Either::Left(tokens.one()?), calls);
+            same(
+                &rt,
+                "values alive",
+                &(count, order),
+                &tokens.alive(),
+                &alive,
             );
-            assert_eq!(rt; tokens.alive(), alive, "values: {count} {order}");
         }
     }
     Ok(())

@@ -1,5 +1,6 @@
 //! Containers in an `Either` that grow.
 
+use crate::same::same;
 use either_or_both::Either;
 use eob_testkit::memory::{RUNS, Refusing, Source, Tokens, Watch};
 use std::alloc::Global;
@@ -29,18 +30,18 @@ fn check(
         };
         memory.refuse_from(number);
         let judged = memory.judge(pair.extend(Source::new(items, &watch)))?;
-        assert!(rt; !watch.is_late(), "request {number} refused");
-        assert_eq!(rt; pair.is_left(), is_left, "request {number} refused");
+        same(rt, "a late call", &number, &watch.is_late(), &false);
+        same(rt, "is_left", &number, &pair.is_left(), &is_left);
         let list = pair.reduce();
         let (first, rest) = list.split_first().ok_or("it lost what it held")?;
-        assert_eq!(rt; **first, 1);
-        assert!(rt; items.starts_with(rest), "request {number} refused");
+        let begins = items.starts_with(rest);
+        same(rt, "the list", &number, &(**first, begins), &(1, true));
         let is_whole = rest.len() == items.len();
         drop(list);
-        assert_eq!(rt; tokens.alive(), alive, "request {number} refused");
-        assert_eq!(rt; judged.is_some(), is_whole, "request {number} refused");
+        same(rt, "values alive", &number, &tokens.alive(), &alive);
+        same(rt, "extend", &number, &judged.is_some(), &is_whole);
         if is_whole {
-            assert!(rt; 1 < number);
+            same(rt, "refused runs", &is_left, &(1 < number), &true);
             return Ok(());
         }
     }

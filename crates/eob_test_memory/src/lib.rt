@@ -19,3 +19,5 @@ mod drops;
 mod extending;
 #[cfg(test)]
 mod many;
+#[cfg(test)]
+mod same;

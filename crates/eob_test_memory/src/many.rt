@@ -4,6 +4,7 @@ ghost use Rattle.std.specs.Prelude.{List};
 ghost use Rattle.eob_both.specs.declared.either_or_both.EitherOrBoth as enum;
 ghost use Rattle.either_or_both.specs.declared.either.Either as one;
 
+use crate::same::same;
 use either_or_both::EitherOrBoth::{Both, Left, Right};
 use either_or_both::join::{is_rising, outer_join_in};
 use either_or_both::laws::{Walked, recollect_in, regroup_in};
@@ -109,14 +110,19 @@ fn check_collected<'a, I: Clone + Drop, P: FromIterator<I, Alloc = Memory<'a>> +
         let watch = Watch::new(memory);
         memory.refuse(number);
         let ended: Result<P, AllocError> = Source::new(items, &watch).collect(memory);
-        assert!(rt; !watch.is_late(), "request {number} refused");
+        same(rt, "a late call", &number, &watch.is_late(), &false);
         let judged = memory.judge(ended)?;
         let is_whole = judged.is_some();
         if let Some(whole) = judged {
-            assert!(rt; whole == *want, "collected");
-            assert!(rt; 1 < number);
+            same(
+                rt,
+                "collect",
+                &number,
+                &(whole == *want, 1 < number),
+                &(true, true),
+            );
         }
-        assert_eq!(rt; alive(numbers), count, "request {number} refused");
+        same(rt, "values alive", &number, &alive(numbers), &count);
         if is_whole {
             return Ok(());
         }
@@ -165,14 +171,14 @@ where
         let again = memory.judge(recollect_in(memory, pair))?;
         let are_whole = (cloned.is_some(), again.is_some());
         if let Some(cloned) = cloned {
-            assert!(rt; cloned == want, "cloned");
+            same(rt, "clone", &number, &(cloned == want), &true);
         }
         if let Some(again) = again {
-            assert!(rt; again == want, "collected again");
+            same(rt, "recollect", &number, &(again == want), &true);
         }
-        assert_eq!(rt; alive(numbers), count, "request {number} refused");
+        same(rt, "values alive", &number, &alive(numbers), &count);
         if are_whole == (true, true) {
-            assert!(rt; 1 < number);
+            same(rt, "refused runs", &number, &(1 < number), &true);
             return Ok(());
         }
     }
@@ -237,10 +243,16 @@ fn lists_are_regrouped(rt: HostRuntime) -> Result<(), Fail> {
         }
         memory.refuse(number);
         if let Some(whole) = memory.judge(regroup_in(&memory, list))? {
-            assert!(rt; whole.as_slice() == want.as_slice());
+            same(&rt, "regroup", &number, &whole.as_slice(), &want.as_slice());
             return Ok(());
         }
-        assert_eq!(rt; alive((&left, &right)), count, "request {number} refused");
+        same(
+            &rt,
+            "values alive",
+            &number,
+            &alive((&left, &right)),
+            &count,
+        );
     }
     Err("each run was refused")?;
     Ok(())
@@ -272,10 +284,22 @@ fn lists_are_joined(rt: HostRuntime) -> Result<(), Fail> {
         assert!(rt; is_rising(&left) && is_rising(&right));
         memory.refuse(number);
         if let Some(joined) = memory.judge(outer_join_in(&memory, left, right))? {
-            assert!(rt; joined.as_slice() == want.as_slice());
+            same(
+                &rt,
+                "outer_join",
+                &number,
+                &joined.as_slice(),
+                &want.as_slice(),
+            );
             return Ok(());
         }
-        assert_eq!(rt; Rc::strong_count(&one), count, "request {number} refused");
+        same(
+            &rt,
+            "values alive",
+            &number,
+            &Rc::strong_count(&one),
+            &count,
+        );
     }
     Err("each run was refused")?;
     Ok(())

@@ -32,6 +32,15 @@ impl Tokens {
         self.numbers[2].clone()
     }
 
+    /// Another 1 for 1, another 2 for 2, and another 3 for each other number.
+    pub fn of(&self, number: u8) -> Result<Rc<u8>, AllocError> {
+        match number {
+            1 => self.one(),
+            2 => self.two(),
+            _ => self.three(),
+        }
+    }
+
     /// How many values are alive.
     pub fn alive(&self) -> usize {
         let mut sum = 0usize;
