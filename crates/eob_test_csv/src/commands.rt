@@ -1,0 +1,86 @@
+//! Each command on tables that are texts.
+
+use eob_csv::{Answer, Fault, Form, Kind, Opened, Settings, change, compare, join, merge};
+use std::alloc::Global;
+use std::test::Fail;
+
+pub const COMMAS: Form = Form {
+    delimiter: b',',
+    has_header: true,
+};
+
+pub const PLAIN: Settings<'static> = Settings {
+    form: COMMAS,
+    key: None,
+    keeps_order: false,
+    groups: false,
+    rises: false,
+};
+
+/// The answer to `diff`, as CSV where that is asked for.
+pub fn compared<'a>(
+    alloc: Global,
+    settings: Settings<'a>,
+    csv: bool,
+    old: &[u8],
+    new: &[u8],
+) -> Result<Answer, Fault<'a>> {
+    let old = Opened::table(alloc, settings, "old", old)?;
+    let new = Opened::table(alloc, settings, "new", new)?;
+    compare(alloc, settings, csv, old, new)
+}
+
+/// The answer to `apply`.
+pub fn applied<'a>(
+    alloc: Global,
+    settings: Settings<'a>,
+    old: &[u8],
+    changes: &[u8],
+) -> Result<Answer, Fault<'a>> {
+    let old = Opened::table(alloc, settings, "old", old)?;
+    let changes = Opened::changes(alloc, settings, "changes", changes)?;
+    change(alloc, settings, old, changes)
+}
+
+/// The answer to `merge`.
+pub fn merged<'a>(
+    alloc: Global,
+    settings: Settings<'a>,
+    base: &[u8],
+    ours: &[u8],
+    theirs: &[u8],
+) -> Result<Answer, Fault<'a>> {
+    let base = Opened::table(alloc, settings, "base", base)?;
+    let ours = Opened::table(alloc, settings, "ours", ours)?;
+    let theirs = Opened::table(alloc, settings, "theirs", theirs)?;
+    merge(alloc, settings, base, ours, theirs)
+}
+
+/// The answer to `join`.
+pub fn joined<'a>(
+    alloc: Global,
+    settings: Settings<'a>,
+    kind: Kind,
+    left: &[u8],
+    right: &[u8],
+) -> Result<Answer, Fault<'a>> {
+    let left = Opened::table(alloc, settings, "left", left)?;
+    let right = Opened::table(alloc, settings, "right", right)?;
+    join(alloc, settings, kind, left, right)
+}
+
+/// The answer of a command whose inputs are good.
+pub fn answered(outcome: Result<Answer, Fault<'_>>) -> Result<Answer, Fail> {
+    match outcome {
+        Ok(answer) => Ok(answer),
+        Err(fault) => Err(Fail::new(fault)),
+    }
+}
+
+/// What is said of an input that is bad.
+pub fn said(alloc: Global, outcome: Result<Answer, Fault<'_>>) -> Result<String, Fail> {
+    match outcome {
+        Ok(_) => Err(Fail::new("no fault")),
+        Err(fault) => Ok(format!(in alloc; "{fault}")?),
+    }
+}

@@ -1,0 +1,137 @@
+//! Tests: tables with no header, and rows in the order of the files.
+
+use crate::commands::{COMMAS, PLAIN, answered, applied, compared, joined, merged};
+use eob_csv::{Form, Kind, Settings};
+use std::alloc::{AllocError, Global};
+use std::test::Fail;
+
+const NUMBERED: Settings<'static> = Settings {
+    form: Form {
+        delimiter: b';',
+        has_header: false,
+    },
+    key: Some("2"),
+    keeps_order: false,
+    groups: false,
+    rises: false,
+};
+
+const IN_ORDER: Settings<'static> = Settings {
+    form: COMMAS,
+    key: None,
+    keeps_order: true,
+    groups: false,
+    rises: false,
+};
+
+// Two tables, the changes between them, and the first with the changes made to it.
+type Changed = (&'static [u8], &'static [u8], &'static [u8], &'static [u8]);
+
+const OLD: &[u8] = b"x;2;p\ny;1;q\n";
+
+const NEW: &[u8] = b"z;3;r\ny;1;s\n";
+
+#[rattlefmt::skip]
+const CHANGED: [Changed; 3] = [
+    (OLD, NEW, b"-;y;1;q\n+;y;1;s\n-;x;2;p\n+;z;3;r\n", b"y;1;s\nz;3;r\n"),
+    (b"", OLD, b"+;y;1;q\n+;x;2;p\n", b"y;1;q\nx;2;p\n"),
+    (OLD, b"", b"-;y;1;q\n-;x;2;p\n", b""),
+];
+
+/// With no header the first row is a row, columns are named by number, and none is written. An empty file is a table of no rows.
+#[test]
+fn columns_with_no_header_have_numbers(rt: HostRuntime) -> Result<(), Fail> {
+    let alloc = rt.alloc();
+    for (old, new, changes, made) in CHANGED {
+        let answer = answered(compared(alloc, NUMBERED, true, old, new))?;
+        assert_eq!(rt; answer.status, 1);
+        assert!(rt; answer.bytes.as_slice() == changes);
+        let answer = answered(applied(alloc, NUMBERED, old, changes))?;
+        assert_eq!(rt; answer.status, 0);
+        assert!(rt; answer.bytes.as_slice() == made);
+    }
+    Ok(())
+}
+
+/// A column may have any name, also that of the sign of changes; and columns are written in the order of the headers.
+#[test]
+fn columns_keep_their_names_and_order(rt: HostRuntime) -> Result<(), Fail> {
+    let alloc = rt.alloc();
+    let settings = Settings {
+        key: Some("id"),
+        ..PLAIN
+    };
+    let old: &[u8] = b"change,id\nx,1\n";
+    let new: &[u8] = b"change,id,more\ny,1,z\n";
+    let answer = answered(compared(alloc, settings, true, old, new))?;
+    let changes: &[u8] = b"change,change,id,more\n-,x,1,\n+,y,1,z\n";
+    assert!(rt; answer.bytes.as_slice() == changes);
+    let answer = answered(applied(alloc, settings, old, changes))?;
+    assert!(rt; answer.bytes.as_slice() == new);
+    Ok(())
+}
+
+// Cells as CSV writes them: plain, empty, with a comma, quotes, line ends and spaces, and bytes that are no UTF-8.
+const SHAPES: [&[u8]; 8] = [
+    b"plain",
+    b"",
+    b"\"a,b\"",
+    b"\"say \"\"so\"\"\"",
+    b"\"two\r\nlines\"",
+    b" x ",
+    b"\xff\xfe",
+    b"\xc3\xa9",
+];
+
+// A table with a row for each pair of shapes, of which it has the first or the second.
+fn shapes(alloc: Global, has_second: bool) -> Result<Vec<u8>, AllocError> {
+    let mut text = Vec::from_slice(alloc, b"id,cell\n")?;
+    for (number, first) in SHAPES.iter().enumerate() {
+        for (other, second) in SHAPES.iter().enumerate() {
+            text.extend_from_slice(format!(in alloc; "{number}{other},")?.as_bytes())?;
+            text.extend_from_slice(if has_second { second } else { first })?;
+            text.push(b'\n')?;
+        }
+    }
+    Ok(text)
+}
+
+/// A cell of each shape that becomes one of each other shape is found again when the changes are read, and no cell changes by the way.
+#[test]
+fn cells_of_every_shape_pass_unchanged(rt: HostRuntime) -> Result<(), Fail> {
+    let alloc = rt.alloc();
+    let old = shapes(alloc, false)?;
+    let new = shapes(alloc, true)?;
+    let changes = answered(compared(alloc, PLAIN, true, &old, &new))?;
+    let made = answered(applied(alloc, PLAIN, &old, &changes.bytes))?;
+    assert_eq!(rt; made.status, 0);
+    assert!(rt; made.bytes == new);
+    Ok(())
+}
+
+// Two tables in no order, and what each command makes of them in the order of the files.
+const FIRST: &[u8] = b"id,a\n5,p\n1,p\n3,p\n";
+
+const NEXT: &[u8] = b"id,a\n4,p\n3,q\n2,p\n5,q\n";
+
+const CHANGES: &[u8] = b"change,id,a\n-,5,p\n+,5,q\n-,1,p\n-,3,p\n+,3,q\n+,4,p\n+,2,p\n";
+
+const MADE: &[u8] = b"id,a\n5,q\n3,q\n4,p\n2,p\n";
+
+const JOINED: &[u8] = b"id,left.a,right.a\n5,p,q\n3,p,q\n4,,p\n2,,p\n";
+
+/// In the order of the files each command gives the rows of the first in its order, and then those of the next.
+#[test]
+fn rows_keep_the_order_of_the_files(rt: HostRuntime) -> Result<(), Fail> {
+    let alloc = rt.alloc();
+    let base = b"id,a\n1,p\n3,p\n5,p\n";
+    for (outcome, wanted) in [
+        (compared(alloc, IN_ORDER, true, FIRST, NEXT), CHANGES),
+        (applied(alloc, IN_ORDER, FIRST, CHANGES), MADE),
+        (joined(alloc, IN_ORDER, Kind::Right, FIRST, NEXT), JOINED),
+        (merged(alloc, IN_ORDER, base, FIRST, NEXT), MADE),
+    ] {
+        assert!(rt; answered(outcome)?.bytes.as_slice() == wanted);
+    }
+    Ok(())
+}

@@ -1,0 +1,17 @@
+//! Tests of tables of CSV: tables of hundreds of rows made by a rule, changes made again, and what is said of inputs that are bad.
+#![tactic(auto)]
+
+#[cfg(test)]
+mod commands;
+#[cfg(test)]
+mod faults;
+#[cfg(test)]
+mod form;
+#[cfg(test)]
+mod groups;
+#[cfg(test)]
+mod merge;
+#[cfg(test)]
+mod sorted;
+#[cfg(test)]
+mod whole;
