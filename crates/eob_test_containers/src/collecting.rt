@@ -61,7 +61,7 @@ static COLLECTED_FROM_EITHER: [(&[Either<u8, char>], Sides); 11] = [
 /// The left values go into one vector and the right ones into another, in order. Both are given where both are empty or neither
 /// is, and else the one that is not empty.
 #[test]
-fn lists_of_values(rt: HostRuntime) -> Result<(), AllocError> {
+fn values_are_collected_into_vectors(rt: HostRuntime) -> Result<(), AllocError> {
     for (values, want) in COLLECTED.iter().copied() {
         let pair: Pair = values.iter().copied().collect(rt.alloc())?;
         assert_eq!(rt;
@@ -107,7 +107,7 @@ impl<'a, T: Copy> Iterator for Vague<'a, T> {
 
 /// No memory is taken for items that a hint allows and that do not come.
 #[test]
-fn vague_hints(rt: HostRuntime) -> Result<(), AllocError> {
+fn no_memory_is_taken_on_a_hint(rt: HostRuntime) -> Result<(), AllocError> {
     let values = [Left(1), Right('c')];
     let pair: Pair = Vague(&values).collect(rt.alloc())?;
     assert_eq!(rt;

@@ -106,19 +106,27 @@ fn shows<S: Debug + Copy, P: Debug + Drop>(
 /// Values, and what they are collected into: lists, sets in the order of insertion, and sets in the order of their values.
 #[rattlefmt::skip]
 static VALUES: [(&[EitherOrBoth<u8, char>], &str, &str, &str); 7] = [
-    // values                               lists                     by insertion           by order
-    (&[],                                   "Both([], [])",           "Both({}, {})",        "Both({}, {})"),
-    (&[Left(1), Right('c')],                "Both([1], ['c'])",       "Both({1}, {'c'})",    "Both({1}, {'c'})"),
-    (&[Left(3), Left(1), Left(3)],          "Left([3, 1, 3])",        "Left({3, 1})",        "Left({1, 3})"),
-    (&[Right('m'), Right('c'), Right('m')], "Right(['m', 'c', 'm'])", "Right({'m', 'c'})",   "Right({'c', 'm'})"),
-    (&[Left(3), Right('c'), Left(3)],       "Both([3, 3], ['c'])",    "Both({3}, {'c'})",    "Both({3}, {'c'})"),
-    (&[Both(1, 'c'), Left(2)],              "Both([1, 2], ['c'])",    "Both({1, 2}, {'c'})", "Both({1, 2}, {'c'})"),
-    (&[Both(2, 'c'), Left(1), Left(2)],     "Both([2, 1, 2], ['c'])", "Both({2, 1}, {'c'})", "Both({1, 2}, {'c'})"),
+    // values
+        // lists                  by insertion           by order
+    (&[],
+        "Both([], [])",           "Both({}, {})",        "Both({}, {})"),
+    (&[Left(1), Right('c')],
+        "Both([1], ['c'])",       "Both({1}, {'c'})",    "Both({1}, {'c'})"),
+    (&[Left(3), Left(1), Left(3)],
+        "Left([3, 1, 3])",        "Left({3, 1})",        "Left({1, 3})"),
+    (&[Right('m'), Right('c'), Right('m')],
+        "Right(['m', 'c', 'm'])", "Right({'m', 'c'})",   "Right({'c', 'm'})"),
+    (&[Left(3), Right('c'), Left(3)],
+        "Both([3, 3], ['c'])",    "Both({3}, {'c'})",    "Both({3}, {'c'})"),
+    (&[Both(1, 'c'), Left(2)],
+        "Both([1, 2], ['c'])",    "Both({1, 2}, {'c'})", "Both({1, 2}, {'c'})"),
+    (&[Both(2, 'c'), Left(1), Left(2)],
+        "Both([2, 1, 2], ['c'])", "Both({2, 1}, {'c'})", "Both({1, 2}, {'c'})"),
 ];
 
 /// Vectors and queues hold what came in order, and sets hold it once, in the order of first places or in that of the values.
 #[test]
-fn lists_and_sets(rt: HostRuntime) -> Result<(), Fail> {
+fn lists_and_sets_hold_what_came(rt: HostRuntime) -> Result<(), Fail> {
     let alloc = rt.alloc();
     for (values, lists, inserted, ordered) in VALUES.iter().copied() {
         let pair: EitherOrBoth<Vec<u8>, Vec<char>> = Vague(values).collect(alloc)?;
@@ -138,7 +146,7 @@ fn lists_and_sets(rt: HostRuntime) -> Result<(), Fail> {
 
 /// Sets with a hasher of their own hold the same.
 #[test]
-fn sets_by_a_hasher_of_their_own(rt: HostRuntime) -> Result<(), Fail> {
+fn sets_with_a_hasher_of_their_own_hold_the_same(rt: HostRuntime) -> Result<(), Fail> {
     let alloc = rt.alloc();
     for (values, _, inserted, ordered) in VALUES.iter().copied() {
         let pair: EitherOrBoth<IndexSet<u8, ByCounting>, IndexSet<char, ByCounting>> = Vague(
@@ -159,14 +167,22 @@ type Entries<K> = &'static [EitherOrBoth<(K, u8), (K, char)>];
 /// Entries, and the maps that they are collected into: in the order of insertion, and in the order of their keys.
 #[rattlefmt::skip]
 static ENTRIES: [(Entries<u8>, &str, &str); 7] = [
-    // entries                                              by insertion                    by keys
-    (&[],                                                   "Both({}, {})",                 "Both({}, {})"),
-    (&[Left((1, 7)), Right((2, 'c'))],                      "Both({1: 7}, {2: 'c'})",       "Both({1: 7}, {2: 'c'})"),
-    (&[Left((1, 7)), Left((2, 8)), Left((1, 9))],           "Left({1: 9, 2: 8})",           "Left({1: 9, 2: 8})"),
-    (&[Left((2, 7)), Left((1, 8)), Left((2, 9))],           "Left({2: 9, 1: 8})",           "Left({1: 8, 2: 9})"),
-    (&[Right((2, 'x')), Right((1, 'y')), Right((2, 'z'))],  "Right({2: 'z', 1: 'y'})",      "Right({1: 'y', 2: 'z'})"),
-    (&[Both((1, 7), (2, 'x')), Right((2, 'y'))],            "Both({1: 7}, {2: 'y'})",       "Both({1: 7}, {2: 'y'})"),
-    (&[Left((2, 7)), Both((1, 8), (3, 'z')), Left((2, 9))], "Both({2: 9, 1: 8}, {3: 'z'})", "Both({1: 8, 2: 9}, {3: 'z'})"),
+    // entries
+        // by insertion                 by keys
+    (&[],
+        "Both({}, {})",                 "Both({}, {})"),
+    (&[Left((1, 7)), Right((2, 'c'))],
+        "Both({1: 7}, {2: 'c'})",       "Both({1: 7}, {2: 'c'})"),
+    (&[Left((1, 7)), Left((2, 8)), Left((1, 9))],
+        "Left({1: 9, 2: 8})",           "Left({1: 9, 2: 8})"),
+    (&[Left((2, 7)), Left((1, 8)), Left((2, 9))],
+        "Left({2: 9, 1: 8})",           "Left({1: 8, 2: 9})"),
+    (&[Right((2, 'x')), Right((1, 'y')), Right((2, 'z'))],
+        "Right({2: 'z', 1: 'y'})",      "Right({1: 'y', 2: 'z'})"),
+    (&[Both((1, 7), (2, 'x')), Right((2, 'y'))],
+        "Both({1: 7}, {2: 'y'})",       "Both({1: 7}, {2: 'y'})"),
+    (&[Left((2, 7)), Both((1, 8), (3, 'z')), Left((2, 9))],
+        "Both({2: 9, 1: 8}, {3: 'z'})", "Both({1: 8, 2: 9}, {3: 'z'})"),
 ];
 
 const ONE: Alike = Alike(1);
@@ -176,9 +192,12 @@ const TWO: Alike = Alike(2);
 /// The same of keys that all hash alike.
 #[rattlefmt::skip]
 static ENTRIES_ALIKE: [(Entries<Alike>, &str, &str); 2] = [
-    // entries                                                  by insertion                    by keys
-    (&[Left((ONE, 7)), Left((TWO, 8)), Left((ONE, 9))],         "Left({1: 9, 2: 8})",           "Left({1: 9, 2: 8})"),
-    (&[Both((TWO, 7), (TWO, 'x')), Both((ONE, 8), (TWO, 'y'))], "Both({2: 7, 1: 8}, {2: 'y'})", "Both({1: 8, 2: 7}, {2: 'y'})"),
+    // entries
+        // by insertion                 by keys
+    (&[Left((ONE, 7)), Left((TWO, 8)), Left((ONE, 9))],
+        "Left({1: 9, 2: 8})",           "Left({1: 9, 2: 8})"),
+    (&[Both((TWO, 7), (TWO, 'x')), Both((ONE, 8), (TWO, 'y'))],
+        "Both({2: 7, 1: 8}, {2: 'y'})", "Both({1: 8, 2: 7}, {2: 'y'})"),
 ];
 
 // Collects the entries of each row into maps of each shape.
@@ -210,13 +229,13 @@ fn check_entries<K: Hash + Ord + Debug + Copy + Drop>(
 
 /// A key has the value of its last place, in the order of first places or in that of the keys.
 #[test]
-fn maps(rt: HostRuntime) -> Result<(), Fail> {
+fn keys_have_the_value_of_their_last_place(rt: HostRuntime) -> Result<(), Fail> {
     check_entries(&rt, rt.alloc(), &ENTRIES)
 }
 
 /// Keys that all hash alike are told apart, in maps and in sets.
 #[test]
-fn keys_that_hash_alike(rt: HostRuntime) -> Result<(), Fail> {
+fn keys_that_hash_alike_are_told_apart(rt: HostRuntime) -> Result<(), Fail> {
     let alloc = rt.alloc();
     check_entries(&rt, alloc, &ENTRIES_ALIKE)?;
     let keys = [Both(TWO, TWO), Left(ONE), Left(TWO)];
@@ -232,7 +251,7 @@ fn keys_that_hash_alike(rt: HostRuntime) -> Result<(), Fail> {
 
 /// Ordered maps and sets whose sides have one type keep the side of each item.
 #[test]
-fn sides_of_one_type(rt: HostRuntime) -> Result<(), Fail> {
+fn entries_keep_their_side_where_both_have_one_type(rt: HostRuntime) -> Result<(), Fail> {
     let alloc = rt.alloc();
     let left = [Left((2, 'a')), Left((1, 'b')), Left((2, 'c'))];
     let pair: EitherOrBoth<BTreeMap<u8, char>> = Vague(&left).collect(alloc)?;

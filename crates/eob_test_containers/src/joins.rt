@@ -18,18 +18,25 @@ type Joined<K, V> = &'static [(K, EitherOrBoth<V, V>)];
 /// Two lists whose keys rise, and their join.
 #[rattlefmt::skip]
 static JOINED: [(Table<u8, char>, Table<u8, char>, Joined<u8, char>); 6] = [
-    // left                 right                            joined
-    (&[],                   &[],                             &[]),
-    (&[(1, 'a'), (3, 'b')], &[(2, 'x'), (3, 'y')],           &[(1, Left('a')), (2, Right('x')), (3, Both('b', 'y'))]),
-    (&[(1, 'a')],           &[(1, 'x')],                     &[(1, Both('a', 'x'))]),
-    (&[(1, 'a'), (2, 'b')], &[],                             &[(1, Left('a')), (2, Left('b'))]),
-    (&[],                   &[(1, 'x'), (2, 'y')],           &[(1, Right('x')), (2, Right('y'))]),
-    (&[(4, 'a'), (9, 'b')], &[(1, 'x'), (2, 'y'), (4, 'z')], &[(1, Right('x')), (2, Right('y')), (4, Both('a', 'z')), (9, Left('b'))]),
+    // left, right
+        // joined
+    (&[], &[],
+        &[]),
+    (&[(1, 'a'), (3, 'b')], &[(2, 'x'), (3, 'y')],
+        &[(1, Left('a')), (2, Right('x')), (3, Both('b', 'y'))]),
+    (&[(1, 'a')], &[(1, 'x')],
+        &[(1, Both('a', 'x'))]),
+    (&[(1, 'a'), (2, 'b')], &[],
+        &[(1, Left('a')), (2, Left('b'))]),
+    (&[], &[(1, 'x'), (2, 'y')],
+        &[(1, Right('x')), (2, Right('y'))]),
+    (&[(4, 'a'), (9, 'b')], &[(1, 'x'), (2, 'y'), (4, 'z')],
+        &[(1, Right('x')), (2, Right('y')), (4, Both('a', 'z')), (9, Left('b'))]),
 ];
 
 /// Each key of either list comes once, in order, with what the two lists have under it, at once and item by item.
 #[test]
-fn joins_small_lists(rt: HostRuntime) -> Result<(), Fail> {
+fn small_lists_are_joined(rt: HostRuntime) -> Result<(), Fail> {
     for (left, right, want) in JOINED.iter().copied() {
         assert!(rt; is_rising(left) && is_rising(right), "{left:?} {right:?}");
         let p = Vec::from_slice(rt.alloc(), left)?;
@@ -44,7 +51,7 @@ fn joins_small_lists(rt: HostRuntime) -> Result<(), Fail> {
 
 /// A list rises where each key is less than the next.
 #[test]
-fn knows_lists_that_rise(rt: HostRuntime) {
+fn lists_that_rise_are_known(rt: HostRuntime) {
     assert!(rt; is_rising::<u8, char>(&[]));
     assert!(rt; is_rising(&[(1, 'a')]));
     assert!(rt; is_rising(&[(1, 'a'), (2, 'a')]));
@@ -105,7 +112,7 @@ fn by_definition(
 
 /// Lists of every length up to fifty are joined as the definition says, at once, item by item, and by reference.
 #[test]
-fn joins_as_defined(rt: HostRuntime) -> Result<(), Fail> {
+fn lists_are_joined_as_defined(rt: HostRuntime) -> Result<(), Fail> {
     let mut numbers = Numbers { state: 15 };
     for left_len in 0..51u32 {
         for right_len in 0..51u32 {
@@ -131,7 +138,7 @@ fn joins_as_defined(rt: HostRuntime) -> Result<(), Fail> {
 
 /// Rows come in the order of the keys: of texts by their bytes, of reversed numbers from the greatest down.
 #[test]
-fn joins_by_texts_and_in_reverse(rt: HostRuntime) -> Result<(), Fail> {
+fn rows_come_in_the_order_of_the_keys(rt: HostRuntime) -> Result<(), Fail> {
     let left = [("a10", 1), ("b", 2)];
     let right = [("a9", 3), ("b", 4)];
     let by_text = outer_join_lazily(left, right).collect::<Vec<_>>(rt.alloc())?;
@@ -152,7 +159,7 @@ fn joins_by_texts_and_in_reverse(rt: HostRuntime) -> Result<(), Fail> {
 
 /// Maps that are joined by reference are there afterwards.
 #[test]
-fn joins_maps_that_stay(rt: HostRuntime) -> Result<(), Fail> {
+fn maps_joined_by_reference_stay(rt: HostRuntime) -> Result<(), Fail> {
     let mut left = BTreeMap::new(rt.alloc());
     left.insert(3, 'b')?;
     left.insert(1, 'a')?;
@@ -191,7 +198,7 @@ impl<'a> Iterator for Asked<'a> {
 
 /// Each side is asked for one item at once and for one more where its item is given, and a side that has ended no more.
 #[test]
-fn asks_ended_side_no_more(rt: HostRuntime) {
+fn ended_side_is_asked_no_more(rt: HostRuntime) {
     let left = Cell::new(0u32);
     let right = Cell::new(0u32);
     let mut walk = outer_join_lazily(

@@ -23,7 +23,7 @@ static LISTS: [(List, List, bool); 9] = [
 
 /// Regrouping puts the left and the right values side by side again, gives a normal list, and leaves a normal one as it is.
 #[test]
-fn regrouped_lists(rt: HostRuntime) -> Result<(), Fail> {
+fn regrouping_gives_a_normal_list(rt: HostRuntime) -> Result<(), Fail> {
     let alloc = rt.alloc();
     for (list, want, normal) in LISTS.iter().copied() {
         assert_eq!(rt; is_normal(list), normal, "{list:?}");

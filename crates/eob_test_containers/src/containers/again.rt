@@ -51,7 +51,7 @@ static VALUES: [(Lists<u8, char>, &str, &str, &str); 7] = [
 
 /// Lists and sets that are collected again keep what they hold, and an empty side is given up where the other one is not empty.
 #[test]
-fn lists_and_sets(rt: HostRuntime) -> Result<(), Fail> {
+fn lists_and_sets_are_kept(rt: HostRuntime) -> Result<(), Fail> {
     let alloc = rt.alloc();
     for (sides, lists, inserted, ordered) in VALUES.iter().copied() {
         let pair: EitherOrBoth<Vec<u8>, Vec<char>> = recollect_vec(alloc, build(alloc, sides)?)?;
@@ -89,7 +89,7 @@ static ENTRIES: [(Lists<(u8, u8), (u8, char)>, &str, &str); 7] = [
 
 /// Maps that are collected again keep what they hold, and an empty side is given up where the other one is not empty.
 #[test]
-fn maps(rt: HostRuntime) -> Result<(), Fail> {
+fn maps_are_kept(rt: HostRuntime) -> Result<(), Fail> {
     let alloc = rt.alloc();
     for (sides, inserted, ordered) in ENTRIES.iter().copied() {
         let pair: EitherOrBoth<IndexMap<u8, u8>, IndexMap<u8, char>> = build(alloc, sides)?;

@@ -32,10 +32,14 @@ const R3: Reverse<u8> = Reverse(3);
 /// Entries, and the pair of maps that they are collected into.
 #[rattlefmt::skip]
 static MAPS_REVERSED: [(Entries<Reverse<u8>>, &str); 3] = [
-    // entries                                                  maps
-    (&[Left((R1, 7)), Both((R3, 8), (R2, 'x')), Left((R1, 9))], "Both({Reverse(3): 8, Reverse(1): 9}, {Reverse(2): 'x'})"),
-    (&[Right((R1, 'x')), Right((R2, 'y'))],                     "Right({Reverse(2): 'y', Reverse(1): 'x'})"),
-    (&[Left((R1, 7)), Left((R3, 8))],                           "Left({Reverse(3): 8, Reverse(1): 7})"),
+    // entries
+        // maps
+    (&[Left((R1, 7)), Both((R3, 8), (R2, 'x')), Left((R1, 9))],
+        "Both({Reverse(3): 8, Reverse(1): 9}, {Reverse(2): 'x'})"),
+    (&[Right((R1, 'x')), Right((R2, 'y'))],
+        "Right({Reverse(2): 'y', Reverse(1): 'x'})"),
+    (&[Left((R1, 7)), Left((R3, 8))],
+        "Left({Reverse(3): 8, Reverse(1): 7})"),
 ];
 
 /// Values, and the pair of sets that they are collected into.
@@ -105,7 +109,7 @@ fn check_sets<K: Ord + Debug + Copy + Drop>(
 
 /// One item a key, in the order that the keys have, with the value of its last place.
 #[test]
-fn keys_with_an_order_of_their_own(rt: HostRuntime) -> Result<(), Fail> {
+fn order_of_the_keys_is_kept(rt: HostRuntime) -> Result<(), Fail> {
     let alloc = rt.alloc();
     check_maps(&rt, alloc, &MAPS_REVERSED)?;
     check_maps(&rt, alloc, &MAPS_BY_NUMBER)?;
