@@ -19,9 +19,9 @@ fn versions(alloc: Global) -> Result<(Vec<(u32, u32)>, Vec<(u32, u32)>), AllocEr
     Ok((old, new))
 }
 
-/// Each key whose value is not the same in both versions, with its values.
+/// A difference has each key whose value is not the same in both versions, with its values.
 #[test]
-fn changes_by_look_ups(rt: HostRuntime) -> Result<(), Fail> {
+fn changes_are_the_values_that_differ(rt: HostRuntime) -> Result<(), Fail> {
     let alloc = rt.alloc();
     let (old, new) = versions(alloc)?;
     let mut want = Vec::new(alloc);

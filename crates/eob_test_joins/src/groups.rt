@@ -106,7 +106,7 @@ fn are_rows(
 /// Some hundred rows in no order, whose keys repeat and of which each table has some alone: under each key all its values, in the
 /// order of the rows.
 #[test]
-fn unordered_tables_key_by_key(rt: HostRuntime) -> Result<(), Fail> {
+fn unordered_tables_are_joined_key_by_key(rt: HostRuntime) -> Result<(), Fail> {
     let alloc = rt.alloc();
     let left = table(alloc, 400, 35, 0)?;
     let right = table(alloc, 300, 11, 40)?;
@@ -118,7 +118,7 @@ fn unordered_tables_key_by_key(rt: HostRuntime) -> Result<(), Fail> {
 
 /// Some hundred rows in order give the same as those in no order.
 #[test]
-fn ordered_tables_key_by_key(rt: HostRuntime) -> Result<(), Fail> {
+fn ordered_tables_are_joined_key_by_key(rt: HostRuntime) -> Result<(), Fail> {
     let alloc = rt.alloc();
     let mut left = table(alloc, 400, 35, 0)?;
     let mut right = table(alloc, 300, 11, 40)?;
@@ -131,9 +131,9 @@ fn ordered_tables_key_by_key(rt: HostRuntime) -> Result<(), Fail> {
     Ok(())
 }
 
-/// The groups of one table, each key once.
+/// A table is grouped by its keys, each once, with its values in the order of the rows.
 #[test]
-fn groups_of_one_table(rt: HostRuntime) -> Result<(), Fail> {
+fn groups_have_each_key_of_a_table_once(rt: HostRuntime) -> Result<(), Fail> {
     let alloc = rt.alloc();
     let mut list = table(alloc, 400, 35, 0)?;
     list.sort()?;
@@ -149,7 +149,7 @@ fn groups_of_one_table(rt: HostRuntime) -> Result<(), Fail> {
 
 /// The parts of a slice, each key once with all its pairs, and a hint that has room for them.
 #[test]
-fn groups_of_one_slice(rt: HostRuntime) -> Result<(), Fail> {
+fn groups_are_the_parts_of_a_slice(rt: HostRuntime) -> Result<(), Fail> {
     let alloc = rt.alloc();
     let list = ordered(alloc, 400, 35, 0)?;
     assert!(rt; is_ordered(&list));
@@ -167,7 +167,7 @@ fn groups_of_one_slice(rt: HostRuntime) -> Result<(), Fail> {
 
 /// Two slices key by key, with the parts of each.
 #[test]
-fn slices_key_by_key(rt: HostRuntime) -> Result<(), Fail> {
+fn slices_are_joined_key_by_key(rt: HostRuntime) -> Result<(), Fail> {
     let alloc = rt.alloc();
     let left = ordered(alloc, 400, 35, 0)?;
     let right = ordered(alloc, 300, 11, 40)?;
@@ -186,7 +186,7 @@ fn slices_key_by_key(rt: HostRuntime) -> Result<(), Fail> {
 
 /// A slice whose keys repeat beside an ordered map that has each key once.
 #[test]
-fn slice_beside_a_map(rt: HostRuntime) -> Result<(), Fail> {
+fn slice_with_repeated_keys_is_joined_to_a_map(rt: HostRuntime) -> Result<(), Fail> {
     let alloc = rt.alloc();
     let orders = [(1, 'a'), (1, 'b'), (4, 'c')];
     let mut customers = BTreeMap::new(alloc);
@@ -201,9 +201,9 @@ fn slice_beside_a_map(rt: HostRuntime) -> Result<(), Fail> {
     Ok(())
 }
 
-/// Tables without rows.
+/// A table beside an empty one keeps its groups alone, and two empty tables have none.
 #[test]
-fn empty_tables(rt: HostRuntime) -> Result<(), Fail> {
+fn empty_tables_have_no_groups(rt: HostRuntime) -> Result<(), Fail> {
     let alloc = rt.alloc();
     let none = Table::new(alloc);
     let rows = group_join_unordered(alloc, table(alloc, 3, 1, 0)?, none.clone()?)?;
@@ -216,9 +216,9 @@ fn empty_tables(rt: HostRuntime) -> Result<(), Fail> {
     Ok(())
 }
 
-/// Both tables are dropped where memory is refused.
+/// A group join answers whole, or drops both tables where memory is refused.
 #[test]
-fn refused_group_join(rt: HostRuntime) -> Result<(), Fail> {
+fn group_join_drops_both_tables_where_refused(rt: HostRuntime) -> Result<(), Fail> {
     let memory = Refusing::new(rt.alloc());
     let tokens = Tokens::new(rt.alloc())?;
     let runs = Runs::new(rt.alloc(), &memory, &tokens);

@@ -99,7 +99,7 @@ fn are_rows(rows: &Rows, left: &[(u32, u32)], right: &[(u32, u32)]) -> bool {
 
 /// Some hundred entries, of which each map has some alone: the left map's keys in their order, then those that it lacks.
 #[test]
-fn index_maps_in_order(rt: HostRuntime) -> Result<(), Fail> {
+fn left_keys_come_in_order_and_then_the_others(rt: HostRuntime) -> Result<(), Fail> {
     let alloc = rt.alloc();
     let left = table(alloc, 400, 35)?;
     let right = table(alloc, 500, 11)?;
@@ -111,7 +111,7 @@ fn index_maps_in_order(rt: HostRuntime) -> Result<(), Fail> {
 
 /// The same of hashed maps, each in the order in which it is walked.
 #[test]
-fn hash_maps_as_walked(rt: HostRuntime) -> Result<(), Fail> {
+fn hashed_keys_come_as_they_are_walked(rt: HostRuntime) -> Result<(), Fail> {
     let alloc = rt.alloc();
     let left = hash_map(alloc, &table(alloc, 400, 35)?)?;
     let right = hash_map(alloc, &table(alloc, 500, 11)?)?;
@@ -125,7 +125,7 @@ fn hash_maps_as_walked(rt: HostRuntime) -> Result<(), Fail> {
 /// Three layers of some hundred settings: each key with the value of the last layer that has it, and the keys in the order in which
 /// the layers bring them.
 #[test]
-fn three_layers(rt: HostRuntime) -> Result<(), Fail> {
+fn last_of_three_layers_decides(rt: HostRuntime) -> Result<(), Fail> {
     let alloc = rt.alloc();
     let tables = [
         table(alloc, 300, 35)?,
@@ -156,7 +156,7 @@ fn three_layers(rt: HostRuntime) -> Result<(), Fail> {
 
 /// Both maps are dropped where memory is refused to their join.
 #[test]
-fn refused_join_of_index_maps(rt: HostRuntime) -> Result<(), Fail> {
+fn join_of_index_maps_drops_both_where_refused(rt: HostRuntime) -> Result<(), Fail> {
     let memory = Refusing::new(rt.alloc());
     let tokens = Tokens::new(rt.alloc())?;
     let runs = Runs::new(rt.alloc(), &memory, &tokens);
@@ -184,7 +184,7 @@ fn refused_join_of_index_maps(rt: HostRuntime) -> Result<(), Fail> {
 
 /// The same of hashed maps, of one key each, since their order is not told.
 #[test]
-fn refused_join_of_hash_maps(rt: HostRuntime) -> Result<(), Fail> {
+fn join_of_hash_maps_drops_both_where_refused(rt: HostRuntime) -> Result<(), Fail> {
     let memory = Refusing::new(rt.alloc());
     let tokens = Tokens::new(rt.alloc())?;
     let runs = Runs::new(rt.alloc(), &memory, &tokens);
@@ -206,7 +206,7 @@ fn refused_join_of_hash_maps(rt: HostRuntime) -> Result<(), Fail> {
 
 /// Both maps are dropped where memory is refused to the one laid over the other.
 #[test]
-fn refused_overlay(rt: HostRuntime) -> Result<(), Fail> {
+fn overlay_drops_both_maps_where_refused(rt: HostRuntime) -> Result<(), Fail> {
     let memory = Refusing::new(rt.alloc());
     let tokens = Tokens::new(rt.alloc())?;
     let runs = Runs::new(rt.alloc(), &memory, &tokens);

@@ -24,9 +24,9 @@ fn looked_up(alloc: Global) -> Result<Vec<Row>, AllocError> {
     Ok(rows)
 }
 
-/// Each key that both tables have, with both values.
+/// An inner join has each key that both tables have, with both values.
 #[test]
-fn rows_of_both(rt: HostRuntime) -> Result<(), Fail> {
+fn inner_join_has_the_keys_of_both(rt: HostRuntime) -> Result<(), Fail> {
     let alloc = rt.alloc();
     let mut want = Vec::new(alloc);
     for (key, a, b) in looked_up(alloc)? {
@@ -42,9 +42,9 @@ fn rows_of_both(rt: HostRuntime) -> Result<(), Fail> {
     Ok(())
 }
 
-/// Each key of the left table, with what the right one has.
+/// A left join has each key of the left table, with what the right one has.
 #[test]
-fn rows_of_left(rt: HostRuntime) -> Result<(), Fail> {
+fn left_join_has_each_left_key(rt: HostRuntime) -> Result<(), Fail> {
     let alloc = rt.alloc();
     let mut want = Vec::new(alloc);
     for (key, a, b) in looked_up(alloc)? {
@@ -58,9 +58,9 @@ fn rows_of_left(rt: HostRuntime) -> Result<(), Fail> {
     Ok(())
 }
 
-/// Each key of the right table, with what the left one has.
+/// A right join has each key of the right table, with what the left one has.
 #[test]
-fn rows_of_right(rt: HostRuntime) -> Result<(), Fail> {
+fn right_join_has_each_right_key(rt: HostRuntime) -> Result<(), Fail> {
     let alloc = rt.alloc();
     let mut want = Vec::new(alloc);
     for (key, a, b) in looked_up(alloc)? {
@@ -74,9 +74,9 @@ fn rows_of_right(rt: HostRuntime) -> Result<(), Fail> {
     Ok(())
 }
 
-/// Each key of the left table that the right one has too.
+/// A semi join has each key of the left table that the right one has too.
 #[test]
-fn rows_shared(rt: HostRuntime) -> Result<(), Fail> {
+fn semi_join_has_the_shared_left_rows(rt: HostRuntime) -> Result<(), Fail> {
     let alloc = rt.alloc();
     let mut want = Vec::new(alloc);
     for (key, a, b) in looked_up(alloc)? {
@@ -92,9 +92,9 @@ fn rows_shared(rt: HostRuntime) -> Result<(), Fail> {
     Ok(())
 }
 
-/// Each key of the left table that the right one lacks.
+/// An anti join has each key of the left table that the right one lacks.
 #[test]
-fn rows_alone(rt: HostRuntime) -> Result<(), Fail> {
+fn anti_join_has_the_left_rows_alone(rt: HostRuntime) -> Result<(), Fail> {
     let alloc = rt.alloc();
     let mut want = Vec::new(alloc);
     for (key, a, b) in looked_up(alloc)? {

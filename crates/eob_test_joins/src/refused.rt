@@ -9,6 +9,7 @@ use eob_joins::{
 };
 use eob_testkit::memory::{RUNS, Refusing, Runs, Tokens};
 use std::alloc::{AllocError, Global};
+use std::process::Abort;
 use std::rc::Rc;
 use std::test::Fail;
 
@@ -83,153 +84,109 @@ fn values(key: u32) -> (Option<u8>, Option<u8>) {
     (left, right)
 }
 
-/// An inner join.
+// Makes the call on the even keys and the multiples of three with each request refused in turn: the run that meets no refusal
+// answers these rows.
+fn check(rt: &impl Abort, alloc: Global, call: &str, rows: &str) -> Result<(), Fail> {
+    let memory = Refusing::new(alloc);
+    let tokens = Tokens::new(alloc)?;
+    let runs = Runs::new(alloc, &memory, &tokens);
+    for number in 1..RUNS {
+        memory.refuse(0);
+        let left = evens(&memory, &tokens)?;
+        let right = threes(&memory, &tokens)?;
+        assert!(rt; is_rising(&left) && is_rising(&right));
+        memory.refuse(number);
+        let is_whole = match call {
+            "inner_join" => runs.is_whole(inner_join_in(&memory, left, right), rows)?,
+            "left_join" => runs.is_whole(left_join_in(&memory, left, right), rows)?,
+            "right_join" => runs.is_whole(right_join_in(&memory, left, right), rows)?,
+            "semi_join" => runs.is_whole(semi_join_in(&memory, left, right), rows)?,
+            "anti_join" => runs.is_whole(anti_join_in(&memory, left, right), rows)?,
+            _ => runs.is_whole(diff_in(&memory, left, right), rows)?,
+        };
+        if is_whole {
+            return Ok(());
+        }
+    }
+    Err("each run was refused")?;
+    Ok(())
+}
+
+/// An inner join answers the rows of both tables whole, or drops the tables.
 #[test]
-fn refused_inner_join(rt: HostRuntime) -> Result<(), Fail> {
-    let memory = Refusing::new(rt.alloc());
-    let tokens = Tokens::new(rt.alloc())?;
-    let runs = Runs::new(rt.alloc(), &memory, &tokens);
-    let mut rows = Vec::new(rt.alloc());
+fn inner_join_drops_both_tables_where_refused(rt: HostRuntime) -> Result<(), Fail> {
+    let alloc = rt.alloc();
+    let mut rows = Vec::new(alloc);
     for key in 0..KEYS {
         match values(key) {
             (Some(a), Some(b)) => rows.push((key, (a, b)))?,
             _ => (),
         }
     }
-    let want = format!(in rt.alloc(); "{rows:?}")?;
-    for number in 1..RUNS {
-        memory.refuse(0);
-        let left = evens(&memory, &tokens)?;
-        let right = threes(&memory, &tokens)?;
-        assert!(rt; is_rising(&left) && is_rising(&right));
-        memory.refuse(number);
-        if runs.is_whole(inner_join_in(&memory, left, right), &want)? {
-            return Ok(());
-        }
-    }
-    Err("each run was refused")?;
-    Ok(())
+    check(&rt, alloc, "inner_join", &format!(in alloc; "{rows:?}")?)
 }
 
-/// A left join.
+/// The same of a left join.
 #[test]
-fn refused_left_join(rt: HostRuntime) -> Result<(), Fail> {
-    let memory = Refusing::new(rt.alloc());
-    let tokens = Tokens::new(rt.alloc())?;
-    let runs = Runs::new(rt.alloc(), &memory, &tokens);
-    let mut rows = Vec::new(rt.alloc());
+fn left_join_drops_both_tables_where_refused(rt: HostRuntime) -> Result<(), Fail> {
+    let alloc = rt.alloc();
+    let mut rows = Vec::new(alloc);
     for key in 0..KEYS {
         match values(key) {
             (Some(a), b) => rows.push((key, (a, b)))?,
             (None, _) => (),
         }
     }
-    let want = format!(in rt.alloc(); "{rows:?}")?;
-    for number in 1..RUNS {
-        memory.refuse(0);
-        let left = evens(&memory, &tokens)?;
-        let right = threes(&memory, &tokens)?;
-        assert!(rt; is_rising(&left) && is_rising(&right));
-        memory.refuse(number);
-        if runs.is_whole(left_join_in(&memory, left, right), &want)? {
-            return Ok(());
-        }
-    }
-    Err("each run was refused")?;
-    Ok(())
+    check(&rt, alloc, "left_join", &format!(in alloc; "{rows:?}")?)
 }
 
-/// A right join.
+/// The same of a right join.
 #[test]
-fn refused_right_join(rt: HostRuntime) -> Result<(), Fail> {
-    let memory = Refusing::new(rt.alloc());
-    let tokens = Tokens::new(rt.alloc())?;
-    let runs = Runs::new(rt.alloc(), &memory, &tokens);
-    let mut rows = Vec::new(rt.alloc());
+fn right_join_drops_both_tables_where_refused(rt: HostRuntime) -> Result<(), Fail> {
+    let alloc = rt.alloc();
+    let mut rows = Vec::new(alloc);
     for key in 0..KEYS {
         match values(key) {
             (a, Some(b)) => rows.push((key, (a, b)))?,
             (_, None) => (),
         }
     }
-    let want = format!(in rt.alloc(); "{rows:?}")?;
-    for number in 1..RUNS {
-        memory.refuse(0);
-        let left = evens(&memory, &tokens)?;
-        let right = threes(&memory, &tokens)?;
-        assert!(rt; is_rising(&left) && is_rising(&right));
-        memory.refuse(number);
-        if runs.is_whole(right_join_in(&memory, left, right), &want)? {
-            return Ok(());
-        }
-    }
-    Err("each run was refused")?;
-    Ok(())
+    check(&rt, alloc, "right_join", &format!(in alloc; "{rows:?}")?)
 }
 
-/// A semi join.
+/// The same of a semi join.
 #[test]
-fn refused_semi_join(rt: HostRuntime) -> Result<(), Fail> {
-    let memory = Refusing::new(rt.alloc());
-    let tokens = Tokens::new(rt.alloc())?;
-    let runs = Runs::new(rt.alloc(), &memory, &tokens);
-    let mut rows = Vec::new(rt.alloc());
+fn semi_join_drops_both_tables_where_refused(rt: HostRuntime) -> Result<(), Fail> {
+    let alloc = rt.alloc();
+    let mut rows = Vec::new(alloc);
     for key in 0..KEYS {
         match values(key) {
             (Some(a), Some(_)) => rows.push((key, a))?,
             _ => (),
         }
     }
-    let want = format!(in rt.alloc(); "{rows:?}")?;
-    for number in 1..RUNS {
-        memory.refuse(0);
-        let left = evens(&memory, &tokens)?;
-        let right = threes(&memory, &tokens)?;
-        assert!(rt; is_rising(&left) && is_rising(&right));
-        memory.refuse(number);
-        if runs.is_whole(semi_join_in(&memory, left, right), &want)? {
-            return Ok(());
-        }
-    }
-    Err("each run was refused")?;
-    Ok(())
+    check(&rt, alloc, "semi_join", &format!(in alloc; "{rows:?}")?)
 }
 
-/// An anti join.
+/// The same of an anti join.
 #[test]
-fn refused_anti_join(rt: HostRuntime) -> Result<(), Fail> {
-    let memory = Refusing::new(rt.alloc());
-    let tokens = Tokens::new(rt.alloc())?;
-    let runs = Runs::new(rt.alloc(), &memory, &tokens);
-    let mut rows = Vec::new(rt.alloc());
+fn anti_join_drops_both_tables_where_refused(rt: HostRuntime) -> Result<(), Fail> {
+    let alloc = rt.alloc();
+    let mut rows = Vec::new(alloc);
     for key in 0..KEYS {
         match values(key) {
             (Some(a), None) => rows.push((key, a))?,
             _ => (),
         }
     }
-    let want = format!(in rt.alloc(); "{rows:?}")?;
-    for number in 1..RUNS {
-        memory.refuse(0);
-        let left = evens(&memory, &tokens)?;
-        let right = threes(&memory, &tokens)?;
-        assert!(rt; is_rising(&left) && is_rising(&right));
-        memory.refuse(number);
-        if runs.is_whole(anti_join_in(&memory, left, right), &want)? {
-            return Ok(());
-        }
-    }
-    Err("each run was refused")?;
-    Ok(())
+    check(&rt, alloc, "anti_join", &format!(in alloc; "{rows:?}")?)
 }
 
-/// What changed.
+/// What changed is answered whole, or both versions are dropped.
 #[test]
-fn refused_diff(rt: HostRuntime) -> Result<(), Fail> {
-    let memory = Refusing::new(rt.alloc());
-    let tokens = Tokens::new(rt.alloc())?;
-    let runs = Runs::new(rt.alloc(), &memory, &tokens);
-    let mut rows = Vec::new(rt.alloc());
+fn diff_drops_both_tables_where_refused(rt: HostRuntime) -> Result<(), Fail> {
+    let alloc = rt.alloc();
+    let mut rows = Vec::new(alloc);
     for key in 0..KEYS {
         match values(key) {
             (Some(a), None) => rows.push((key, EitherOrBoth::Left(a)))?,
@@ -238,24 +195,12 @@ fn refused_diff(rt: HostRuntime) -> Result<(), Fail> {
             _ => (),
         }
     }
-    let want = format!(in rt.alloc(); "{rows:?}")?;
-    for number in 1..RUNS {
-        memory.refuse(0);
-        let left = evens(&memory, &tokens)?;
-        let right = threes(&memory, &tokens)?;
-        assert!(rt; is_rising(&left) && is_rising(&right));
-        memory.refuse(number);
-        if runs.is_whole(diff_in(&memory, left, right), &want)? {
-            return Ok(());
-        }
-    }
-    Err("each run was refused")?;
-    Ok(())
+    check(&rt, alloc, "diff", &format!(in alloc; "{rows:?}")?)
 }
 
-/// Changes made to a table.
+/// A changed table is answered whole, or the table and its changes are dropped.
 #[test]
-fn refused_apply(rt: HostRuntime) -> Result<(), Fail> {
+fn apply_drops_table_and_changes_where_refused(rt: HostRuntime) -> Result<(), Fail> {
     let memory = Refusing::new(rt.alloc());
     let tokens = Tokens::new(rt.alloc())?;
     let runs = Runs::new(rt.alloc(), &memory, &tokens);
@@ -282,13 +227,39 @@ fn refused_apply(rt: HostRuntime) -> Result<(), Fail> {
     Ok(())
 }
 
-/// Three versions joined.
+// Makes the call on three versions with each request refused in turn: the run that meets no refusal answers this. The base has the
+// even keys, ours the multiples of three, and theirs the multiples of four, or what the base has where they changed nothing.
+fn check_versions(rt: &impl Abort, alloc: Global, call: &str, want: &str) -> Result<(), Fail> {
+    let memory = Refusing::new(alloc);
+    let tokens = Tokens::new(alloc)?;
+    let runs = Runs::new(alloc, &memory, &tokens);
+    for number in 1..RUNS {
+        memory.refuse(0);
+        let base = evens(&memory, &tokens)?;
+        let ours = threes(&memory, &tokens)?;
+        let theirs = match call {
+            "merge_unchanged" => evens(&memory, &tokens)?,
+            _ => fours(&memory, &tokens)?,
+        };
+        assert!(rt; is_rising(&base) && is_rising(&ours) && is_rising(&theirs));
+        memory.refuse(number);
+        let is_whole = match call {
+            "join" => runs.is_whole(join_versions_in(&memory, base, ours, theirs), want)?,
+            _ => runs.is_whole(merge_versions_in(&memory, base, ours, theirs), want)?,
+        };
+        if is_whole {
+            return Ok(());
+        }
+    }
+    Err("each run was refused")?;
+    Ok(())
+}
+
+/// A join of three versions answers each key's values whole, or drops the versions.
 #[test]
-fn refused_join_of_versions(rt: HostRuntime) -> Result<(), Fail> {
-    let memory = Refusing::new(rt.alloc());
-    let tokens = Tokens::new(rt.alloc())?;
-    let runs = Runs::new(rt.alloc(), &memory, &tokens);
-    let mut rows = Vec::new(rt.alloc());
+fn join_drops_three_versions_where_refused(rt: HostRuntime) -> Result<(), Fail> {
+    let alloc = rt.alloc();
+    let mut rows = Vec::new(alloc);
     for key in 0..KEYS {
         let (base, ours) = values(key);
         let theirs = if key % 4 == 0 { Some(2) } else { None };
@@ -298,59 +269,34 @@ fn refused_join_of_versions(rt: HostRuntime) -> Result<(), Fail> {
             Err(_) => (),
         }
     }
-    let want = format!(in rt.alloc(); "{rows:?}")?;
-    for number in 1..RUNS {
-        memory.refuse(0);
-        let base = evens(&memory, &tokens)?;
-        let ours = threes(&memory, &tokens)?;
-        let theirs = fours(&memory, &tokens)?;
-        assert!(rt; is_rising(&base) && is_rising(&ours) && is_rising(&theirs));
-        memory.refuse(number);
-        if runs.is_whole(join_versions_in(&memory, base, ours, theirs), &want)? {
-            return Ok(());
-        }
-    }
-    Err("each run was refused")?;
-    Ok(())
+    check_versions(&rt, alloc, "join", &format!(in alloc; "{rows:?}")?)
 }
 
-/// A merge where their side changed nothing: our version.
+/// A merge where their side changed nothing answers our version, or drops the versions.
 #[test]
-fn refused_merge(rt: HostRuntime) -> Result<(), Fail> {
-    let memory = Refusing::new(rt.alloc());
-    let tokens = Tokens::new(rt.alloc())?;
-    let runs = Runs::new(rt.alloc(), &memory, &tokens);
-    let mut rows = Vec::new(rt.alloc());
+fn merge_drops_three_versions_where_refused(rt: HostRuntime) -> Result<(), Fail> {
+    let alloc = rt.alloc();
+    let mut rows = Vec::new(alloc);
     for key in 0..KEYS {
         match values(key) {
             (_, Some(ours)) => rows.push((key, ours))?,
             (_, None) => (),
         }
     }
-    let want = format!(in rt.alloc(); "Ok({rows:?})")?;
-    for number in 1..RUNS {
-        memory.refuse(0);
-        let base = evens(&memory, &tokens)?;
-        let ours = threes(&memory, &tokens)?;
-        let theirs = evens(&memory, &tokens)?;
-        assert!(rt; is_rising(&base) && is_rising(&ours) && is_rising(&theirs));
-        memory.refuse(number);
-        if runs.is_whole(merge_versions_in(&memory, base, ours, theirs), &want)? {
-            return Ok(());
-        }
-    }
-    Err("each run was refused")?;
-    Ok(())
+    check_versions(
+        &rt,
+        alloc,
+        "merge_unchanged",
+        &format!(in alloc; "Ok({rows:?})")?,
+    )
 }
 
-/// A merge where both sides changed some rows in two ways: these rows. Ours lacks a multiple of four that is none of three, and theirs
-/// lacks a multiple of six that is none of four.
+/// A merge where both sides changed some rows in two ways answers these rows, or drops the versions. Ours lacks a multiple of four
+/// that is none of three, and theirs lacks a multiple of six that is none of four.
 #[test]
-fn refused_conflicts(rt: HostRuntime) -> Result<(), Fail> {
-    let memory = Refusing::new(rt.alloc());
-    let tokens = Tokens::new(rt.alloc())?;
-    let runs = Runs::new(rt.alloc(), &memory, &tokens);
-    let mut rows = Vec::new(rt.alloc());
+fn conflicts_drop_three_versions_where_refused(rt: HostRuntime) -> Result<(), Fail> {
+    let alloc = rt.alloc();
+    let mut rows = Vec::new(alloc);
     for key in 0..KEYS {
         if key % 4 == 0 && key % 3 != 0 {
             rows.push((key, EitherOrBoth::Both(1, EitherOrBoth::Right(2))))?;
@@ -358,18 +304,5 @@ fn refused_conflicts(rt: HostRuntime) -> Result<(), Fail> {
             rows.push((key, EitherOrBoth::Both(1, EitherOrBoth::Left(2))))?;
         }
     }
-    let want = format!(in rt.alloc(); "Err({rows:?})")?;
-    for number in 1..RUNS {
-        memory.refuse(0);
-        let base = evens(&memory, &tokens)?;
-        let ours = threes(&memory, &tokens)?;
-        let theirs = fours(&memory, &tokens)?;
-        assert!(rt; is_rising(&base) && is_rising(&ours) && is_rising(&theirs));
-        memory.refuse(number);
-        if runs.is_whole(merge_versions_in(&memory, base, ours, theirs), &want)? {
-            return Ok(());
-        }
-    }
-    Err("each run was refused")?;
-    Ok(())
+    check_versions(&rt, alloc, "merge", &format!(in alloc; "Err({rows:?})")?)
 }

@@ -55,9 +55,9 @@ fn version(alloc: Global, side: Side) -> Result<Vec<(u32, u32)>, AllocError> {
     Ok(list)
 }
 
-/// A row of each verdict.
+/// A row of each verdict is judged so.
 #[test]
-fn verdicts_of_rows(rt: HostRuntime) -> Result<(), Fail> {
+fn each_row_has_its_verdict(rt: HostRuntime) -> Result<(), Fail> {
     let alloc = rt.alloc();
     let base = vec![in alloc; (1, 'a'), (2, 'a'), (3, 'a'), (4, 'a'), (5, 'a')]?;
     let ours = vec![in alloc; (1, 'a'), (2, 'b'), (3, 'a'), (4, 'b'), (5, 'b'), (6, 'b')]?;
@@ -78,7 +78,7 @@ fn verdicts_of_rows(rt: HostRuntime) -> Result<(), Fail> {
 
 /// Where no key was changed by both sides in two ways, each key has the value of the side that changed it.
 #[test]
-fn merge_without_conflict(rt: HostRuntime) -> Result<(), Fail> {
+fn merge_takes_the_side_that_changed(rt: HostRuntime) -> Result<(), Fail> {
     let alloc = rt.alloc();
     let mut want = Vec::new(alloc);
     for key in 0..KEYS {
@@ -106,7 +106,7 @@ fn merge_without_conflict(rt: HostRuntime) -> Result<(), Fail> {
 
 /// Where some keys were changed by both sides in two ways, these rows and no others.
 #[test]
-fn merge_with_conflicts(rt: HostRuntime) -> Result<(), Fail> {
+fn merge_with_conflicts_gives_these_rows(rt: HostRuntime) -> Result<(), Fail> {
     let alloc = rt.alloc();
     let mut want = Vec::new(alloc);
     for key in 0..KEYS {
