@@ -1,6 +1,7 @@
 //! Tests of the three drivers: every order of calls of both ends, compared with the list by index, and what a driver asks of the
 //! sides of its walk.
 
+use crate::same::same;
 use crate::walks::sides::{Asked, Counting};
 use either_or_both::EitherOrBoth::{self, Both, Left, Right};
 use either_or_both::laws::{End, drive_items};
@@ -48,9 +49,15 @@ fn same_answers<T: Copy + PartialEq + Debug>(
     ends: &[End],
     answers: &[Option<T>],
 ) {
-    assert_eq!(rt; answers.len(), ends.len(), "{list:?} {ends:?}");
-    for (k, given) in answers.iter().copied().enumerate() {
-        assert_eq!(rt; given, answer(list, ends, k), "{list:?} {ends:?}");
+    same(rt, "length", &(list, ends), &answers.len(), &ends.len());
+    for (k, given) in answers.iter().enumerate() {
+        same(
+            rt,
+            "answer",
+            &(list, ends, k),
+            given,
+            &answer(list, ends, k),
+        );
     }
 }
 
@@ -90,7 +97,8 @@ fn drive_both(
         ends,
     )?;
     same_answers(rt, &list, ends, &driven.answers);
-    assert_eq!(rt; driven.rest, list.len().saturating_sub(ends.len()));
+    let rest = list.len().saturating_sub(ends.len());
+    same(rt, "rest", &(numbers, letters, ends), &driven.rest, &rest);
     if r == 0 {
         let alone: EitherOrBoth<Vec<u8>, Vec<char>> = Left(numbers.to_vec(alloc)?);
         same_answers(
@@ -122,7 +130,7 @@ fn drive_both(
 
 /// Every order of up to six calls, over lists of each pair of lengths up to four, and over the values of each variant.
 #[test]
-fn every_order_of_calls(rt: HostRuntime) -> Result<(), Fail> {
+fn every_order_of_calls_gives_the_list(rt: HostRuntime) -> Result<(), Fail> {
     let alloc = rt.alloc();
     for (length, orders) in [1usize, 2, 4, 8, 16, 32, 64].iter().copied().enumerate() {
         for bits in 0..orders {
@@ -139,7 +147,8 @@ fn every_order_of_calls(rt: HostRuntime) -> Result<(), Fail> {
             ] {
                 let driven = drive_items(alloc, value, &ends)?;
                 same_answers(&rt, list, &ends, &driven.answers);
-                assert_eq!(rt; driven.rest, list.len().saturating_sub(ends.len()));
+                let rest = list.len().saturating_sub(ends.len());
+                same(&rt, "rest", &(value, ends.as_slice()), &driven.rest, &rest);
             }
         }
     }
@@ -177,41 +186,47 @@ static DRIVEN: [(&[u8], &[char], &[End], Answers, usize); 5] = [
 
 /// The drivers answer each call from the end that it names, also over a lone side, and tell how many items are left.
 #[test]
-fn driven_lists(rt: HostRuntime) -> Result<(), Fail> {
+fn each_call_is_answered_from_its_end(rt: HostRuntime) -> Result<(), Fail> {
     let alloc = rt.alloc();
     for (l, r, ends, answers, rest) in DRIVEN.iter().copied() {
         let driven = drive_swap_owned(alloc, Both(l.to_vec(alloc)?, r.to_vec(alloc)?), ends)?;
-        assert_eq!(rt; driven.answers.as_slice(), answers, "{l:?} {r:?} {ends:?}");
-        assert_eq!(rt; driven.rest, rest, "{l:?} {r:?} {ends:?}");
+        let came = (driven.answers.as_slice(), driven.rest);
+        same(&rt, "drive_swap", &(l, r, ends), &came, &(answers, rest));
     }
     let backs = [End::Back, End::Back, End::Back];
     let alone: EitherOrBoth<Vec<u8>, Vec<char>> = Right(vec![in alloc; 'c', 'm']?);
     let driven = drive_swap_owned(alloc, alone, &backs)?;
-    assert_eq!(rt;
-        driven.answers.as_slice(),
-        [Some(Right('m')), Some(Right('c')), None].as_slice()
-    );
-    assert_eq!(rt; driven.rest, 0);
+    let came = (driven.answers.as_slice(), driven.rest);
+    let answers = [Some(Right('m')), Some(Right('c')), None];
+    same(&rt, "drive_swap", &backs, &came, &(answers.as_slice(), 0));
     let in_turn = Both(vec![in alloc; 1u8, 2]?, vec![in alloc; 3u8]?);
     let ends = [End::Back, End::Front, End::Back, End::Front];
     let answers = drive_chain_owned(alloc, in_turn, &ends)?;
-    assert_eq!(rt;
-        answers.as_slice(),
-        [Some(3), Some(1), Some(2), None].as_slice()
+    let want = [Some(3), Some(1), Some(2), None];
+    same(
+        &rt,
+        "drive_chain",
+        &ends,
+        &answers.as_slice(),
+        &want.as_slice(),
     );
     let driven = drive_items(alloc, Both(1u8, 2), &[End::Back, End::Front, End::Front])?;
-    assert_eq!(rt;
-        driven.answers.as_slice(),
-        [Some(2), Some(1), None].as_slice()
+    let came = (driven.answers.as_slice(), driven.rest);
+    let want = [Some(2), Some(1), None];
+    same(
+        &rt,
+        "drive_items",
+        &"Both(1, 2)",
+        &came,
+        &(want.as_slice(), 0),
     );
-    assert_eq!(rt; driven.rest, 0);
     Ok(())
 }
 
 /// A driver takes its answers from the walk: one call of the back asks the side that gives the item once, from its back, and the
 /// other side nothing.
 #[test]
-fn one_call_of_the_back(rt: HostRuntime) -> Result<(), Fail> {
+fn one_call_of_the_back_asks_one_side(rt: HostRuntime) -> Result<(), Fail> {
     let alloc = rt.alloc();
     let (left, right) = (Asked::new(), Asked::new());
     let pair = Both(
@@ -219,10 +234,21 @@ fn one_call_of_the_back(rt: HostRuntime) -> Result<(), Fail> {
         Counting::new(&['a'], &right),
     );
     let driven = drive_swap_owned(alloc, pair, &[End::Back])?;
-    assert_eq!(rt; driven.answers.as_slice(), [Some(Left(3))].as_slice());
-    assert_eq!(rt; driven.rest, 2);
-    assert_eq!(rt; left.calls(), (0, 1));
-    assert_eq!(rt; right.calls(), (0, 0));
+    let came = (driven.answers.as_slice(), driven.rest);
+    same(
+        &rt,
+        "drive_swap",
+        &"a back",
+        &came,
+        &([Some(Left(3))].as_slice(), 2),
+    );
+    same(
+        &rt,
+        "drive_swap",
+        &"a back",
+        &[left.calls(), right.calls()],
+        &[(0, 1), (0, 0)],
+    );
 
     let (first, second) = (Asked::new(), Asked::new());
     let pair = Both(
@@ -230,8 +256,19 @@ fn one_call_of_the_back(rt: HostRuntime) -> Result<(), Fail> {
         Counting::new(&[2, 3], &second),
     );
     let answers = drive_chain_owned(alloc, pair, &[End::Back])?;
-    assert_eq!(rt; answers.as_slice(), [Some(3)].as_slice());
-    assert_eq!(rt; first.calls(), (0, 0));
-    assert_eq!(rt; second.calls(), (0, 1));
+    same(
+        &rt,
+        "drive_chain",
+        &"a back",
+        &answers.as_slice(),
+        &[Some(3)].as_slice(),
+    );
+    same(
+        &rt,
+        "drive_chain",
+        &"a back",
+        &[first.calls(), second.calls()],
+        &[(0, 0), (0, 1)],
+    );
     Ok(())
 }

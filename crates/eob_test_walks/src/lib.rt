@@ -6,4 +6,6 @@ mod ends;
 #[cfg(test)]
 mod in_turn;
 #[cfg(test)]
+mod same;
+#[cfg(test)]
 mod walks;

@@ -3,6 +3,7 @@
 
 pub mod sides;
 
+use crate::same::same;
 use either_or_both::EitherOrBoth::{Both, Left, Right};
 use either_or_both::iter::ChainedIterEitherOrBoth;
 use either_or_both::join::outer_join_lazily;
@@ -69,106 +70,104 @@ fn stays_ended<I: FusedIterator>(_walk: &I) {}
 /// From the front the aligned list comes, its length and its hint are known at each step, and a side that has ended is asked no
 /// more.
 #[test]
-fn paired_forward(rt: HostRuntime) {
+fn aligned_list_comes_from_the_front(rt: HostRuntime) {
     for (pair, want) in SIDE_BY_SIDE.iter().copied() {
         let (left, right) = (Asked::new(), Asked::new());
         let mut walk = counting(pair, &left, &right).into_iter_swap();
         stays_ended(&walk);
         for (taken, item) in want.iter().copied().enumerate() {
             let more = want.len().saturating_sub(taken);
-            assert_eq!(rt; walk.len(), more, "{pair:?}");
-            assert_eq!(rt; walk.size_hint(), (more, Some(more)), "{pair:?}");
-            assert_eq!(rt; walk.next(), Some(item), "{pair:?}");
+            let came = (walk.len(), walk.size_hint(), walk.next());
+            same(
+                &rt,
+                "next",
+                &pair,
+                &came,
+                &(more, (more, Some(more)), Some(item)),
+            );
         }
         for _ in 0..3 {
-            assert_eq!(rt; walk.len(), 0, "{pair:?}");
-            assert_eq!(rt; walk.size_hint(), (0, Some(0)), "{pair:?}");
-            assert_eq!(rt; walk.next(), None, "{pair:?}");
-            assert_eq!(rt; walk.next_back(), None, "{pair:?}");
+            let came = (walk.len(), walk.size_hint(), walk.next(), walk.next_back());
+            same(&rt, "the end", &pair, &came, &(0, (0, Some(0)), None, None));
         }
-        assert_eq!(rt; left.calls(), (to_the_end(pair.left()), 0), "{pair:?}");
-        assert_eq!(rt; right.calls(), (to_the_end(pair.right()), 0), "{pair:?}");
+        let ends = [(to_the_end(pair.left()), 0), (to_the_end(pair.right()), 0)];
+        same(&rt, "calls", &pair, &[left.calls(), right.calls()], &ends);
     }
 }
 
 /// From the back the same list comes, last first: the longer side is asked alone until the two have equally many items left.
 #[test]
-fn paired_backward(rt: HostRuntime) {
+fn aligned_list_comes_from_the_back(rt: HostRuntime) {
     for (pair, want) in SIDE_BY_SIDE.iter().copied() {
         let (left, right) = (Asked::new(), Asked::new());
         let mut walk = counting(pair, &left, &right).into_iter_swap();
         for item in want.iter().copied().rev() {
-            assert_eq!(rt; walk.next_back(), Some(item), "{pair:?}");
+            same(&rt, "next_back", &pair, &walk.next_back(), &Some(item));
         }
         for _ in 0..3 {
-            assert_eq!(rt; walk.next_back(), None, "{pair:?}");
-            assert_eq!(rt; walk.next(), None, "{pair:?}");
-            assert_eq!(rt; walk.size_hint(), (0, Some(0)), "{pair:?}");
+            let came = (walk.next_back(), walk.next(), walk.size_hint());
+            same(&rt, "the end", &pair, &came, &(None, None, (0, Some(0))));
         }
-        assert_eq!(rt; left.calls(), (0, to_the_end(pair.left())), "{pair:?}");
-        assert_eq!(rt; right.calls(), (0, to_the_end(pair.right())), "{pair:?}");
+        let ends = [(0, to_the_end(pair.left())), (0, to_the_end(pair.right()))];
+        same(&rt, "calls", &pair, &[left.calls(), right.calls()], &ends);
     }
 }
 
 /// One call of the back asks the side that gives the item, and the shorter one nothing.
 #[test]
-fn paired_back_once(rt: HostRuntime) {
+fn one_paired_call_of_the_back_asks_one_side(rt: HostRuntime) {
     let (left, right) = (Asked::new(), Asked::new());
     let mut walk = counting(Both(&[1, 2, 3], &['a']), &left, &right).into_iter_swap();
-    assert_eq!(rt; walk.next_back(), Some(Left(3)));
-    assert_eq!(rt; left.calls(), (0, 1));
-    assert_eq!(rt; right.calls(), (0, 0));
+    let came = (walk.next_back(), left.calls(), right.calls());
+    assert_eq!(rt; came, (Some(Left(3)), (0, 1), (0, 0)));
 }
 
 /// The chain gives the left list and then the right one, and asks a side that has ended no more.
 #[test]
-fn chain_forward(rt: HostRuntime) {
+fn chain_gives_the_left_list_then_the_right(rt: HostRuntime) {
     for (pair, want) in IN_TURN.iter().copied() {
         let (left, right) = (Asked::new(), Asked::new());
         let mut walk = counting(pair, &left, &right).into_iter_chain();
         stays_ended(&walk);
         for (taken, item) in want.iter().copied().enumerate() {
             let more = want.len().saturating_sub(taken);
-            assert_eq!(rt; walk.size_hint(), (more, Some(more)), "{pair:?}");
-            assert_eq!(rt; walk.next(), Some(item), "{pair:?}");
+            let came = (walk.size_hint(), walk.next());
+            same(&rt, "next", &pair, &came, &((more, Some(more)), Some(item)));
         }
         for _ in 0..3 {
-            assert_eq!(rt; walk.size_hint(), (0, Some(0)), "{pair:?}");
-            assert_eq!(rt; walk.next(), None, "{pair:?}");
-            assert_eq!(rt; walk.next_back(), None, "{pair:?}");
+            let came = (walk.size_hint(), walk.next(), walk.next_back());
+            same(&rt, "the end", &pair, &came, &((0, Some(0)), None, None));
         }
-        assert_eq!(rt; left.calls(), (to_the_end(pair.left()), 0), "{pair:?}");
-        assert_eq!(rt; right.calls(), (to_the_end(pair.right()), 0), "{pair:?}");
+        let ends = [(to_the_end(pair.left()), 0), (to_the_end(pair.right()), 0)];
+        same(&rt, "calls", &pair, &[left.calls(), right.calls()], &ends);
     }
 }
 
 /// From the back the right list comes first, and then the left one.
 #[test]
-fn chain_backward(rt: HostRuntime) {
+fn chain_gives_the_right_list_first_from_the_back(rt: HostRuntime) {
     for (pair, want) in IN_TURN.iter().copied() {
         let (left, right) = (Asked::new(), Asked::new());
         let mut walk = counting(pair, &left, &right).into_iter_chain();
         for item in want.iter().copied().rev() {
-            assert_eq!(rt; walk.next_back(), Some(item), "{pair:?}");
+            same(&rt, "next_back", &pair, &walk.next_back(), &Some(item));
         }
         for _ in 0..3 {
-            assert_eq!(rt; walk.next_back(), None, "{pair:?}");
-            assert_eq!(rt; walk.next(), None, "{pair:?}");
-            assert_eq!(rt; walk.size_hint(), (0, Some(0)), "{pair:?}");
+            let came = (walk.next_back(), walk.next(), walk.size_hint());
+            same(&rt, "the end", &pair, &came, &(None, None, (0, Some(0))));
         }
-        assert_eq!(rt; left.calls(), (0, to_the_end(pair.left())), "{pair:?}");
-        assert_eq!(rt; right.calls(), (0, to_the_end(pair.right())), "{pair:?}");
+        let ends = [(0, to_the_end(pair.left())), (0, to_the_end(pair.right()))];
+        same(&rt, "calls", &pair, &[left.calls(), right.calls()], &ends);
     }
 }
 
 /// One call of the chain's back asks the right side alone.
 #[test]
-fn chain_back_once(rt: HostRuntime) {
+fn one_call_of_the_chains_back_asks_the_right_side(rt: HostRuntime) {
     let (left, right) = (Asked::new(), Asked::new());
     let mut walk = counting(Both(&[1], &[2, 3]), &left, &right).into_iter_chain();
-    assert_eq!(rt; walk.next_back(), Some(3));
-    assert_eq!(rt; left.calls(), (0, 0));
-    assert_eq!(rt; right.calls(), (0, 1));
+    let came = (walk.next_back(), left.calls(), right.calls());
+    assert_eq!(rt; came, (Some(3), (0, 0), (0, 1)));
 }
 
 fn exact(left: usize) -> Hinted {
@@ -222,21 +221,19 @@ fn hints() -> [(EitherOrBoth<Hinted>, usize, Hint, Hint); 29] {
 /// A walk over both sides takes the greater bounds or the sums, one over a lone side takes that side's, and an ended one has none
 /// left; whatever the number of items.
 #[test]
-fn hints_of_walks(rt: HostRuntime) {
+fn walks_combine_the_hints_of_their_sides(rt: HostRuntime) {
     for (sides, taken, paired_want, chain_want) in hints() {
         let mut paired = sides.into_iter_swap();
         let mut chain = sides.into_iter_chain();
         for _ in paired.by_ref().take(taken) {}
         for _ in chain.by_ref().take(taken) {}
-        assert_eq!(rt;
-            paired.size_hint(),
-            paired_want,
-            "paired, {taken} taken of {sides:?}"
-        );
-        assert_eq!(rt;
-            chain.size_hint(),
-            chain_want,
-            "chain, {taken} taken of {sides:?}"
+        let came = (paired.size_hint(), chain.size_hint());
+        same(
+            &rt,
+            "paired and chain",
+            &(taken, sides),
+            &came,
+            &(paired_want, chain_want),
         );
     }
 }
@@ -264,14 +261,14 @@ fn held_hints() -> [(Either<Hinted>, usize, Hint); 14] {
 
 /// Both walks of an `Either` have the hint of the side that it holds, the left one as the right one.
 #[test]
-fn hints_of_held_side(rt: HostRuntime) {
+fn walks_of_either_have_the_hint_of_the_held_side(rt: HostRuntime) {
     for (side, taken, want) in held_hints() {
         let mut inner = side.into_iter_inner();
         let mut swap = side.into_iter_swap();
         for _ in inner.by_ref().take(taken) {}
         for _ in swap.by_ref().take(taken) {}
-        assert_eq!(rt; inner.size_hint(), want, "inner, {taken} taken of {side:?}");
-        assert_eq!(rt; swap.size_hint(), want, "swap, {taken} taken of {side:?}");
+        let came = [inner.size_hint(), swap.size_hint()];
+        same(&rt, "inner and swap", &(taken, side), &came, &[want; 2]);
     }
 }
 
@@ -302,15 +299,11 @@ fn joined_hints() -> [(Hinted, Hinted, usize, Hint); 16] {
 
 /// A join has at least as many rows as the longer side has items at least, and at most as many as both have together at most.
 #[test]
-fn hints_of_joins(rt: HostRuntime) {
+fn joins_have_room_for_both_sides(rt: HostRuntime) {
     for (left, right, taken, want) in joined_hints() {
         let mut walk = outer_join_lazily((0u64..).zip(left), (0u64..).zip(right));
         for _ in walk.by_ref().take(taken) {}
-        assert_eq!(rt;
-            walk.size_hint(),
-            want,
-            "{taken} taken of {left:?} and {right:?}"
-        );
+        same(&rt, "join", &(taken, left, right), &walk.size_hint(), &want);
     }
 }
 
@@ -342,7 +335,7 @@ fn left_is_asked_before_right(rt: HostRuntime) {
 
 /// What both begun walks still give is what the clone gives, and taking from the clone leaves the walk as it was.
 #[test]
-fn clones_of_begun_walks(rt: HostRuntime) -> Result<(), AllocError> {
+fn clones_give_what_begun_walks_still_give(rt: HostRuntime) -> Result<(), AllocError> {
     let pair: EitherOrBoth<[u8; 2], [char; 3]> = Both([1, 2], ['c', 'm', 'x']);
     let mut walk = pair.iter_swap();
     assert_eq!(rt; walk.next(), Some(Both(&1, &'c')));
@@ -370,20 +363,17 @@ fn clones_of_begun_walks(rt: HostRuntime) -> Result<(), AllocError> {
 
 /// A default chain is the walk over a lone left side, the default of the inner iterator.
 #[test]
-fn default_chain(rt: HostRuntime) {
+fn default_chain_is_a_lone_default_side(rt: HostRuntime) {
     let mut empty = ChainedIterEitherOrBoth::<std::iter::Empty<u8>>::default();
-    assert_eq!(rt; empty.next(), None);
-    assert_eq!(rt; empty.next_back(), None);
+    assert_eq!(rt; [empty.next(), empty.next_back()], [None; 2]);
     let mut two = ChainedIterEitherOrBoth::<Hinted>::default();
-    assert_eq!(rt; two.size_hint(), (2, Some(2)));
-    assert_eq!(rt; two.next(), Some(0));
-    assert_eq!(rt; two.next(), Some(0));
-    assert_eq!(rt; two.next(), None);
+    let came = (two.size_hint(), [two.next(), two.next(), two.next()]);
+    assert_eq!(rt; came, ((2, Some(2)), [Some(0), Some(0), None]));
 }
 
 /// What is written through the items of the paired walk is what the value holds afterwards.
 #[test]
-fn writing_side_by_side(rt: HostRuntime) {
+fn items_side_by_side_are_written(rt: HostRuntime) {
     let rows: [(
         EitherOrBoth<[u8; 3], [u16; 2]>,
         EitherOrBoth<[u8; 3], [u16; 2]>,
@@ -409,7 +399,7 @@ fn writing_side_by_side(rt: HostRuntime) {
 
 /// What is written through the items of the chain is what the value holds afterwards.
 #[test]
-fn writing_in_turn(rt: HostRuntime) {
+fn items_in_turn_are_written(rt: HostRuntime) {
     let rows: [(EitherOrBoth<[u8; 2]>, EitherOrBoth<[u8; 2]>); 3] = [
         (Both([1, 2], [3, 4]), Both([11, 12], [13, 14])),
         (Left([1, 2]), Left([11, 12])),

@@ -117,7 +117,8 @@ impl<'a, T: Copy> Listing for Counting<'a, T> {
 
     ghost listed = { λ s. s.rest.now };
 
-    ghost comes = { uncounted_walk _ _ (λ x. x) (λ s. s.rest.now) (at_same _ _ (λ x. x) _ (shown_to_come (λ s. s.rest.now))) };
+    ghost comes = { uncounted_walk _ _ (λ x. x) (λ s. s.rest.now)
+        (at_same _ _ (λ x. x) _ (shown_to_come (λ s. s.rest.now))) };
 }
 
 impl<'a, T: Copy> CountedListing for Counting<'a, T> {
