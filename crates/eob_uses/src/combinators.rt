@@ -1,5 +1,7 @@
 //! Callers of `EitherOrBoth`.
-ghost use Rattle.std.specs.Prelude.{◌≡◌, ◌↔◌, ◌⊎◌, Some, None, Ok, Err, IsSome, IsNone, IsOk, IsErr, IsTrue, IfOk, IfSome, is_some, true, option_map, unwrap_or, ◌+◌, ◌*◌, ◌^◌, ◌<◌, string_bytes, codes, [], ◌∷◌, ◌++◌};
+ghost use Rattle.std.specs.Prelude.{◌≡◌, ◌↔◌, ◌⊎◌, Some, None, Ok, Err, IsSome, IsNone, IsOk, IsErr, IsTrue};
+ghost use Rattle.std.specs.Prelude.{IfOk, IfSome, is_some, true, option_map, unwrap_or, ◌+◌, ◌*◌, ◌^◌, ◌<◌};
+ghost use Rattle.std.specs.Prelude.{string_bytes, codes, [], ◌∷◌, ◌++◌};
 ghost use Rattle.std.specs.Option.{ForSome};
 ghost use Rattle.std.specs.Fmt.{decimal};
 ghost use Rattle.std.specs.declared.cmp.Ordering.TheVariants.{Equal};

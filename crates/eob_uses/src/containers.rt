@@ -1,13 +1,15 @@
 //! Callers of collecting into pairs of containers: what a look-up, a walk or a count of a collected container answers, by the list that
 //! was collected.
-ghost use Rattle.std.specs.Prelude.{◌≡◌, ◌↔◌, ℕ, Some, None, IfOk, IfSome, IsTrue, is_some, nat_eq, true, false, slice_get, length, List, []};
+ghost use Rattle.std.specs.Prelude.{◌≡◌, ◌↔◌, ℕ, Some, None, IfOk, IfSome, IsTrue, is_some, nat_eq, true};
+ghost use Rattle.std.specs.Prelude.{false, slice_get, length, List, []};
 ghost use Rattle.std.specs.BTreeMap.{is_at};
 ghost use Rattle.std.specs.List.Sorted.{IsStrictlySortedBy};
 ghost use Rattle.std.specs.Map.{keys_of, lookup};
 ghost use Rattle.std.specs.Option.{option_or};
 ghost use Rattle.std.specs.Ordering.{nat_cmp, eq_by_cmp};
 ghost use Rattle.std.specs.Set.{distinct_count, is_member};
-ghost use Rattle.either_or_both.specs.Contents.{first_items, first_list, last_value, IsLastValue, StandByFirstPlaces};
+ghost use Rattle.either_or_both.specs.Contents.{first_items, first_list, last_value, IsLastValue};
+ghost use Rattle.either_or_both.specs.Contents.{StandByFirstPlaces};
 ghost use Rattle.either_or_both.specs.Either as either;
 ghost use Rattle.either_or_both.specs.Places.{left_place, right_place};
 ghost use Rattle.either_or_both.specs.Sides.{lefts, rights, collected};

@@ -1,5 +1,6 @@
 //! Callers of `Either`.
-ghost use Rattle.std.specs.Prelude.{◌≡◌, ◌↔◌, ◌⊎◌, Some, None, Ok, Err, IsNone, IsOk, IsTrue, IfOk, IfSome, is_some, option_map, unwrap_or, ◌+◌, ◌*◌, ◌<◌, string_bytes, slice_get};
+ghost use Rattle.std.specs.Prelude.{◌≡◌, ◌↔◌, ◌⊎◌, Some, None, Ok, Err, IsNone, IsOk, IsTrue, IfOk, IfSome};
+ghost use Rattle.std.specs.Prelude.{is_some, option_map, unwrap_or, ◌+◌, ◌*◌, ◌<◌, string_bytes, slice_get};
 ghost use Rattle.std.specs.Option.{ForSome};
 ghost use Rattle.std.specs.Fmt.{decimal};
 ghost use Rattle.std.specs.declared.cmp.Ordering.TheVariants.{Equal};

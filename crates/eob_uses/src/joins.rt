@@ -1,5 +1,6 @@
 //! Uses of the full outer join: reports on two versions of a table, layered settings, and joins of many kinds of source.
-ghost use Rattle.std.specs.Prelude.{◌≡◌, ◌+◌, ◌-◌, ◌<◌, ◌≤◌, ◌^◌, IfOk, IfSome, count_by, length, false, is_none, is_some, map, option_map, unwrap_or};
+ghost use Rattle.std.specs.Prelude.{◌≡◌, ◌+◌, ◌-◌, ◌<◌, ◌≤◌, ◌^◌, IfOk, IfSome, count_by, length, false};
+ghost use Rattle.std.specs.Prelude.{is_none, is_some, map, option_map, unwrap_or};
 ghost use Rattle.std.specs.BTreeMap.{get};
 ghost use Rattle.std.specs.HashMap.{get_by};
 ghost use Rattle.std.specs.Option.{option_or, option_zip};

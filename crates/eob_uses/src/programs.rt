@@ -1,5 +1,6 @@
 //! Uses of both enums as programs make them: inside other types, as keys, behind references, and with closures that are handed on.
-ghost use Rattle.std.specs.Prelude.{◌≡◌, ◌↔◌, Some, Ok, Err, IsSome, IsNone, IsOk, IsErr, IsTrue, IfOk, is_some, option_map, unwrap_or, ◌+◌, ◌<◌, length, string_bytes, count_by};
+ghost use Rattle.std.specs.Prelude.{◌≡◌, ◌↔◌, Some, Ok, Err, IsSome, IsNone, IsOk, IsErr, IsTrue, IfOk};
+ghost use Rattle.std.specs.Prelude.{is_some, option_map, unwrap_or, ◌+◌, ◌<◌, length, string_bytes, count_by};
 ghost use Rattle.either_or_both.specs.Places.{left_place, right_place, MapsPlace};
 ghost use Rattle.either_or_both.specs.Sides.{lefts, rights};
 

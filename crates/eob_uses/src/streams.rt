@@ -1,6 +1,7 @@
 //! Callers of `Either` as a reader, a writer, a pointer and a container: each is generic in the trait, or holds one of two that were
 //! chosen at run time, and knows as much through an `Either` as it would of the side alone.
-ghost use Rattle.std.specs.Prelude.{◌≡◌, Some, IfOk, IfSome, OnOk, drop, take, option_map, ◌++◌, string_bytes, is_some, MatchResult, IsSomeAnd, List, ℕ};
+ghost use Rattle.std.specs.Prelude.{◌≡◌, Some, IfOk, IfSome, OnOk, drop, take, option_map, ◌++◌};
+ghost use Rattle.std.specs.Prelude.{string_bytes, is_some, MatchResult, IsSomeAnd, List, ℕ};
 ghost use Rattle.std.specs.Iterator.{Drains, Yields, IsFinite};
 ghost use Rattle.std.specs.Io.Cursor.{cursor_inner, cursor_position, cursor_remaining};
 ghost use Rattle.std.specs.Io.KnownBytes.{Appends, Consumes, IsAtEnd};

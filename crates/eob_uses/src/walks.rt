@@ -1,6 +1,7 @@
 //! Callers of the paired walk and of the chain: each states the list that it gives, and none has a proof of its own. The two loops
 //! have an invariant, which only their author can choose.
-ghost use Rattle.std.specs.Prelude.{◌≡◌, ◌++◌, ◌/◌, ◌%◌, ◌==◌, max, [], map, filter, reverse, length, slice_get, IfOk};
+ghost use Rattle.std.specs.Prelude.{◌≡◌, ◌++◌, ◌/◌, ◌%◌, ◌==◌, max, [], map, filter, reverse, length};
+ghost use Rattle.std.specs.Prelude.{slice_get, IfOk};
 ghost use Rattle.std.specs.Map.Iter.{deref};
 ghost use Rattle.std.specs.Option.{option_to_list};
 ghost use Rattle.std.specs.List.{range_with_len};
