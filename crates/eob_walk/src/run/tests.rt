@@ -99,6 +99,7 @@ impl Write for Sink {
     }
 }
 
+/// Each line of input is answered as the command says, or as a bad line, and the status tells which came.
 #[test]
 fn answers_lines(rt: HostRuntime) -> Result<(), Fail> {
     let rows: [(&[u8], &str, u8); 20] = [
@@ -180,6 +181,7 @@ fn answers_lines(rt: HostRuntime) -> Result<(), Fail> {
     Ok(())
 }
 
+/// A writer that fails, is interrupted or takes nothing after any number of bytes ends the run, with these bytes written and no more.
 #[test]
 fn stops_where_writer_does(rt: HostRuntime) -> Result<(), Fail> {
     let output = ANSWERS.as_bytes();
@@ -250,6 +252,7 @@ fn stops_where_read_fails(rt: HostRuntime) {
     }
 }
 
+/// A flush that fails at the end of the input is an error of the output, also after a bad line.
 #[test]
 fn stops_where_last_flush_fails(rt: HostRuntime) -> Result<(), Fail> {
     let rows: [(&[u8], &str); 3] = [
@@ -316,6 +319,7 @@ impl<'a> Write for Counter<'a> {
     }
 }
 
+/// Whole lines that have come are answered before more input is asked for.
 #[test]
 fn answers_lines_before_next_read(rt: HostRuntime) {
     let answered = Cell::new(0);
@@ -349,6 +353,7 @@ fn long_line(alloc: Global, length: usize) -> Result<(Vec<u8>, Vec<u8>), AllocEr
     Ok((line, answer))
 }
 
+/// A line is answered whole where it fills the buffer to the last byte, passes it by one, or is many times as long.
 #[test]
 fn answers_line_longer_than_buffer(rt: HostRuntime) -> Result<(), Fail> {
     for length in [65525, 65526, 65527, 200000] {
@@ -421,6 +426,7 @@ fn refuse_each(
     Ok(())
 }
 
+/// A run with any one of its requests for memory refused writes whole answers alone, asks for no more, and says so by its status.
 #[test]
 fn stops_where_memory_is_refused(rt: HostRuntime) -> Result<(), Fail> {
     let rows: [(&[u8], &str, u8); 4] = [

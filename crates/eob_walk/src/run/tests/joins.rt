@@ -4,6 +4,7 @@ use super::{Sink, Source};
 use crate::run::run;
 use std::test::Fail;
 
+/// Lines that join two lists of entries have each key once with its values; lists whose keys do not rise are bad lines.
 #[test]
 fn answers_joins(rt: HostRuntime) -> Result<(), Fail> {
     let rows: [(&[u8], &str, u8); 7] = [
