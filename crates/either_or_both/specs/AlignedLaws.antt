@@ -7,7 +7,8 @@ use Rattle.eob_both.specs.Sides.{lefts, rights}
 use Rattle.either_or_both.specs.JoinLaws.{flipped}
 
 -- three places of which the first two are nested, with the last two nested in place of these
-abbrev pub nested_right : {A B C : Type 0} → EitherOrBoth (EitherOrBoth A B) C → EitherOrBoth A (EitherOrBoth B C)
+abbrev pub nested_right : {A B C : Type 0} → EitherOrBoth (EitherOrBoth A B) C
+    → EitherOrBoth A (EitherOrBoth B C)
 nested_right (Left (Left a)) = Left a
 nested_right (Left (Both a b)) = Both a (Left b)
 nested_right (Left (Right b)) = Right (Left b)
@@ -26,11 +27,14 @@ AlignedSelfLaw T = (p : List T) → aligned p p ≡ map (λ x. Both x x) p
 
 -- three lists, aligned one way or the other
 abbrev pub AlignedThreeLaw : Type 0 → Type 0 → Type 0 → Type 0
-AlignedThreeLaw A B C = (p : List A) (q : List B) (r : List C) → aligned p (aligned q r) ≡ map nested_right (aligned (aligned p q) r)
+AlignedThreeLaw A B C = (p : List A) (q : List B) (r : List C)
+    → aligned p (aligned q r) ≡ map nested_right (aligned (aligned p q) r)
 
 -- what values of one side alone have on either side
 abbrev pub LeftsAloneLaw : Type 0 → Type 0 → Type 0
-LeftsAloneLaw L R = (p : List L) → (lefts {R = R} (map (λ x. Left x) p) ≡ p) × (rights {R = R} (map (λ x. Left x) p) ≡ [])
+LeftsAloneLaw L R = (p : List L) → (lefts {R = R} (map (λ x. Left x) p) ≡ p)
+    × (rights {R = R} (map (λ x. Left x) p) ≡ [])
 
 abbrev pub RightsAloneLaw : Type 0 → Type 0 → Type 0
-RightsAloneLaw L R = (q : List R) → (rights {L = L} (map (λ y. Right y) q) ≡ q) × (lefts {L = L} (map (λ y. Right y) q) ≡ [])
+RightsAloneLaw L R = (q : List R) → (rights {L = L} (map (λ y. Right y) q) ≡ q)
+    × (lefts {L = L} (map (λ y. Right y) q) ≡ [])

@@ -1,5 +1,6 @@
 -- What calls of the two ends of a list answer, and what they leave.
-use Rattle.std.specs.Prelude.{◌≡◌, ℕ, ◌+◌, ◌-◌, ◌≤◌, min, nat_lt, if◌then◌else◌, List, [], ◌∷◌, ◌++◌, length, reverse, slice_get, Option, None}
+use Rattle.std.specs.Prelude.{◌≡◌, ℕ, ◌+◌, ◌-◌, ◌≤◌, min, nat_lt, if◌then◌else◌, List, [], ◌∷◌, ◌++◌, length, reverse, slice_get}
+use Rattle.std.specs.Prelude.{Option, None}
 use Rattle.std.specs.List.{cons_option}
 use Rattle.eob_both.specs.Ends.{Ends, IsExactly, PlaceToCome}
 use Rattle.either_or_both.specs.declared.laws.drive.End.{End}
@@ -10,7 +11,8 @@ abbrev pub MatchEnd : End → Type 0 → Type 0 → Type 0
 MatchEnd Front P Q = P
 MatchEnd Back P Q = Q
 
--- the answer of a call of an end of xs, after f calls of the front and b of the back: None where these were as many as the items or more, and else the item of that end that is still to come
+-- the answer of a call of an end of xs, after f calls of the front and b of the back: None where these were as many as the items or
+-- more, and else the item of that end that is still to come
 abbrev pub answer_at : {A : Type 0} → List A → ℕ → ℕ → End → Option A
 answer_at xs f b Front = if nat_lt (f + b) (length xs) then slice_get xs f else None
 answer_at xs f b Back = if nat_lt (f + b) (length xs) then slice_get xs (length xs - 1 - b) else None
@@ -45,7 +47,8 @@ from_back (Back ∷ ends) (r ∷ given) = cons_option r (from_back ends given)
 
 -- as many calls as items or more take the whole list: what came from the front, and then what came from the back in reverse order
 abbrev pub WholeWalkLaw : Type 0 → Type 0
-WholeWalkLaw A = (xs : List A) (ends : List End) → length xs ≤ length ends → from_front ends (answers xs ends) ++ reverse (from_back ends (answers xs ends)) ≡ xs
+WholeWalkLaw A = (xs : List A) (ends : List End) → length xs ≤ length ends
+    → from_front ends (answers xs ends) ++ reverse (from_back ends (answers xs ends)) ≡ xs
 
 -- a list, and how items are read as its elements
 pub record Listed (A : Type 0) : Type 0 where

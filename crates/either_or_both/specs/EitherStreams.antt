@@ -15,5 +15,6 @@ HoldsOfHeld P Q (Left l) = P l
 HoldsOfHeld P Q (Right r) = Q r
 
 -- the same variant, with P from the old left value to the new one, Q from the old right value to the new one
-abbrev pub HeldBecomes : {L R : Type 0} → (L → L → Type 0) → (R → R → Type 0) → Either L R → Either L R → Type 0
+abbrev pub HeldBecomes : {L R : Type 0} → (L → L → Type 0) → (R → R → Type 0) → Either L R → Either L R
+    → Type 0
 HeldBecomes P Q v w = MapsPlace P (left_place v) (left_place w) × MapsPlace Q (right_place v) (right_place w)

@@ -24,14 +24,16 @@ module _ {K : Type 0} (cmp : K → K → Ordering) where
 
   -- the keys of zs rise; what zs has under a key has as its left place what p has under it, and as its right place what q has;
   -- and each key of zs is one of p or of q
-  pub record IsJoin {A B : Type 0} (p : List (K × A)) (q : List (K × B)) (zs : List (K × EitherOrBoth A B)) : Type 0 where
+  pub record IsJoin {A B : Type 0} (p : List (K × A)) (q : List (K × B))
+      (zs : List (K × EitherOrBoth A B)) : Type 0 where
     pub rises : Rising zs
     pub values : (k : K) → value_under zs k ≡ from_places (value_under p k) (value_under q k)
     pub keys : All (λ z. Contains (keys_of p) z.0 ⊎ Contains (keys_of q) z.0) zs
 
   -- what a join takes of two lists, and what it leaves of them: the first pair of the one whose first key is less, or both first
   -- pairs where their keys are equal
-  abbrev pub JoinTakes : {A B : Type 0} → List (K × A) → List (K × B) → Option (K × EitherOrBoth A B) → List (K × A) → List (K × B) → Type 0
+  abbrev pub JoinTakes : {A B : Type 0} → List (K × A) → List (K × B) → Option (K × EitherOrBoth A B)
+      → List (K × A) → List (K × B) → Type 0
   JoinTakes [] [] r p q = (r ≡ None) × (p ≡ []) × (q ≡ [])
   JoinTakes (x ∷ xs) [] r p q = (r ≡ Some (x.0, Left x.1)) × (p ≡ xs) × (q ≡ [])
   JoinTakes [] (y ∷ ys) r p q = (r ≡ Some (y.0, Right y.1)) × (p ≡ []) × (q ≡ ys)

@@ -1,5 +1,6 @@
 -- The sides, the steps and the runs of `OuterJoin`.
-use Rattle.std.specs.Prelude.{◌≡◌, ◌↔◌, ℕ, ◌<◌, ◌≤◌, ◌+◌, ◌^◌, true, List, ◌++◌, length, map, Option, Some, None, IfSome, SomeIff, option_map}
+use Rattle.std.specs.Prelude.{◌≡◌, ◌↔◌, ℕ, ◌<◌, ◌≤◌, ◌+◌, ◌^◌, true, List, ◌++◌, length, map, Option, Some, None, IfSome, SomeIff}
+use Rattle.std.specs.Prelude.{option_map}
 use Rattle.std.specs.Borrow.{Bor}
 use Rattle.std.specs.Slice.Iter.{iter_rest}
 use Rattle.std.specs.Iterator.{Count, IsFinite, at_most, count_add, count_map}
@@ -27,9 +28,11 @@ module _ {I J K A B : Type 0} where
 
   -- the items of both sides
   abbrev pub join_remaining : (I → Count) → (J → Count) → JoinedPairs I J (K × A) (K × B) → Count
-  join_remaining first second s = count_add (held_remaining s.left (first s.lefts)) (held_remaining s.right (second s.rights))
+  join_remaining first second s = count_add (held_remaining s.left (first s.lefts))
+      (held_remaining s.right (second s.rights))
 
-  module _ (cmp : K → K → Ordering) (firsts : I → Option (K × A) → I → Type 0) (seconds : J → Option (K × B) → J → Type 0) where
+  module _ (cmp : K → K → Ordering) (firsts : I → Option (K × A) → I → Type 0)
+      (seconds : J → Option (K × B) → J → Type 0) where
     -- a side takes the next item of its iterator
     abbrev pub TakesLeft : JoinedPairs I J (K × A) (K × B) → JoinedPairs I J (K × A) (K × B) → Type 0
     TakesLeft s t = firsts s.lefts t.left t.lefts
@@ -45,7 +48,8 @@ module _ {I J K A B : Type 0} where
     KeepsRight s t = (t.right ≡ s.right) × (t.rights ≡ s.rights)
 
     -- what a call gives and leaves, by the items that the two sides hold
-    abbrev pub StepsFrom : Option (K × A) → Option (K × B) → JoinedPairs I J (K × A) (K × B) → Option (K × EitherOrBoth A B) → JoinedPairs I J (K × A) (K × B) → Type 0
+    abbrev pub StepsFrom : Option (K × A) → Option (K × B) → JoinedPairs I J (K × A) (K × B)
+        → Option (K × EitherOrBoth A B) → JoinedPairs I J (K × A) (K × B) → Type 0
     StepsFrom None None s r t = (r ≡ None) × KeepsLeft s t × KeepsRight s t
     StepsFrom (Some x) None s r t = (r ≡ Some (x.0, Left x.1)) × TakesLeft s t × KeepsRight s t
     StepsFrom None (Some y) s r t = (r ≡ Some (y.0, Right y.1)) × KeepsLeft s t × TakesRight s t
@@ -56,43 +60,58 @@ module _ {I J K A B : Type 0} where
         ((r ≡ Some (y.0, Right y.1)) × KeepsLeft s t × TakesRight s t)
 
     -- a call of `next`
-    abbrev pub join_steps : JoinedPairs I J (K × A) (K × B) → Option (K × EitherOrBoth A B) → JoinedPairs I J (K × A) (K × B) → Type 0
+    abbrev pub join_steps : JoinedPairs I J (K × A) (K × B) → Option (K × EitherOrBoth A B)
+        → JoinedPairs I J (K × A) (K × B) → Type 0
     join_steps s r t = StepsFrom s.left s.right s r t
 
 -- p gave the items of a and of b: their join, where the keys of both rise; and where it ended both had ended
-abbrev pub IsJoinRun : {W S T K A B : Type 0} {steps : W → Option (K × EitherOrBoth A B) → W → Type 0} {firsts : S → Option (K × A) → S → Type 0} {seconds : T → Option (K × B) → T → Type 0}
+abbrev pub IsJoinRun : {W S T K A B : Type 0} {steps : W → Option (K × EitherOrBoth A B) → W → Type 0}
+    {firsts : S → Option (K × A) → S → Type 0} {seconds : T → Option (K × B) → T → Type 0}
     → (K → K → Ordering) → Run steps → Run firsts → Run seconds → Type 0
-IsJoinRun cmp p a b = (a.len ≤ p.len) × (b.len ≤ p.len) × (p.len ≤ a.len + b.len) × (p.whole ≡ true → (a.whole ≡ true) × (b.whole ≡ true))
+IsJoinRun cmp p a b = (a.len ≤ p.len) × (b.len ≤ p.len) × (p.len ≤ a.len + b.len)
+    × (p.whole ≡ true → (a.whole ≡ true) × (b.whole ≡ true))
     × (Rising cmp a.items → Rising cmp b.items → IsJoin cmp a.items b.items p.items)
 
 -- z holds the first item of s and that of t, and what is left of each
-abbrev pub HoldsFirsts : {S T K A B : Type 0} → (S → Option (K × A) → S → Type 0) → (T → Option (K × B) → T → Type 0) → S → T
+abbrev pub HoldsFirsts : {S T K A B : Type 0} → (S → Option (K × A) → S → Type 0)
+    → (T → Option (K × B) → T → Type 0) → S → T
     → JoinedPairs S T (K × A) (K × B) → Type 0
 HoldsFirsts firsts seconds s t z = firsts s z.left z.lefts × seconds t z.right z.rights
 
 -- z is the walk over what x and y were made into: it has asked each for its first item, it ends where those end, and behind each
 -- run of it stand runs of those
-abbrev pub JoinsRuns : {X Y S T K A B : Type 0} → (K → K → Ordering) → (X → S → Type 0) → (Y → T → Type 0) → (S → Count) → (T → Count)
-    → (S → Option (K × A) → S → Type 0) → (T → Option (K × B) → T → Type 0) → X → Y → JoinedPairs S T (K × A) (K × B) → Type 0
-JoinsRuns {S = S} {T = T} cmp gives others first second firsts seconds x y z = (s : S) × (t : T) × gives x s × others y t
-    × HoldsFirsts firsts seconds s t z × (IsFinite (first s) → IsFinite (second t) → IsFinite (join_remaining first second z))
-    × EachRunFrom (join_steps cmp firsts seconds) z (λ p. SomeRun firsts s (λ a. SomeRun seconds t (λ b. IsJoinRun cmp p a b)))
+abbrev pub JoinsRuns : {X Y S T K A B : Type 0} → (K → K → Ordering) → (X → S → Type 0) → (Y → T → Type 0)
+    → (S → Count) → (T → Count)
+    → (S → Option (K × A) → S → Type 0) → (T → Option (K × B) → T → Type 0) → X → Y
+    → JoinedPairs S T (K × A) (K × B) → Type 0
+JoinsRuns {S = S} {T = T} cmp gives others first second firsts seconds x y z = (s : S) × (t : T) × gives x s
+    × others y t
+    × HoldsFirsts firsts seconds s t z × (IsFinite (first s) → IsFinite (second t)
+    → IsFinite (join_remaining first second z))
+    × EachRunFrom (join_steps cmp firsts seconds) z
+    (λ p. SomeRun firsts s (λ a. SomeRun seconds t (λ b. IsJoinRun cmp p a b)))
 
 module _ {W S T K A B : Type 0} {steps : W → Option (Bor K × EitherOrBoth (Bor A) (Bor B)) → W → Type 0}
-    {firsts : S → Option (Bor K × Bor A) → S → Type 0} {seconds : T → Option (Bor K × Bor B) → T → Type 0} where
+    {firsts : S → Option (Bor K × Bor A) → S → Type 0}
+    {seconds : T → Option (Bor K × Bor B) → T → Type 0} where
   -- the same as `IsJoinRun` for references: the join is of what they show
   abbrev pub IsShownJoinRun : (K → K → Ordering) → Run steps → Run firsts → Run seconds → Type 0
-  IsShownJoinRun cmp p a b = (a.len ≤ p.len) × (b.len ≤ p.len) × (p.len ≤ a.len + b.len) × (p.whole ≡ true → (a.whole ≡ true) × (b.whole ≡ true))
+  IsShownJoinRun cmp p a b = (a.len ≤ p.len) × (b.len ≤ p.len) × (p.len ≤ a.len + b.len)
+      × (p.whole ≡ true → (a.whole ≡ true) × (b.whole ≡ true))
       × (Rising cmp (map deref_pair a.items) → Rising cmp (map deref_pair b.items)
       → IsJoin cmp (map deref_pair a.items) (map deref_pair b.items) (map deref_joined p.items))
 
 -- the same as `JoinsRuns` for references
-abbrev pub JoinsShownRuns : {X Y S T K A B : Type 0} → (K → K → Ordering) → (X → S → Type 0) → (Y → T → Type 0) → (S → Count) → (T → Count)
+abbrev pub JoinsShownRuns : {X Y S T K A B : Type 0} → (K → K → Ordering) → (X → S → Type 0)
+    → (Y → T → Type 0) → (S → Count) → (T → Count)
     → (S → Option (Bor K × Bor A) → S → Type 0) → (T → Option (Bor K × Bor B) → T → Type 0) → X → Y
     → JoinedPairs S T (Bor K × Bor A) (Bor K × Bor B) → Type 0
-JoinsShownRuns {S = S} {T = T} cmp gives others first second firsts seconds x y z = (s : S) × (t : T) × gives x s × others y t
-    × HoldsFirsts firsts seconds s t z × (IsFinite (first s) → IsFinite (second t) → IsFinite (join_remaining first second z))
-    × EachRunFrom (join_steps (λ j k. cmp j.now k.now) firsts seconds) z (λ p. SomeRun firsts s (λ a. SomeRun seconds t (λ b. IsShownJoinRun cmp p a b)))
+JoinsShownRuns {S = S} {T = T} cmp gives others first second firsts seconds x y z = (s : S) × (t : T)
+    × gives x s × others y t
+    × HoldsFirsts firsts seconds s t z × (IsFinite (first s) → IsFinite (second t)
+    → IsFinite (join_remaining first second z))
+    × EachRunFrom (join_steps (λ j k. cmp j.now k.now) firsts seconds) z
+    (λ p. SomeRun firsts s (λ a. SomeRun seconds t (λ b. IsShownJoinRun cmp p a b)))
 
 -- the sum of two upper bounds, where both are there and it fits
 abbrev pub IsBoundSum : Option ℕ → Option ℕ → Option ℕ → Type 0
@@ -105,12 +124,14 @@ abbrev pub pairs_left : {K V : Type 0} → PairRefs K V → List (K × V)
 pairs_left s = iter_rest s.rest
 
 -- the values of a row of references are what the two lists have under its key
-abbrev pub ShowsPlaces : {K A B : Type 0} → (K → K → Ordering) → List (K × A) → List (K × B) → Bor K × EitherOrBoth (Bor A) (Bor B) → Type 0
+abbrev pub ShowsPlaces : {K A B : Type 0} → (K → K → Ordering) → List (K × A) → List (K × B)
+    → Bor K × EitherOrBoth (Bor A) (Bor B) → Type 0
 ShowsPlaces cmp xs ys z = (option_map (λ a. a.now) (left_place z.1) ≡ value_under cmp xs z.0.now)
     × (option_map (λ b. b.now) (right_place z.1) ≡ value_under cmp ys z.0.now)
 
 -- the rows are a beginning of the join; `law_begins_join` opens it, since left open it led the search astray behind `take`
-unfoldable pub BeginsJoin : {K A B : Type 0} → (K → K → Ordering) → List (K × A) → List (K × B) → List (K × EitherOrBoth A B) → Type 0
+unfoldable pub BeginsJoin : {K A B : Type 0} → (K → K → Ordering) → List (K × A) → List (K × B)
+    → List (K × EitherOrBoth A B) → Type 0
 BeginsJoin {K} {A} {B} cmp xs ys zs = (rest : List (K × EitherOrBoth A B)) × IsJoin cmp xs ys (zs ++ rest)
 
 -- rows are a beginning of the join exactly where some rows after them make it whole
@@ -120,8 +141,12 @@ BeginsJoinLaw {K} cmp A B = (xs : List (K × A)) (ys : List (K × B)) (zs : List
 
 -- p gave no more rows than both lists have; each shows what the two lists have under its key, their keys rise, and they are a
 -- beginning of the join; where p ended they are all of it, a row for each key of either list
-abbrev pub ShowsJoin : {W K A B : Type 0} {steps : W → Option (Bor K × EitherOrBoth (Bor A) (Bor B)) → W → Type 0} → (K → K → Ordering)
+abbrev pub ShowsJoin : {W K A B : Type 0}
+    {steps : W → Option (Bor K × EitherOrBoth (Bor A) (Bor B)) → W → Type 0} → (K → K → Ordering)
     → List (K × A) → List (K × B) → Run steps → Type 0
-ShowsJoin cmp xs ys p = (p.len ≤ length xs + length ys) × (p.whole ≡ true → IsJoin cmp xs ys (map deref_joined p.items))
-    × AllItems p (ShowsPlaces cmp xs ys) × Rising cmp (map deref_joined p.items) × BeginsJoin cmp xs ys (map deref_joined p.items)
-    × (p.whole ≡ true → p.len + shared_keys cmp xs ys ≡ length xs + length ys) × (p.whole ≡ true → HasJoinCounts cmp xs ys p.items)
+ShowsJoin cmp xs ys p = (p.len ≤ length xs + length ys)
+    × (p.whole ≡ true → IsJoin cmp xs ys (map deref_joined p.items))
+    × AllItems p (ShowsPlaces cmp xs ys) × Rising cmp (map deref_joined p.items)
+    × BeginsJoin cmp xs ys (map deref_joined p.items)
+    × (p.whole ≡ true → p.len + shared_keys cmp xs ys ≡ length xs + length ys)
+    × (p.whole ≡ true → HasJoinCounts cmp xs ys p.items)

@@ -12,7 +12,8 @@ module _ {S A : Type 0} (steps : S → Option A → S → Type 0) where
   GivesList s xs = EachRunFrom steps s (λ p. p.whole ≡ true → p.items ≡ xs)
 
   -- so does a walk that gives in order what it has left, where this is xs
-  pub gives_list : (left : S → List A) (s : S) (xs : List A) → left s ≡ xs → YieldsInOrder steps left → GivesList s xs
+  pub gives_list : (left : S → List A) (s : S) (xs : List A) → left s ≡ xs → YieldsInOrder steps left
+      → GivesList s xs
   gives_list left s xs e gives p t from whole = (gives p t).4 whole ∙ ap left from ∙ e
 
 -- no keys are distinct, and they rise

@@ -13,4 +13,5 @@ aligned (x ∷ xs) (y ∷ ys) = Both x y ∷ aligned xs ys
 
 -- zs is this list by index: each of its places has the item of xs and the item of ys there, and it is as long as the longer of the two
 abbrev pub AlignedByIndex : {A B : Type 0} → List A → List B → List (EitherOrBoth A B) → Type 0
-AlignedByIndex xs ys zs = ((i : ℕ) → slice_get zs i ≡ from_places (slice_get xs i) (slice_get ys i)) × (length zs ≡ max (length xs) (length ys))
+AlignedByIndex xs ys zs = ((i : ℕ) → slice_get zs i ≡ from_places (slice_get xs i) (slice_get ys i))
+    × (length zs ≡ max (length xs) (length ys))

@@ -1,5 +1,6 @@
--- What a map or a set holds once a list of entries or items was collected into it. Keys that are equal by eq, or that cmp finds equal, count as one. The laws in
--- src/laws/contents.rt say of the words that look something up (last_value, first_items, first_list) what they mean by places.
+-- What a map or a set holds once a list of entries or items was collected into it. Keys that are equal by eq, or that cmp finds equal,
+-- count as one. The laws in src/laws/contents.rt say of the words that look something up (last_value, first_items, first_list) what they
+-- mean by places.
 use Rattle.std.specs.Prelude.{◌≡◌, ◌<◌, ℕ, Bool, false, true, not, filter, length, List, [], ◌∷◌, ◌++◌, Option, reverse, unwrap_or}
 use Rattle.std.specs.BTreeMap.{is_at}
 use Rattle.std.specs.List.{AllPairs, IsDistinct, list_any, position_or_len}
@@ -43,12 +44,14 @@ module _ {K V : Type 0} (eq : K → K → Bool) where
 
   -- some place of kvs holds the key k with the value v, and no later place holds the key
   unfoldable pub IsLastValue : List (K × V) → K → V → Type 0
-  IsLastValue kvs k v = (before : List (K × V)) × (j : K) × (after : List (K × V)) × (kvs ≡ before ++ (j, v) ∷ after) × (eq k j ≡ true) × (is_member eq (keys_of after) k ≡ false)
+  IsLastValue kvs k v = (before : List (K × V)) × (j : K) × (after : List (K × V))
+      × (kvs ≡ before ++ (j, v) ∷ after) × (eq k j ≡ true) × (is_member eq (keys_of after) k ≡ false)
 
   -- the distinct keys in the order of their first places, each with the value of its last place
   abbrev pub first_list : List (K × V) → List (K × V)
   first_list [] = []
-  first_list (e ∷ kvs) = (e.0, unwrap_or (last_value kvs e.0) e.1) ∷ filter (λ f. not (eq e.0 f.0)) (first_list kvs)
+  first_list (e ∷ kvs) = (e.0, unwrap_or (last_value kvs e.0) e.1) ∷ filter (λ f. not (eq e.0 f.0))
+      (first_list kvs)
 
   -- es binds each key of kvs once, to the value of its last place, and no other key
   pub record IsLastMap (kvs es : List (K × V)) : Type 0 where

@@ -11,7 +11,8 @@ hint_max (a, None) (b, n) = (max a b, None)
 hint_max (a, Some m) (b, None) = (max a b, None)
 hint_max (a, Some m) (b, Some n) = (max a b, Some (max m n))
 
--- walked in turn: the sum of the lower bounds, at most the greatest usize, and the sum of the upper bounds where both exist and it fits in a usize
+-- walked in turn: the sum of the lower bounds, at most the greatest usize, and the sum of the upper bounds where both exist and it
+-- fits in a usize
 abbrev pub hint_sum : ℕ × Option ℕ → ℕ × Option ℕ → ℕ × Option ℕ
 hint_sum (a, None) (b, n) = (min (a + b) (2 ^ 64 - 1), None)
 hint_sum (a, Some m) (b, None) = (min (a + b) (2 ^ 64 - 1), None)

@@ -9,7 +9,8 @@ IsSideOf gives place side = MatchOption place (side ≡ None) (λ x. IsSomeAnd s
 -- a call of a side: one that is there takes the step, and is given up where that gives `None`
 abbrev pub side_steps : {S A : Type 0} → (S → Option A → S → Type 0) → Option S → Option A → Option S → Type 0
 side_steps steps None r after = (r ≡ None) × (after ≡ None)
-side_steps {S} steps (Some s) r after = MatchOption r (((t : S) × steps s None t) × (after ≡ None)) (λ x. (t : S) × steps s (Some x) t × (after ≡ Some t))
+side_steps {S} steps (Some s) r after = MatchOption r (((t : S) × steps s None t) × (after ≡ None))
+    (λ x. (t : S) × steps s (Some x) t × (after ≡ Some t))
 
 -- how many items a side has left at most: none where it is absent
 abbrev pub side_remaining : {S : Type 0} → (S → Count) → Option S → Count

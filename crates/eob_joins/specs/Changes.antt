@@ -31,4 +31,5 @@ module _ {K : Type 0} (cmp : K → K → Ordering) where
   -- where rs is p with the changes from p to q made to it, its keys and its values count as equal to those of q, pair by pair
   abbrev pub PatchedLaw : {V : Type 0} → (V → V → Bool) → Type 0
   PatchedLaw {V} eq = (p q rs : List (K × V)) (ds : List (K × EitherOrBoth V V)) → Rising cmp p → Rising cmp q
-      → IsKeptOfJoin cmp (changed eq) p q ds → IsKeptOfJoin cmp applied p ds rs → AllZip (λ x y. (cmp x.0 y.0 ≡ Equal) × (eq x.1 y.1 ≡ true)) rs q
+      → IsKeptOfJoin cmp (changed eq) p q ds → IsKeptOfJoin cmp applied p ds rs
+      → AllZip (λ x y. (cmp x.0 y.0 ≡ Equal) × (eq x.1 y.1 ≡ true)) rs q

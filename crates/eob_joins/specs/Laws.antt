@@ -12,12 +12,14 @@ use Rattle.eob_joins.specs.Tables.{Tabulates, kept}
 module _ {K : Type 0} (cmp : K → K → Ordering) where
   -- what a join has on the right is the right list
   abbrev pub RightLaw : Type 0 → Type 0 → Type 0
-  RightLaw A B = ((j k : K) → cmp j k ≡ Equal → j ≡ k) → (p : List (K × A)) (q : List (K × B)) (zs : List (K × EitherOrBoth A B))
+  RightLaw A B = ((j k : K) → cmp j k ≡ Equal → j ≡ k)
+      → (p : List (K × A)) (q : List (K × B)) (zs : List (K × EitherOrBoth A B))
       → Rising cmp q → IsJoin cmp p q zs → kept right_place zs ≡ q
 
   -- the join of a list with itself
   abbrev pub SelfJoinLaw : Type 0 → Type 0
-  SelfJoinLaw V = ((j k : K) → cmp j k ≡ Equal → j ≡ k) → (p : List (K × V)) (zs : List (K × EitherOrBoth V V))
+  SelfJoinLaw V = ((j k : K) → cmp j k ≡ Equal → j ≡ k)
+      → (p : List (K × V)) (zs : List (K × EitherOrBoth V V))
       → Rising cmp p → IsJoin cmp p p zs → zs ≡ kept (λ v. Some (Both v v)) p
 
   -- three lists joined, nested to the right and to the left: both joins have under each key what the three lists have there
@@ -26,8 +28,10 @@ module _ {K : Type 0} (cmp : K → K → Ordering) where
       (zs : List (K × EitherOrBoth B C)) (to_right : List (K × EitherOrBoth A (EitherOrBoth B C)))
       (ys : List (K × EitherOrBoth A B)) (to_left : List (K × EitherOrBoth (EitherOrBoth A B) C))
       → IsJoin cmp q r zs → IsJoin cmp p zs to_right → IsJoin cmp p q ys → IsJoin cmp ys r to_left
-      → Tabulates cmp to_right (λ k. from_places (value_under cmp p k) (from_places (value_under cmp q k) (value_under cmp r k)))
-      × Tabulates cmp to_left (λ k. from_places (from_places (value_under cmp p k) (value_under cmp q k)) (value_under cmp r k))
+      → Tabulates cmp to_right (λ k. from_places (value_under cmp p k)
+      (from_places (value_under cmp q k) (value_under cmp r k)))
+      × Tabulates cmp to_left (λ k. from_places (from_places (value_under cmp p k) (value_under cmp q k))
+      (value_under cmp r k))
 
   -- each of these keys is less than each of those
   abbrev pub AreBelow : List K → List K → Type 0

@@ -32,7 +32,9 @@ module _ {K V : Type 0} (cmp : K → K → Ordering) where
 
   -- p showed parts of the table, each with all pairs of its key, no more than the table has pairs; they begin its parts, and are all of
   -- them where p ended
-  abbrev pub ShowsParts : {S : Type 0} {steps : S → Option (Bor K × Bor (List (K × V))) → S → Type 0} → List (K × V) → Run steps → Type 0
-  ShowsParts xs p = (p.len ≤ length xs) × (p.whole ≡ true → map deref_pair p.items ≡ parts_of xs) × Rising cmp (map deref_pair p.items)
+  abbrev pub ShowsParts : {S : Type 0} {steps : S → Option (Bor K × Bor (List (K × V))) → S → Type 0}
+      → List (K × V) → Run steps → Type 0
+  ShowsParts xs p = (p.len ≤ length xs) × (p.whole ≡ true → map deref_pair p.items ≡ parts_of xs)
+      × Rising cmp (map deref_pair p.items)
       × AllItems p (λ g. part_under xs g.0.now ≡ Some g.1.now)
       × ((rest : List (K × List (K × V))) × (map deref_pair p.items ++ rest ≡ parts_of xs))

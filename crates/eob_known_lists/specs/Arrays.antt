@@ -13,13 +13,16 @@ none_left (x ∷ xs) e = absurd (omega arith)
 
 module _ {X : Type 0} {n : ℕ} where
   abbrev pub array_ends : Ends (IntoIter X n) X
-  array_ends = both_ends (λ _. ⊤) (λ _. ⊤) array_steps array_steps_back (λ s. at_most (length (array_into_iter_items s)))
+  array_ends = both_ends (λ _. ⊤)
+      (λ _. ⊤) array_steps array_steps_back (λ s. at_most (length (array_into_iter_items s)))
 
-  array_front : (s : IntoIter X n) (r : Option X) (t : IntoIter X n) → array_steps s r t → YieldsFirstBy (λ x. x) array_into_iter_items s r t
+  array_front : (s : IntoIter X n) (r : Option X) (t : IntoIter X n) → array_steps s r t
+      → YieldsFirstBy (λ x. x) array_into_iter_items s r t
   array_front s None t e = (none_left _ e.0, ap array_into_iter_items e.1 ∙ none_left _ e.0)
   array_front s (Some x) t e = e
 
-  array_back : (s : IntoIter X n) (r : Option X) (t : IntoIter X n) → array_steps_back s r t → YieldsLastBy (λ x. x) array_into_iter_items s r t
+  array_back : (s : IntoIter X n) (r : Option X) (t : IntoIter X n) → array_steps_back s r t
+      → YieldsLastBy (λ x. x) array_into_iter_items s r t
   array_back s None t e = (none_left _ e.0, ap array_into_iter_items e.1 ∙ none_left _ e.0)
   array_back s (Some x) t e = e
 
@@ -32,5 +35,6 @@ module _ {X : Type 0} {n : ℕ} where
     back = array_back;
   })
 
-  pub array_comes : (xs : List X) (s : IntoIter X n) → array_into_iter_items s ≡ xs → CountedToCome array_ends (λ x. x) xs s
+  pub array_comes : (xs : List X) (s : IntoIter X n) → array_into_iter_items s ≡ xs
+      → CountedToCome array_ends (λ x. x) xs s
   array_comes xs s e = rw (← e) (array_to_come s)
