@@ -1,6 +1,7 @@
 //! The example of the README: two tables joined, a layered setting, a batch split in two, and two lists side by side.
 ghost use Rattle.std.specs.Prelude.{◌≡◌, ◌↔◌};
-ghost use Rattle.either_or_both.specs.Prelude.{IfOk, IfSome, IsJoin, IsSome, Rising, aligned, filter_map, map_places, pair_of, result_err, result_ok, unwrap_or};
+ghost use Rattle.either_or_both.specs.Prelude.{IfOk, IfSome, IsJoin, IsSome, Rising, aligned, filter_map};
+ghost use Rattle.either_or_both.specs.Prelude.{map_places, pair_of, result_err, result_ok, unwrap_or};
 
 use either_or_both::join::{is_rising, law_sorted_rises, outer_join, outer_join_lazily};
 use either_or_both::laws::law_results;
