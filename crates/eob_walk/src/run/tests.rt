@@ -99,86 +99,67 @@ impl Write for Sink {
     }
 }
 
+// Compares what was written for the input, cut into pieces by a length or a seed, and the status, with what was wanted.
+fn check_answer(rt: &impl Abort, input: &[u8], cut: usize, came: (&[u8], u8), wanted: (&str, u8)) {
+    let shown = input.escape_ascii();
+    let (written, status) = came;
+    let (output, wanted_status) = wanted;
+    assert_eq!(rt;
+        written,
+        output.as_bytes(),
+        "{shown} cut by {cut}, wanted {output}"
+    );
+    assert_eq!(rt; status, wanted_status, "{shown} cut by {cut}");
+}
+
+// Runs over the input, given and taken some bytes at a time.
+fn check_run(rt: &impl Abort, alloc: Global, input: &[u8], output: &str, status: u8, step: usize) {
+    let mut reader = Source {
+        rest: input,
+        step,
+        failure: None,
+    };
+    let mut writer = Sink::new(alloc, step);
+    let outcome = run(alloc, &mut reader, &mut writer);
+    let came = (writer.taken.as_slice(), outcome.status());
+    check_answer(rt, input, step, came, (output, status));
+    assert_eq!(rt; writer.flushes, 1, "{output}");
+}
+
+#[rattlefmt::skip]
+static ANSWERED: [(&[u8], &str, u8); 21] = [
+    // input                                            output                                      status
+    (b"",                                               "",                                         0),
+    (b"collect b:1:c l:2\n",                            "Both [1 2] [c]\n",                         0),
+    (b"collect l:1\ncollect r:2\n",                     "Left [1]\nRight [2]\n",                    0),
+    (b"collect\n",                                      "Both [] []\n",                             0),
+    (b"  collect   r:az09  l:z \n",                     "Both [z] [az09]\n",                        0),
+    (b"collect x\n",                                    "line 1: bad\n",                            2),
+    (b"\ncollect  l:1 ",                                "line 1: bad\nLeft [1]\n",                  2),
+    (b"collect l:1\n  ",                                "Left [1]\nline 2: bad\n",                  2),
+    (b"collect l:1 x\ncollect l:1",                     "line 1: bad\nLeft [1]\n",                  2),
+    (b"collect l:\ncollect b:1\ncollect r:A\n",         "line 1: bad\nline 2: bad\nline 3: bad\n",  2),
+    (b"collect\tl:1\ncollect l:1\r\n \n",               "line 1: bad\nline 2: bad\nline 3: bad\n",  2),
+    (b"collect b:1:2:3\ncollect b::1\nCOLLECT\n",       "line 1: bad\nline 2: bad\nline 3: bad\n",  2),
+    (b"collect b:1:\ncollect b:\n",                     "line 1: bad\nline 2: bad\n",               2),
+    (b"collectl:1\nl:1 collect\n",                      "line 1: bad\nline 2: bad\n",               2),
+    (b"collect l:\xff\nends fx l:1\n",                  "line 1: bad\nline 2: bad\n",               2),
+    (b"walk l:1 r:a l:2\nwalk\n",                       "b:1:a l:2\n-\n",                           0),
+    (b"normal l:1 r:a l:2\nnormal b:1:a r:c\nnormal\n", "no\nyes\nyes\n",                           0),
+    (b"walk l:\nnormal b:1\nwalks\n",                   "line 1: bad\nline 2: bad\nline 3: bad\n",  2),
+    (b"ends bfbf l:1 r:a l:2 l:3\n",                    "l:3 b:1:a l:2 . left 0\n",                 0),
+    (b"ends f\nends b l:1 r:a r:c\nends l:1\n",         ". left 0\nr:c left 1\nline 3: bad\n",      2),
+    (b"ends\nends fx l:1\nends b x\n",                  "line 1: bad\nline 2: bad\nline 3: bad\n",  2),
+];
+
 /// Each line of input is answered as the command says, or as a bad line, and the status tells which came.
 #[test]
-fn answers_lines(rt: HostRuntime) -> Result<(), Fail> {
-    let rows: [(&[u8], &str, u8); 20] = [
-        (b"collect b:1:c l:2\n", "Both [1 2] [c]\n", 0),
-        (b"collect\n", "Both [] []\n", 0),
-        (b"", "", 0),
-        (b"collect x\n", "line 1: bad\n", 2),
-        (b"\ncollect  l:1 ", "line 1: bad\nLeft [1]\n", 2),
-        (
-            b"collect l:\ncollect b:1\ncollect r:A\n",
-            "line 1: bad\nline 2: bad\nline 3: bad\n",
-            2,
-        ),
-        (b"walk l:1 r:a l:2\nwalk\n", "b:1:a l:2\n-\n", 0),
-        (
-            b"normal l:1 r:a l:2\nnormal b:1:a r:c\nnormal\n",
-            "no\nyes\nyes\n",
-            0,
-        ),
-        (
-            b"ends bfbf l:1 r:a l:2 l:3\n",
-            "l:3 b:1:a l:2 . left 0\n",
-            0,
-        ),
-        (
-            b"ends f\nends b l:1 r:a r:c\nends l:1\n",
-            ". left 0\nr:c left 1\nline 3: bad\n",
-            2,
-        ),
-        (
-            b"ends\nends fx l:1\nends b x\nwalk l:\nnormal b:1\nwalks\n",
-            "line 1: bad\nline 2: bad\nline 3: bad\nline 4: bad\nline 5: bad\nline 6: bad\n",
-            2,
-        ),
-        (b"collect l:1\ncollect r:2\n", "Left [1]\nRight [2]\n", 0),
-        (
-            b"collect\tl:1\ncollect l:1\r\n \n",
-            "line 1: bad\nline 2: bad\nline 3: bad\n",
-            2,
-        ),
-        (
-            b"collect b:1:2:3\ncollect b::1\nCOLLECT\n",
-            "line 1: bad\nline 2: bad\nline 3: bad\n",
-            2,
-        ),
-        (
-            b"collect l:\xff\nends fx l:1\n",
-            "line 1: bad\nline 2: bad\n",
-            2,
-        ),
-        (b"collect l:1\n  ", "Left [1]\nline 2: bad\n", 2),
-        (b"  collect   r:az09  l:z \n", "Both [z] [az09]\n", 0),
-        (
-            b"collect b:1:\ncollect b:\n",
-            "line 1: bad\nline 2: bad\n",
-            2,
-        ),
-        (
-            b"collectl:1\nl:1 collect\n",
-            "line 1: bad\nline 2: bad\n",
-            2,
-        ),
-        (b"collect l:1 x\ncollect l:1", "line 1: bad\nLeft [1]\n", 2),
-    ];
-    for (input, output, status) in rows {
+fn answers_lines(rt: HostRuntime) {
+    for (input, output, status) in ANSWERED {
         for step in [1, 5, usize::MAX] {
-            let mut reader = Source {
-                rest: input,
-                step,
-                failure: None,
-            };
-            let mut writer = Sink::new(rt.alloc(), step);
-            let outcome = run(rt.alloc(), &mut reader, &mut writer);
-            assert_eq!(rt; writer.taken.as_slice(), output.as_bytes(), "{output}");
-            assert_eq!(rt; outcome.status(), status, "{output}");
-            assert_eq!(rt; writer.flushes, 1, "{output}");
+            check_run(&rt, rt.alloc(), input, output, status, step);
         }
     }
-    Ok(())
 }
 
 /// A writer that fails, is interrupted or takes nothing after any number of bytes ends the run, with these bytes written and no more.
@@ -231,13 +212,11 @@ fn fails_after(rt: &impl Abort, alloc: Global, input: &[u8], kind: ErrorKind, st
     };
     let mut writer = Sink::new(alloc, usize::MAX);
     let outcome = run(alloc, &mut reader, &mut writer);
-    assert_eq!(rt; outcome, Outcome::Io, "{lines}");
-    assert_eq!(rt;
-        Some(writer.taken.as_slice()),
-        ANSWERS.as_bytes().get(..whole),
-        "{lines}"
-    );
-    assert_eq!(rt; writer.flushes, 0, "{lines}");
+    let shown = input.escape_ascii();
+    let wanted = ANSWERS.as_bytes().get(..whole);
+    assert_eq!(rt; outcome, Outcome::Io, "{shown} by {step}");
+    assert_eq!(rt; Some(writer.taken.as_slice()), wanted, "{shown} by {step}");
+    assert_eq!(rt; writer.flushes, 0, "{shown} by {step}");
 }
 
 /// After a failed read, which an interrupted one is too, the lines that were complete are answered, and no more.
@@ -269,9 +248,14 @@ fn stops_where_last_flush_fails(rt: HostRuntime) -> Result<(), Fail> {
         let mut writer = Sink::new(rt.alloc(), usize::MAX);
         writer.flush_failure = Some(ErrorKind::Interrupted);
         let outcome = run(rt.alloc(), &mut reader, &mut writer);
-        assert_eq!(rt; outcome, Outcome::Io, "a flush: {output}");
-        assert_eq!(rt; writer.taken.as_slice(), output.as_bytes());
-        assert_eq!(rt; writer.flushes, 1);
+        let shown = input.escape_ascii();
+        assert_eq!(rt; outcome, Outcome::Io, "{shown}");
+        assert_eq!(rt;
+            writer.taken.as_slice(),
+            output.as_bytes(),
+            "{shown}, wanted {output}"
+        );
+        assert_eq!(rt; writer.flushes, 1, "{shown}");
     }
     Ok(())
 }
@@ -334,9 +318,12 @@ fn answers_lines_before_next_read(rt: HostRuntime) {
         answered: &answered,
     };
     let outcome = run(rt.alloc(), &mut reader, &mut writer);
-    assert_eq!(rt; outcome, Outcome::Done);
-    assert_eq!(rt; answered.get(), 3);
-    assert!(rt; !was_early.get());
+    let came = (outcome, answered.get(), was_early.get());
+    assert_eq!(rt;
+        came,
+        (Outcome::Done, 3, false),
+        "three lines, each answered before the next is read"
+    );
 }
 
 // A line of one item, and its answer, with a word of some length.
@@ -370,13 +357,23 @@ fn answers_line_longer_than_buffer(rt: HostRuntime) -> Result<(), Fail> {
         };
         let mut writer = Sink::new(rt.alloc(), usize::MAX);
         let outcome = run(rt.alloc(), &mut reader, &mut writer);
-        assert_eq!(rt; outcome, Outcome::Done);
-        assert!(rt;
-            writer.taken.as_slice() == output.as_slice(),
-            "length {length}"
+        let is_whole = writer.taken.as_slice() == output.as_slice();
+        assert_eq!(rt;
+            (outcome, is_whole),
+            (Outcome::Done, true),
+            "a word of {length} bytes"
         );
     }
     Ok(())
+}
+
+// How a run ended: its status, how often it asked for memory, whether its output was right, and how often that was flushed.
+type End = (u8, u64, bool, u8);
+
+// Compares how a run over the input ended, in which the request of this number was to be refused, with what was wanted.
+fn check_end(rt: &impl Abort, input: &[u8], number: u64, came: End, wanted: End) {
+    let shown = input.escape_ascii();
+    assert_eq!(rt; came, wanted, "{shown}, request {number} refused");
 }
 
 // Runs over the input with each request for memory refused in turn. A refused run asks for no more memory, ends with want of it and
@@ -400,46 +397,42 @@ fn refuse_each(
         memory.refuse(number);
         let outcome = run_in(&memory, &mut reader, &mut writer);
         let written = writer.taken.as_slice();
+        let asked = memory.asked();
         if !memory.has_refused() {
-            assert_eq!(rt; outcome.status(), status, "{output}");
-            assert_eq!(rt; written, output.as_bytes());
-            assert!(rt; 1 < number, "{output}");
+            check_answer(
+                rt,
+                input,
+                step,
+                (written, outcome.status()),
+                (output, status),
+            );
+            let came = (outcome.status(), asked, 1 < number, writer.flushes);
+            check_end(rt, input, number, came, (status, number - 1, true, 1));
             return Ok(());
         }
-        assert_eq!(rt;
-            outcome.status(),
-            3,
-            "{output} with request {number} refused"
-        );
-        assert_eq!(rt; memory.asked(), number, "{output}");
-        assert!(rt;
-            output.as_bytes().starts_with(written),
-            "{output} with request {number} refused"
-        );
-        assert!(rt;
-            written.is_empty() || written.ends_with(b"\n"),
-            "{output} with request {number} refused"
-        );
-        assert_eq!(rt; writer.flushes, 0, "{output} with request {number} refused");
+        let is_beginning = output.as_bytes().starts_with(written);
+        let has_whole_lines = written.is_empty() || written.ends_with(b"\n");
+        let is_right = is_beginning && has_whole_lines;
+        let came = (outcome.status(), asked, is_right, writer.flushes);
+        check_end(rt, input, number, came, (3, number, true, 0));
     }
     Err("each run was refused")?;
     Ok(())
 }
 
+#[rattlefmt::skip]
+static REFUSED: [(&[u8], &str, u8); 4] = [
+    // input                                 output                                                      status
+    (b"",                                    "",                                                         0),
+    (b"collect l:1\ncollect r:2\n",          "Left [1]\nRight [2]\n",                                    0),
+    (b"collect b:1:a l:2 r:b\n\ncollect\nx", "Both [1 2] [a b]\nline 2: bad\nBoth [] []\nline 4: bad\n", 2),
+    (LINES,                                  ANSWERS,                                                    2),
+];
+
 /// A run with any one of its requests for memory refused writes whole answers alone, asks for no more, and says so by its status.
 #[test]
 fn stops_where_memory_is_refused(rt: HostRuntime) -> Result<(), Fail> {
-    let rows: [(&[u8], &str, u8); 4] = [
-        (LINES, ANSWERS, 2),
-        (b"collect l:1\ncollect r:2\n", "Left [1]\nRight [2]\n", 0),
-        (
-            b"collect b:1:a l:2 r:b\n\ncollect\nx",
-            "Both [1 2] [a b]\nline 2: bad\nBoth [] []\nline 4: bad\n",
-            2,
-        ),
-        (b"", "", 0),
-    ];
-    for (input, output, status) in rows {
+    for (input, output, status) in REFUSED {
         for step in [1, 5, usize::MAX] {
             refuse_each(&rt, rt.alloc(), input, output, status, step)?;
         }
@@ -497,7 +490,7 @@ static KNOWN: [(&str, Option<&str>); 10] = [
 fn answers_alike_whatever_the_cut(rt: HostRuntime) -> Result<(), Fail> {
     let alloc = rt.alloc();
     let mut random = Random(20261122);
-    for seed in 0..300u64 {
+    for seed in 0..300usize {
         let mut input = Vec::new(alloc);
         let mut output = String::new(alloc);
         let mut any_bad = false;
@@ -517,12 +510,13 @@ fn answers_alike_whatever_the_cut(rt: HostRuntime) -> Result<(), Fail> {
         }
         let mut reader = Pieces {
             rest: &input,
-            random: Random(seed),
+            random: Random(seed as u64),
         };
         let mut writer = Sink::new(alloc, usize::MAX);
         let outcome = run(alloc, &mut reader, &mut writer);
-        assert_eq!(rt; writer.taken.as_slice(), output.as_bytes(), "{seed}");
-        assert_eq!(rt; outcome.status(), if any_bad { 2 } else { 0 }, "{seed}");
+        let came = (writer.taken.as_slice(), outcome.status());
+        let wanted = (output.as_str(), if any_bad { 2 } else { 0 });
+        check_answer(&rt, &input, seed, came, wanted);
     }
     Ok(())
 }
