@@ -4,7 +4,8 @@
 use crate::same::same;
 use crate::walks::sides::{Asked, Counting};
 use either_or_both::EitherOrBoth::{self, Both, Left, Right};
-use either_or_both::laws::{End, drive_items};
+use either_or_both::laws::End::{self, Back, Front};
+use either_or_both::laws::drive_items;
 use eob_known_lists::drive::{drive_chain_owned, drive_swap_owned};
 use std::alloc::{AllocError, Global};
 use std::fmt::Debug;
@@ -22,11 +23,11 @@ fn answer<T: Copy>(list: &[T], ends: &[End], k: usize) -> Option<T> {
         return None;
     }
     let before = ends.get(..k)?;
-    let fronts = before.iter().filter(|end| **end == End::Front).count();
-    let backs = before.iter().filter(|end| **end == End::Back).count();
+    let fronts = before.iter().filter(|end| **end == Front).count();
+    let backs = before.iter().filter(|end| **end == Back).count();
     match ends.get(k)? {
-        End::Front => list.get(fronts).copied(),
-        End::Back => list
+        Front => list.get(fronts).copied(),
+        Back => list
             .get(list.len().checked_sub(1)?.checked_sub(backs)?)
             .copied(),
     }
@@ -37,7 +38,7 @@ fn ends_of(alloc: Global, length: usize, bits: usize) -> Result<Vec<End>, AllocE
     let mut ends = Vec::new(alloc);
     let mut left = bits;
     for _ in 0..length {
-        ends.push(if left % 2 == 0 { End::Front } else { End::Back })?;
+        ends.push(if left % 2 == 0 { Front } else { Back })?;
         left /= 2;
     }
     Ok(ends)
@@ -157,31 +158,16 @@ fn every_order_of_calls_gives_the_list(rt: HostRuntime) -> Result<(), Fail> {
 
 type Answers = &'static [Option<EitherOrBoth<u8, char>>];
 
-/// Two lists, calls, what they answer, and how many items are left.
+// Two lists and calls; what they answer, and how many items are left.
+#[rattlefmt::skip]
 static DRIVEN: [(&[u8], &[char], &[End], Answers, usize); 5] = [
-    (
-        &[1, 2, 3],
-        &['a'],
-        &[End::Back, End::Front, End::Back, End::Front],
-        &[Some(Left(3)), Some(Both(1, 'a')), Some(Left(2)), None],
-        0,
-    ),
-    (
-        &[1, 2],
-        &['a', 'b', 'c', 'd'],
-        &[End::Front, End::Front, End::Front, End::Back, End::Front],
-        &[
-            Some(Both(1, 'a')),
-            Some(Both(2, 'b')),
-            Some(Right('c')),
-            Some(Right('d')),
-            None,
-        ],
-        0,
-    ),
-    (&[], &[], &[End::Front, End::Back], &[None, None], 0),
+    (&[1, 2, 3], &['a'], &[Back, Front, Back, Front],
+        &[Some(Left(3)), Some(Both(1, 'a')), Some(Left(2)), None], 0),
+    (&[1, 2], &['a', 'b', 'c', 'd'], &[Front, Front, Front, Back, Front],
+        &[Some(Both(1, 'a')), Some(Both(2, 'b')), Some(Right('c')), Some(Right('d')), None], 0),
+    (&[], &[], &[Front, Back], &[None, None], 0),
     (&[1, 2], &['c'], &[], &[], 2),
-    (&[1, 2, 3], &['a'], &[End::Back], &[Some(Left(3))], 2),
+    (&[1, 2, 3], &['a'], &[Back], &[Some(Left(3))], 2),
 ];
 
 /// The drivers answer each call from the end that it names, also over a lone side, and tell how many items are left.
@@ -193,14 +179,14 @@ fn each_call_is_answered_from_its_end(rt: HostRuntime) -> Result<(), Fail> {
         let came = (driven.answers.as_slice(), driven.rest);
         same(&rt, "drive_swap", &(l, r, ends), &came, &(answers, rest));
     }
-    let backs = [End::Back, End::Back, End::Back];
+    let backs = [Back, Back, Back];
     let alone: EitherOrBoth<Vec<u8>, Vec<char>> = Right(vec![in alloc; 'c', 'm']?);
     let driven = drive_swap_owned(alloc, alone, &backs)?;
     let came = (driven.answers.as_slice(), driven.rest);
     let answers = [Some(Right('m')), Some(Right('c')), None];
     same(&rt, "drive_swap", &backs, &came, &(answers.as_slice(), 0));
     let in_turn = Both(vec![in alloc; 1u8, 2]?, vec![in alloc; 3u8]?);
-    let ends = [End::Back, End::Front, End::Back, End::Front];
+    let ends = [Back, Front, Back, Front];
     let answers = drive_chain_owned(alloc, in_turn, &ends)?;
     let want = [Some(3), Some(1), Some(2), None];
     same(
@@ -210,7 +196,7 @@ fn each_call_is_answered_from_its_end(rt: HostRuntime) -> Result<(), Fail> {
         &answers.as_slice(),
         &want.as_slice(),
     );
-    let driven = drive_items(alloc, Both(1u8, 2), &[End::Back, End::Front, End::Front])?;
+    let driven = drive_items(alloc, Both(1u8, 2), &[Back, Front, Front])?;
     let came = (driven.answers.as_slice(), driven.rest);
     let want = [Some(2), Some(1), None];
     same(
@@ -233,7 +219,7 @@ fn one_call_of_the_back_asks_one_side(rt: HostRuntime) -> Result<(), Fail> {
         Counting::new(&[1u8, 2, 3], &left),
         Counting::new(&['a'], &right),
     );
-    let driven = drive_swap_owned(alloc, pair, &[End::Back])?;
+    let driven = drive_swap_owned(alloc, pair, &[Back])?;
     let came = (driven.answers.as_slice(), driven.rest);
     same(
         &rt,
@@ -255,7 +241,7 @@ fn one_call_of_the_back_asks_one_side(rt: HostRuntime) -> Result<(), Fail> {
         Counting::new(&[1u8], &first),
         Counting::new(&[2, 3], &second),
     );
-    let answers = drive_chain_owned(alloc, pair, &[End::Back])?;
+    let answers = drive_chain_owned(alloc, pair, &[Back])?;
     same(
         &rt,
         "drive_chain",
