@@ -7,7 +7,7 @@ use crate::joined::Joining;
 use crate::merged::render_conflicts;
 use crate::opened::{Opened, at};
 use crate::patch::misfits;
-use crate::request::{Form, Kind, Settings};
+use crate::request::{Form, Format, Kind, Settings};
 use crate::written::{write_changes, write_table};
 use eob_joins::Merged;
 use eob_tables::{Cells, Group, Order, Rows, changes_of, merge_of, paired, patched};
@@ -25,7 +25,7 @@ pub struct Answer {
 pub fn compare<'a, A: Read + Drop, B: Read + Drop>(
     alloc: Global,
     settings: Settings<'a>,
-    csv: bool,
+    format: Format,
     mut old: Opened<'a, A>,
     mut new: Opened<'a, B>,
 ) -> Result<Answer, Fault<'a>> {
@@ -36,17 +36,18 @@ pub fn compare<'a, A: Read + Drop, B: Read + Drop>(
     let mut order = order_of(alloc, settings);
     let left = old.read_rows(&columns, &mut order, settings.groups)?;
     let right = new.read_rows(&columns, &mut order, settings.groups)?;
-    let form = if csv { Some(settings.form) } else { None };
+    let form = settings.form;
     at(
         new.file,
-        compared(alloc, form, &columns, &said, &order, (left, right)),
+        compared(alloc, form, format, &columns, &said, &order, (left, right)),
     )
 }
 
-// The changes between two tables, as CSV of a form or else as a person reads them.
+// The changes between two tables in a format, as CSV of a form.
 fn compared(
     alloc: Global,
-    form: Option<Form>,
+    form: Form,
+    format: Format,
     columns: &Columns,
     said: &ColumnChanges,
     order: &Order,
@@ -55,9 +56,11 @@ fn compared(
     let (old, new) = tables;
     let rows = count_rows(&old.pairs);
     let changes = order.arrange(changes_of(alloc, old, new)?)?;
-    let bytes = match form {
-        Some(form) => write_changes(alloc, form, columns, &changes)?,
-        None => report(alloc, columns, &said.text, rows, &changes)?,
+    let bytes = match format {
+        Format::Csv => write_changes(alloc, form, columns, &changes)?,
+        Format::Table { has_colour } => {
+            report(alloc, has_colour, columns, &said.text, rows, &changes)?
+        }
     };
     let is_same = changes.is_empty() && !said.has_lone;
     Ok(Answer {

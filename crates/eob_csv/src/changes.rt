@@ -1,7 +1,7 @@
 //! What changed between two tables, as a person reads it.
 
 use crate::columns::{Columns, place_of};
-use crate::lined_up::{Grid, Line, Shown, line_up, put_shown};
+use crate::lined_up::{Colour, Grid, Line, Shown, line_up, put_shown};
 use either_or_both::EitherOrBoth;
 use eob_joins::{Change, group_join_unordered};
 use eob_tables::{Cells, Group};
@@ -20,10 +20,11 @@ struct Counts {
     same: usize,
 }
 
-/// The changes as text that a person reads: what is said of columns, the rows that changed, and the counts. The old table had this many
-/// rows.
+/// The changes as text that a person reads: what is said of columns, the rows that changed, each in the colour of its change where that
+/// is asked for, and the counts. The old table had this many rows.
 pub fn report(
     alloc: Global,
+    has_colour: bool,
     columns: &Columns,
     said: &str,
     old_rows: usize,
@@ -31,7 +32,8 @@ pub fn report(
 ) -> Result<Vec<u8>, AllocError> {
     let changes = row_changes(alloc, changes)?;
     let mut text = String::from_str(alloc, said)?;
-    text.push_str(&render(alloc, columns, &changes, count(old_rows, &changes))?)?;
+    let counts = count(old_rows, &changes);
+    text.push_str(&render(alloc, has_colour, columns, &changes, counts)?)?;
     Ok(text.into_bytes())
 }
 
@@ -112,6 +114,7 @@ fn count(old_rows: usize, changes: &[RowChange<'_>]) -> Counts {
 // The rows that changed as a table, and the counts.
 fn render(
     alloc: Global,
+    has_colour: bool,
     columns: &Columns,
     changes: &[RowChange<'_>],
     counts: Counts,
@@ -121,7 +124,7 @@ fn render(
         let mut grid: Grid = Vec::new(alloc);
         grid.push(heading(alloc, columns)?)?;
         for row in changes {
-            grid.push(line_of(alloc, row)?)?;
+            grid.push(line_of(alloc, has_colour, row)?)?;
         }
         text = line_up(alloc, &grid)?;
     }
@@ -182,18 +185,26 @@ pub fn heading(alloc: Global, columns: &Columns) -> Result<Line, AllocError> {
     Ok(line)
 }
 
-/// A line that begins with a word and the cells of a key.
+/// A line with no colour that begins with a word and the cells of a key.
 pub fn line_under(alloc: Global, word: &str, key: &[Vec<u8>]) -> Result<Line, AllocError> {
-    let mut line = Vec::new(alloc);
-    line.push(String::from_str(alloc, word)?)?;
+    let mut cells = Vec::new(alloc);
+    cells.push(String::from_str(alloc, word)?)?;
+    let mut line = Line {
+        colour: None,
+        cells,
+    };
     put_shown(alloc, &mut line, key)?;
     Ok(line)
 }
 
 // The line of a row that changed.
-fn line_of(alloc: Global, row: &RowChange<'_>) -> Result<Line, AllocError> {
+fn line_of(alloc: Global, has_colour: bool, row: &RowChange<'_>) -> Result<Line, AllocError> {
     let (key, change) = *row;
-    let mut line = line_under(alloc, mark(change), key)?;
+    let (word, colour) = mark(change);
+    let mut line = line_under(alloc, word, key)?;
+    if has_colour {
+        line.colour = Some(colour);
+    }
     match change {
         EitherOrBoth::Left(cells) | EitherOrBoth::Right(cells) => {
             put_shown(alloc, &mut line, cells)?
@@ -211,17 +222,17 @@ fn put_changed(
     new: &[Vec<u8>],
 ) -> Result<(), AllocError> {
     for (cell, next) in old.iter().zip(new.iter()) {
-        line.push(changed_cell(alloc, cell, next)?)?;
+        line.cells.push(changed_cell(alloc, cell, next)?)?;
     }
     Ok(())
 }
 
-// What is said of a row that changed.
-fn mark(change: Change<&Cells>) -> &'static str {
+// What is said of a row that changed, and its colour.
+fn mark(change: Change<&Cells>) -> (&'static str, Colour) {
     match change {
-        EitherOrBoth::Left(_) => "removed",
-        EitherOrBoth::Both(..) => "changed",
-        EitherOrBoth::Right(_) => "added",
+        EitherOrBoth::Left(_) => ("removed", Colour::Red),
+        EitherOrBoth::Both(..) => ("changed", Colour::Yellow),
+        EitherOrBoth::Right(_) => ("added", Colour::Green),
     }
 }
 

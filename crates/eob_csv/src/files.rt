@@ -3,7 +3,7 @@
 use crate::answers::{Answer, change, compare, join, merge};
 use crate::fault::{Fault, Reason};
 use crate::opened::{Opened, at};
-use crate::request::{Request, Settings};
+use crate::request::{Format, Request, Settings};
 use crate::sorted::{compare_sorted, join_sorted};
 use either_or_both::Either;
 use std::io::Write;
@@ -33,7 +33,7 @@ pub fn stream_request<'a, R: Files + Input + AllocGlobal, W: Write>(
         Request::Diff {
             old,
             new,
-            csv: true,
+            format: Format::Csv,
         } => {
             let (old, new) = open_two(rt, settings, old, new)?;
             compare_sorted(rt.alloc(), settings, old, new, output)
@@ -62,9 +62,9 @@ pub fn answer_request<'a, R: Files + Input + AllocGlobal>(
     request: Request<'a>,
 ) -> Result<Answer, Fault<'a>> {
     match request {
-        Request::Diff { old, new, csv } => {
+        Request::Diff { old, new, format } => {
             let (old, new) = open_two(rt, settings, old, new)?;
-            compare(rt.alloc(), settings, csv, old, new)
+            compare(rt.alloc(), settings, format, old, new)
         }
         Request::Apply { old, changes } => {
             check_stdin(&[old, changes])?;

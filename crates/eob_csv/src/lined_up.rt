@@ -26,8 +26,34 @@ impl fmt::Display for Shown<'_> {
     }
 }
 
-/// A line of cells.
-pub type Line = Vec<String>;
+/// A colour of a terminal.
+#[derive(Clone, Copy)]
+pub enum Colour {
+    Red,
+    Green,
+    Yellow,
+}
+
+impl Colour {
+    // What makes a terminal show what follows in this colour.
+    fn begin(self) -> &'static str {
+        match self {
+            Colour::Red => "\x1b[31m",
+            Colour::Green => "\x1b[32m",
+            Colour::Yellow => "\x1b[33m",
+        }
+    }
+}
+
+// What ends any colour.
+const PLAIN: &str = "\x1b[0m";
+
+/// A line of cells, and its colour, if it has one.
+#[derive(Drop)]
+pub struct Line {
+    pub colour: Option<Colour>,
+    pub cells: Vec<String>,
+}
 
 /// Lines of cells.
 pub type Grid = Vec<Line>;
@@ -36,7 +62,7 @@ pub type Grid = Vec<Line>;
 pub fn put_shown(alloc: Global, line: &mut Line, cells: &[Vec<u8>]) -> Result<(), AllocError> {
     for cell in cells {
         let shown = format!(in alloc; "{}", Shown(cell))?;
-        line.push(shown)?;
+        line.cells.push(shown)?;
     }
     Ok(())
 }
@@ -45,7 +71,7 @@ pub fn put_shown(alloc: Global, line: &mut Line, cells: &[Vec<u8>]) -> Result<()
 pub fn line_up(alloc: Global, grid: &[Line]) -> Result<String, AllocError> {
     let mut widths: Vec<usize> = Vec::new(alloc);
     for line in grid {
-        widen(&mut widths, line)?;
+        widen(&mut widths, &line.cells)?;
     }
     let mut text = String::new(alloc);
     for line in grid {
@@ -67,9 +93,22 @@ fn widen(widths: &mut Vec<usize>, line: &[String]) -> Result<(), AllocError> {
 }
 
 // Puts a line whose columns have these widths.
-fn put_line(text: &mut String, line: &[String], widths: &[usize]) -> Result<(), AllocError> {
+fn put_line(text: &mut String, line: &Line, widths: &[usize]) -> Result<(), AllocError> {
+    match line.colour {
+        Some(colour) => {
+            text.push_str(colour.begin())?;
+            put_cells(text, &line.cells, widths)?;
+            text.push_str(PLAIN)?;
+        }
+        None => put_cells(text, &line.cells, widths)?,
+    }
+    text.push('\n')?;
+    Ok(())
+}
+
+fn put_cells(text: &mut String, cells: &[String], widths: &[usize]) -> Result<(), AllocError> {
     let mut gap = 0;
-    for (cell, widest) in line.iter().zip(widths.iter()) {
+    for (cell, widest) in cells.iter().zip(widths.iter()) {
         for _ in 0..gap {
             text.push(' ')?;
         }
@@ -77,6 +116,5 @@ fn put_line(text: &mut String, line: &[String], widths: &[usize]) -> Result<(), 
         let width = cell.as_str().width();
         gap = widest.saturating_sub(width).saturating_add(2);
     }
-    text.push('\n')?;
     Ok(())
 }

@@ -62,7 +62,7 @@ pub fn put_version(
         }
         None => {
             let mut line = line_under(alloc, name, key)?;
-            line.push(String::from_str(alloc, "(no row)")?)?;
+            line.cells.push(String::from_str(alloc, "(no row)")?)?;
             grid.push(line)?;
         }
     }

@@ -29,14 +29,23 @@ pub enum Kind {
     Anti,
 }
 
+/// How `diff` writes what changed.
+#[derive(Clone, Copy)]
+pub enum Format {
+    /// As CSV that `Request::Apply` takes.
+    Csv,
+    /// As a table that a person reads, each row in the colour of its change where that is set, as a terminal shows it.
+    Table { has_colour: bool },
+}
+
 /// What is asked for, of files by name.
 #[derive(Clone, Copy)]
 pub enum Request<'a> {
-    /// What changed, as a table that a person reads, or as CSV that `Apply` takes.
+    /// What changed.
     Diff {
         old: &'a str,
         new: &'a str,
-        csv: bool,
+        format: Format,
     },
     /// A table with changes made to it.
     Apply {

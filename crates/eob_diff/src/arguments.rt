@@ -1,23 +1,28 @@
 //! What the command line asks for.
 
 use clap::{Arg, ArgAction, ArgMatches, Command, Error};
-use eob_csv::{Form, Kind, Request, Settings};
+use eob_csv::{Form, Format, Kind, Request, Settings};
 use std::alloc::{AllocError, Global};
 
 /// The request that the words of a command line make, with its settings, or None for them where the delimiter is not one byte that may
-/// stand between cells. `Error` has the text for words that make no request, and for help.
+/// stand between cells. Where `--color` leaves it open, `has_colour` says whether there are colours. `Error` has the text for words that
+/// make no request, and for help.
 pub fn parse<'a>(
     alloc: Global,
     words: &'a [String],
+    has_colour: bool,
 ) -> Result<(Option<Settings<'a>>, Request<'a>), Error> {
     let matches = command(alloc)?.try_get_matches_from(words)?;
     match matches.subcommand() {
-        Some((name, matches)) => Ok((settings_of(matches), request_of(name, matches))),
+        Some((name, matches)) => {
+            let request = request_of(name, matches, has_colour);
+            Ok((settings_of(matches), request))
+        }
         None => Err(Error::from(AllocError)),
     }
 }
 
-fn request_of<'a>(name: &str, matches: &ArgMatches<'a>) -> Request<'a> {
+fn request_of<'a>(name: &str, matches: &ArgMatches<'a>, has_colour: bool) -> Request<'a> {
     let old = matches.get_str("OLD").unwrap_or("-");
     match name {
         "apply" => Request::Apply {
@@ -37,7 +42,20 @@ fn request_of<'a>(name: &str, matches: &ArgMatches<'a>) -> Request<'a> {
         _ => Request::Diff {
             old,
             new: matches.get_str("NEW").unwrap_or("-"),
-            csv: matches.get_str("format") == Some("csv"),
+            format: format_of(matches, has_colour),
+        },
+    }
+}
+
+fn format_of(matches: &ArgMatches<'_>, has_colour: bool) -> Format {
+    if matches.get_str("format") == Some("csv") {
+        return Format::Csv;
+    }
+    Format::Table {
+        has_colour: match matches.get_str("color").unwrap_or("auto") {
+            "always" => true,
+            "never" => false,
+            _ => has_colour,
         },
     }
 }
@@ -137,7 +155,10 @@ fn subcommand<'a>(alloc: Global, below: Below<'a>) -> Result<Command<'a>, AllocE
 // Puts the options that a command has beside the settings of all.
 fn put_options<'a>(alloc: Global, args: &mut Vec<Arg<'a>>, name: &str) -> Result<(), AllocError> {
     match name {
-        "diff" => args.push(format(alloc))?,
+        "diff" => {
+            args.push(format(alloc))?;
+            args.push(color(alloc))?;
+        }
         "join" => args.push(kind(alloc))?,
         _ => return Ok(()),
     }
@@ -152,6 +173,15 @@ fn format<'a>(alloc: Global) -> Arg<'a> {
         .value_parser(["table", "csv"].as_slice())
         .default_value("table")
         .help("A table to read, or CSV that apply takes")
+}
+
+fn color<'a>(alloc: Global) -> Arg<'a> {
+    Arg::new(alloc, "color")
+        .long("color")
+        .value_name("auto|always|never")
+        .value_parser(["auto", "always", "never"].as_slice())
+        .default_value("auto")
+        .help("Colours in a table; auto: on a terminal, unless NO_COLOR is set and not empty")
 }
 
 fn kind<'a>(alloc: Global) -> Arg<'a> {

@@ -2,7 +2,8 @@
 
 use crate::arguments::parse;
 use eob_csv::{Fault, Reason, stream_request, write_request};
-use std::io::Write;
+use std::env::FillError;
+use std::io::{IsTerminal, Write};
 use std::rt::{Env, Files};
 
 // The status of trouble.
@@ -10,7 +11,7 @@ const TROUBLE: u8 = 2;
 
 /// Answers the command line on the output, and returns the status. Unless tables are read as they rise, nothing is written before the
 /// whole answer is known.
-pub fn run<R: Files + Env + Input + Print + Eprint + AllocGlobal, W: Write>(
+pub fn run<R: Files + Env + Input + Print + Eprint + AllocGlobal, W: Write + IsTerminal>(
     rt: &R,
     output: &mut W,
 ) -> u8 {
@@ -22,7 +23,8 @@ pub fn run<R: Files + Env + Input + Print + Eprint + AllocGlobal, W: Write>(
         },
         Err(error) => return trouble(rt, "the command line", Reason::Io(error)),
     };
-    let (settings, request) = match parse(alloc, &words) {
+    let has_colour = output.is_terminal() && !has_text(rt, "NO_COLOR");
+    let (settings, request) = match parse(alloc, &words, has_colour) {
         Ok(parsed) => parsed,
         Err(error) => {
             let _ = error.print(rt);
@@ -40,6 +42,15 @@ pub fn run<R: Files + Env + Input + Print + Eprint + AllocGlobal, W: Write>(
     match outcome {
         Ok(status) => status,
         Err(fault) => trouble(rt, fault.file, fault.reason),
+    }
+}
+
+// Whether a variable is set and not empty.
+fn has_text<R: Env>(rt: &R, name: &str) -> bool {
+    match rt.var(name, &mut [0]) {
+        Ok(length) => length > 0,
+        Err(FillError::NotPresent) => false,
+        Err(FillError::TooLong) => true,
     }
 }
 

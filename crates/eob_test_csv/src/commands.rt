@@ -1,6 +1,6 @@
 //! Each command on tables that are texts.
 
-use eob_csv::{Answer, Fault, Form, Kind, Opened, Settings, change, compare, join, merge};
+use eob_csv::{Answer, Fault, Form, Format, Kind, Opened, Settings, change, compare, join, merge};
 use std::alloc::Global;
 use std::test::Fail;
 
@@ -17,17 +17,20 @@ pub const PLAIN: Settings<'static> = Settings {
     rises: false,
 };
 
-/// The answer to `diff`, as CSV where that is asked for.
+/// A table that a person reads, with no colour.
+pub const TEXT: Format = Format::Table { has_colour: false };
+
+/// The answer to `diff`.
 pub fn compared<'a>(
     alloc: Global,
     settings: Settings<'a>,
-    csv: bool,
+    format: Format,
     old: &[u8],
     new: &[u8],
 ) -> Result<Answer, Fault<'a>> {
     let old = Opened::table(alloc, settings, "old", old)?;
     let new = Opened::table(alloc, settings, "new", new)?;
-    compare(alloc, settings, csv, old, new)
+    compare(alloc, settings, format, old, new)
 }
 
 /// The answer to `apply`.

@@ -1,7 +1,7 @@
 //! Tests: streams that fail, and files that are none.
 
-use crate::commands::{PLAIN, merged, said};
-use eob_csv::{Answer, Fault, Opened, Request, answer_request, compare, write_whole};
+use crate::commands::{PLAIN, TEXT, merged, said};
+use eob_csv::{Answer, Fault, Format, Opened, Request, answer_request, compare, write_whole};
 use std::alloc::Global;
 use std::io;
 use std::io::{ErrorKind, Read, Write};
@@ -56,7 +56,7 @@ const TABLE: &[u8] = b"id,a\n1,\"x\ny\"\n2,z\n";
 fn broken_off<'a>(alloc: Global, new: &[u8]) -> Result<Answer, Fault<'a>> {
     let old = Opened::table(alloc, PLAIN, "old", TABLE)?;
     let new = Opened::table(alloc, PLAIN, "new", Broken { rest: new })?;
-    compare(alloc, PLAIN, true, old, new)
+    compare(alloc, PLAIN, Format::Csv, old, new)
 }
 
 /// An input that fails at any byte is the fault of its file, and gives no answer.
@@ -105,7 +105,7 @@ fn files_that_are_none_are_named(rt: HostRuntime) -> Result<(), Fail> {
         let request = Request::Diff {
             old: file,
             new: file,
-            csv: false,
+            format: TEXT,
         };
         let line = said(alloc, answer_request(&rt, PLAIN, request))?;
         assert!(rt; line.starts_with(wanted));

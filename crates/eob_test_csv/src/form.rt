@@ -1,7 +1,7 @@
 //! Tests: tables with no header, and rows in the order of the files.
 
 use crate::commands::{COMMAS, PLAIN, answered, applied, compared, joined, merged};
-use eob_csv::{Form, Kind, Settings};
+use eob_csv::{Form, Format, Kind, Settings};
 use std::alloc::{AllocError, Global};
 use std::test::Fail;
 
@@ -43,7 +43,7 @@ const CHANGED: [Changed; 3] = [
 fn columns_with_no_header_have_numbers(rt: HostRuntime) -> Result<(), Fail> {
     let alloc = rt.alloc();
     for (old, new, changes, made) in CHANGED {
-        let answer = answered(compared(alloc, NUMBERED, true, old, new))?;
+        let answer = answered(compared(alloc, NUMBERED, Format::Csv, old, new))?;
         assert_eq!(rt; answer.status, 1);
         assert!(rt; answer.bytes.as_slice() == changes);
         let answer = answered(applied(alloc, NUMBERED, old, changes))?;
@@ -63,7 +63,7 @@ fn columns_keep_their_names_and_order(rt: HostRuntime) -> Result<(), Fail> {
     };
     let old: &[u8] = b"change,id\nx,1\n";
     let new: &[u8] = b"change,id,more\ny,1,z\n";
-    let answer = answered(compared(alloc, settings, true, old, new))?;
+    let answer = answered(compared(alloc, settings, Format::Csv, old, new))?;
     let changes: &[u8] = b"change,change,id,more\n-,x,1,\n+,y,1,z\n";
     assert!(rt; answer.bytes.as_slice() == changes);
     let answer = answered(applied(alloc, settings, old, changes))?;
@@ -102,7 +102,7 @@ fn cells_of_every_shape_pass_unchanged(rt: HostRuntime) -> Result<(), Fail> {
     let alloc = rt.alloc();
     let old = shapes(alloc, false)?;
     let new = shapes(alloc, true)?;
-    let changes = answered(compared(alloc, PLAIN, true, &old, &new))?;
+    let changes = answered(compared(alloc, PLAIN, Format::Csv, &old, &new))?;
     let made = answered(applied(alloc, PLAIN, &old, &changes.bytes))?;
     assert_eq!(rt; made.status, 0);
     assert!(rt; made.bytes == new);
@@ -126,7 +126,7 @@ fn rows_keep_the_order_of_the_files(rt: HostRuntime) -> Result<(), Fail> {
     let alloc = rt.alloc();
     let base = b"id,a\n1,p\n3,p\n5,p\n";
     for (outcome, wanted) in [
-        (compared(alloc, IN_ORDER, true, FIRST, NEXT), CHANGES),
+        (compared(alloc, IN_ORDER, Format::Csv, FIRST, NEXT), CHANGES),
         (applied(alloc, IN_ORDER, FIRST, CHANGES), MADE),
         (joined(alloc, IN_ORDER, Kind::Right, FIRST, NEXT), JOINED),
         (merged(alloc, IN_ORDER, base, FIRST, NEXT), MADE),

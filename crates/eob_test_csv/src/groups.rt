@@ -1,7 +1,7 @@
 //! Tests: tables whose keys repeat.
 
-use crate::commands::{PLAIN, answered, applied, compared, joined, merged};
-use eob_csv::{Kind, Settings};
+use crate::commands::{PLAIN, TEXT, answered, applied, compared, joined, merged};
+use eob_csv::{Format, Kind, Settings};
 use std::alloc::{AllocError, Global};
 use std::fmt::Write;
 use std::test::Fail;
@@ -19,7 +19,7 @@ const NEW: &[u8] = b"id,a\n1,q\n3,s\n1,p\n2,z\n2,x\n1,r\n1,r\n";
 #[test]
 fn rows_of_groups_that_changed_are_shown(rt: HostRuntime) -> Result<(), Fail> {
     let alloc = rt.alloc();
-    let answer = answered(compared(alloc, GROUPS, false, OLD, NEW))?;
+    let answer = answered(compared(alloc, GROUPS, TEXT, OLD, NEW))?;
     assert_eq!(rt; answer.status, 1);
     let wanted = "         id  a
 changed  1   p -> r
@@ -30,7 +30,7 @@ added    3   s
 ";
     assert_eq!(rt; str::from_utf8(&answer.bytes)?, wanted);
     let same = b"id,a\n1,p\n1,p\n1,q\n2,y\n2,x\n";
-    let answer = answered(compared(alloc, GROUPS, false, OLD, same))?;
+    let answer = answered(compared(alloc, GROUPS, TEXT, OLD, same))?;
     assert_eq!(rt; answer.status, 0);
     Ok(())
 }
@@ -50,7 +50,7 @@ fn table(alloc: Global, shift: usize) -> Result<String, AllocError> {
 #[test]
 fn changes_of_groups_are_whole(rt: HostRuntime) -> Result<(), Fail> {
     let alloc = rt.alloc();
-    let changes = answered(compared(alloc, GROUPS, true, OLD, NEW))?;
+    let changes = answered(compared(alloc, GROUPS, Format::Csv, OLD, NEW))?;
     let wanted = "change,id,a
 -,1,p
 -,1,p
@@ -75,10 +75,10 @@ fn changes_of_groups_made_again_give_the_new_table(rt: HostRuntime) -> Result<()
     let alloc = rt.alloc();
     let old = table(alloc, 1)?;
     let new = table(alloc, 3)?;
-    let changes = answered(compared(alloc, GROUPS, true, old.as_bytes(), new.as_bytes()))?;
+    let changes = answered(compared(alloc, GROUPS, Format::Csv, old.as_bytes(), new.as_bytes()))?;
     let made = answered(applied(alloc, GROUPS, old.as_bytes(), &changes.bytes))?;
     assert_eq!(rt; made.status, 0);
-    let left = answered(compared(alloc, GROUPS, true, &made.bytes, new.as_bytes()))?;
+    let left = answered(compared(alloc, GROUPS, Format::Csv, &made.bytes, new.as_bytes()))?;
     assert_eq!(rt; left.status, 0);
     let refused = answered(applied(alloc, GROUPS, new.as_bytes(), &changes.bytes))?;
     assert_eq!(rt; refused.status, 1);

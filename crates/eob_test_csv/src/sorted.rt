@@ -1,7 +1,7 @@
 //! Tests: tables of hundreds of rows whose keys rise, compared and joined as they are read.
 
 use crate::commands::{PLAIN, answered, compared, joined, said};
-use eob_csv::{Answer, Fault, Kind, Opened, compare_sorted, join_sorted};
+use eob_csv::{Answer, Fault, Format, Kind, Opened, compare_sorted, join_sorted};
 use std::alloc::{AllocError, Global};
 use std::fmt::Write;
 use std::test::Fail;
@@ -64,7 +64,7 @@ fn parts_give_the_changes(rt: HostRuntime) -> Result<(), Fail> {
     for [step, limit, other_step, other_limit] in TABLES {
         let old = table(alloc, step, limit)?;
         let new = table(alloc, other_step, other_limit)?;
-        let whole = answered(compared(alloc, PLAIN, true, old.as_bytes(), new.as_bytes()))?;
+        let whole = answered(compared(alloc, PLAIN, Format::Csv, old.as_bytes(), new.as_bytes()))?;
         let parts = answered(compared_in_parts(alloc, old.as_bytes(), new.as_bytes()))?;
         assert_eq!(rt; parts.status, whole.status);
         assert!(rt; parts.bytes == whole.bytes);

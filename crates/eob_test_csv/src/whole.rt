@@ -1,7 +1,7 @@
 //! Tests: tables of hundreds of rows made by a rule, changes made again, and what is said of inputs that are bad.
 
-use crate::commands::{PLAIN, answered, applied, compared, joined, said};
-use eob_csv::Kind;
+use crate::commands::{PLAIN, TEXT, answered, applied, compared, joined, said};
+use eob_csv::{Format, Kind};
 use std::alloc::{AllocError, Global};
 use std::fmt::Write;
 use std::test::Fail;
@@ -39,7 +39,7 @@ fn changes_made_again_give_the_new_table(rt: HostRuntime) -> Result<(), Fail> {
     let alloc = rt.alloc();
     let old = table(alloc, 2, 1)?;
     let new = table(alloc, 3, 2)?;
-    let changes = answered(compared(alloc, PLAIN, true, old.as_bytes(), new.as_bytes()))?;
+    let changes = answered(compared(alloc, PLAIN, Format::Csv, old.as_bytes(), new.as_bytes()))?;
     assert_eq!(rt; changes.status, 1);
     let made = answered(applied(alloc, PLAIN, old.as_bytes(), &changes.bytes))?;
     assert_eq!(rt; made.status, 0);
@@ -56,7 +56,7 @@ fn counts_of_tables_made_by_a_rule(rt: HostRuntime) -> Result<(), Fail> {
     let alloc = rt.alloc();
     let old = table(alloc, 2, 1)?;
     let new = table(alloc, 3, 2)?;
-    let answer = answered(compared(alloc, PLAIN, false, old.as_bytes(), new.as_bytes()))?;
+    let answer = answered(compared(alloc, PLAIN, TEXT, old.as_bytes(), new.as_bytes()))?;
     let text = str::from_utf8(&answer.bytes)?;
     assert_eq!(rt; text.lines().count(), 377);
     assert_eq!(rt;
@@ -66,34 +66,58 @@ fn counts_of_tables_made_by_a_rule(rt: HostRuntime) -> Result<(), Fail> {
     Ok(())
 }
 
-// Two tables, whether the answer is CSV, its status, and what it is.
-type Comparison = (&'static [u8], &'static [u8], bool, u8, &'static str);
+// Two tables, the format of the answer, its status, and what it is.
+type Comparison = (&'static [u8], &'static [u8], Format, u8, &'static str);
+
+const COLOURS: Format = Format::Table { has_colour: true };
+
+// Of three rows one stays, one changes and one goes, and a fourth comes.
+const THREE: &[u8] = b"id,a\n1,x\n2,y\n3,z\n";
+
+const OTHER_THREE: &[u8] = b"a,id\nx,1\nw,2\nv,4\n";
 
 #[rattlefmt::skip]
-const COMPARISONS: [Comparison; 4] = [
+const COMPARISONS: [Comparison; 6] = [
     // Columns are matched by name, and keys stand in any order. Another order of columns is said.
-    (b"id,a,b\n2,x,y\n1,p,q\n", b"b,id,a\nq,1,p\ny,2,x\n", false, 0,
+    (b"id,a,b\n2,x,y\n1,p,q\n", b"b,id,a\nq,1,p\ny,2,x\n", TEXT, 0,
         "columns in another order\n0 added, 0 removed, 0 changed, 2 the same\n"),
     // A column that one version alone has is said, and counts as a change; in the other version its cells count as empty.
-    (b"id,a,b\n1,x,\n2,y,z\n", b"id,c,a\n1,,x\n2,w,y\n", false, 1,
+    (b"id,a,b\n1,x,\n2,y,z\n", b"id,c,a\n1,,x\n2,w,y\n", TEXT, 1,
         "column c added
 column b removed
          id  a  b      c
 changed  2   y  z ->    -> w
 0 added, 0 removed, 1 changed, 1 the same
 "),
-    (b"id,a\n1,x\n", b"id,a,b\n1,x,\n", true, 1, "change,id,a,b\n"),
+    (b"id,a\n1,x\n", b"id,a,b\n1,x,\n", Format::Csv, 1, "change,id,a,b\n"),
     // Bytes that are no UTF-8 and control characters stand escaped on the line of their row.
-    (b"id,a\n1,\"x\ny\"\n", b"id,a\n1,\xff\n", false, 1,
+    (b"id,a\n1,\"x\ny\"\n", b"id,a\n1,\xff\n", TEXT, 1,
         "         id  a\nchanged  1   x\\ny -> \\xff\n0 added, 0 removed, 1 changed, 0 the same\n"),
+    // Where colours are asked for, each row has that of its change from its first cell to its last, and no other line has one.
+    (THREE, OTHER_THREE, COLOURS, 1,
+        "columns in another order
+         id  a
+\x1b[33mchanged  2   y -> w\x1b[0m
+\x1b[31mremoved  3   z\x1b[0m
+\x1b[32madded    4   v\x1b[0m
+1 added, 1 removed, 1 changed, 1 the same
+"),
+    (THREE, OTHER_THREE, TEXT, 1,
+        "columns in another order
+         id  a
+changed  2   y -> w
+removed  3   z
+added    4   v
+1 added, 1 removed, 1 changed, 1 the same
+"),
 ];
 
-/// Rows and columns in another order, columns of one version alone, and cells that are no text.
+/// Rows and columns in another order, columns of one version alone, cells that are no text, and colours.
 #[test]
 fn changes_are_shown(rt: HostRuntime) -> Result<(), Fail> {
     let alloc = rt.alloc();
-    for (old, new, csv, status, wanted) in COMPARISONS {
-        let answer = answered(compared(alloc, PLAIN, csv, old, new))?;
+    for (old, new, format, status, wanted) in COMPARISONS {
+        let answer = answered(compared(alloc, PLAIN, format, old, new))?;
         assert_eq!(rt; str::from_utf8(&answer.bytes)?, wanted);
         assert_eq!(rt; answer.status, status, "{wanted}");
     }
@@ -116,7 +140,7 @@ const BAD: [(&[u8], &[u8], &str); 5] = [
 fn bad_inputs_are_named(rt: HostRuntime) -> Result<(), Fail> {
     let alloc = rt.alloc();
     for (old, new, wanted) in BAD {
-        let line = said(alloc, compared(alloc, PLAIN, false, old, new))?;
+        let line = said(alloc, compared(alloc, PLAIN, TEXT, old, new))?;
         assert_eq!(rt; line.as_str(), wanted);
     }
     Ok(())
