@@ -26,8 +26,8 @@ pub fn compare<'a, A: Read + Drop, B: Read + Drop>(
     alloc: Global,
     settings: Settings<'a>,
     format: Format,
-    mut old: Opened<'a, A>,
-    mut new: Opened<'a, B>,
+    old: &mut Opened<'a, A>,
+    new: &mut Opened<'a, B>,
 ) -> Result<Answer, Fault<'a>> {
     let headers = [old.source.header.as_slice(), new.source.header.as_slice()];
     let columns = at(old.file, columns_of(alloc, settings, &headers))?;
@@ -73,8 +73,8 @@ fn compared(
 pub fn change<'a, A: Read + Drop, B: Read + Drop>(
     alloc: Global,
     settings: Settings<'a>,
-    mut old: Opened<'a, A>,
-    mut changes: Opened<'a, B>,
+    old: &mut Opened<'a, A>,
+    changes: &mut Opened<'a, B>,
 ) -> Result<Answer, Fault<'a>> {
     let headers = [
         old.source.header.as_slice(),
@@ -117,9 +117,9 @@ fn changed(
 pub fn merge<'a, A: Read + Drop, B: Read + Drop, C: Read + Drop>(
     alloc: Global,
     settings: Settings<'a>,
-    mut base: Opened<'a, A>,
-    mut ours: Opened<'a, B>,
-    mut theirs: Opened<'a, C>,
+    base: &mut Opened<'a, A>,
+    ours: &mut Opened<'a, B>,
+    theirs: &mut Opened<'a, C>,
 ) -> Result<Answer, Fault<'a>> {
     let headers = [
         base.source.header.as_slice(),
@@ -163,8 +163,8 @@ pub fn join<'a, A: Read + Drop, B: Read + Drop>(
     alloc: Global,
     settings: Settings<'a>,
     kind: Kind,
-    mut left: Opened<'a, A>,
-    mut right: Opened<'a, B>,
+    left: &mut Opened<'a, A>,
+    right: &mut Opened<'a, B>,
 ) -> Result<Answer, Fault<'a>> {
     let columns = join_columns(alloc, settings, &left.source.header, &right.source.header);
     let columns = at(left.file, columns)?;

@@ -63,25 +63,25 @@ pub fn answer_request<'a, R: Files + Input + AllocGlobal>(
 ) -> Result<Answer, Fault<'a>> {
     match request {
         Request::Diff { old, new, format } => {
-            let (old, new) = open_two(rt, settings, old, new)?;
-            compare(rt.alloc(), settings, format, old, new)
+            let (mut old, mut new) = open_two(rt, settings, old, new)?;
+            compare(rt.alloc(), settings, format, &mut old, &mut new)
         }
         Request::Apply { old, changes } => {
             check_stdin(&[old, changes])?;
-            let old = open(rt, settings, old)?;
-            let changes = open_changes(rt, settings, changes)?;
-            change(rt.alloc(), settings, old, changes)
+            let mut old = open(rt, settings, old)?;
+            let mut changes = open_changes(rt, settings, changes)?;
+            change(rt.alloc(), settings, &mut old, &mut changes)
         }
         Request::Merge { base, ours, theirs } => {
             check_stdin(&[base, ours, theirs])?;
-            let base = open(rt, settings, base)?;
-            let ours = open(rt, settings, ours)?;
-            let theirs = open(rt, settings, theirs)?;
-            merge(rt.alloc(), settings, base, ours, theirs)
+            let mut base = open(rt, settings, base)?;
+            let mut ours = open(rt, settings, ours)?;
+            let mut theirs = open(rt, settings, theirs)?;
+            merge(rt.alloc(), settings, &mut base, &mut ours, &mut theirs)
         }
         Request::Join { left, right, kind } => {
-            let (left, right) = open_two(rt, settings, left, right)?;
-            join(rt.alloc(), settings, kind, left, right)
+            let (mut left, mut right) = open_two(rt, settings, left, right)?;
+            join(rt.alloc(), settings, kind, &mut left, &mut right)
         }
     }
 }

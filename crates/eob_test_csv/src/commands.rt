@@ -28,9 +28,9 @@ pub fn compared<'a>(
     old: &[u8],
     new: &[u8],
 ) -> Result<Answer, Fault<'a>> {
-    let old = Opened::table(alloc, settings, "old", old)?;
-    let new = Opened::table(alloc, settings, "new", new)?;
-    compare(alloc, settings, format, old, new)
+    let mut old = Opened::table(alloc, settings, "old", old)?;
+    let mut new = Opened::table(alloc, settings, "new", new)?;
+    compare(alloc, settings, format, &mut old, &mut new)
 }
 
 /// The answer to `apply`.
@@ -40,9 +40,9 @@ pub fn applied<'a>(
     old: &[u8],
     changes: &[u8],
 ) -> Result<Answer, Fault<'a>> {
-    let old = Opened::table(alloc, settings, "old", old)?;
-    let changes = Opened::changes(alloc, settings, "changes", changes)?;
-    change(alloc, settings, old, changes)
+    let mut old = Opened::table(alloc, settings, "old", old)?;
+    let mut changes = Opened::changes(alloc, settings, "changes", changes)?;
+    change(alloc, settings, &mut old, &mut changes)
 }
 
 /// The answer to `merge`.
@@ -53,10 +53,10 @@ pub fn merged<'a>(
     ours: &[u8],
     theirs: &[u8],
 ) -> Result<Answer, Fault<'a>> {
-    let base = Opened::table(alloc, settings, "base", base)?;
-    let ours = Opened::table(alloc, settings, "ours", ours)?;
-    let theirs = Opened::table(alloc, settings, "theirs", theirs)?;
-    merge(alloc, settings, base, ours, theirs)
+    let mut base = Opened::table(alloc, settings, "base", base)?;
+    let mut ours = Opened::table(alloc, settings, "ours", ours)?;
+    let mut theirs = Opened::table(alloc, settings, "theirs", theirs)?;
+    merge(alloc, settings, &mut base, &mut ours, &mut theirs)
 }
 
 /// The answer to `join`.
@@ -67,9 +67,9 @@ pub fn joined<'a>(
     left: &[u8],
     right: &[u8],
 ) -> Result<Answer, Fault<'a>> {
-    let left = Opened::table(alloc, settings, "left", left)?;
-    let right = Opened::table(alloc, settings, "right", right)?;
-    join(alloc, settings, kind, left, right)
+    let mut left = Opened::table(alloc, settings, "left", left)?;
+    let mut right = Opened::table(alloc, settings, "right", right)?;
+    join(alloc, settings, kind, &mut left, &mut right)
 }
 
 /// The answer of a command whose inputs are good.

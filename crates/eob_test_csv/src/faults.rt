@@ -54,9 +54,9 @@ const TABLE: &[u8] = b"id,a\n1,\"x\ny\"\n2,z\n";
 
 // The answer to `diff` where the input of the new table fails behind these bytes.
 fn broken_off<'a>(alloc: Global, new: &[u8]) -> Result<Answer, Fault<'a>> {
-    let old = Opened::table(alloc, PLAIN, "old", TABLE)?;
-    let new = Opened::table(alloc, PLAIN, "new", Broken { rest: new })?;
-    compare(alloc, PLAIN, Format::Csv, old, new)
+    let mut old = Opened::table(alloc, PLAIN, "old", TABLE)?;
+    let mut new = Opened::table(alloc, PLAIN, "new", Broken { rest: new })?;
+    compare(alloc, PLAIN, Format::Csv, &mut old, &mut new)
 }
 
 /// An input that fails at any byte is the fault of its file, and gives no answer.
