@@ -22,6 +22,11 @@ pub struct Answer {
 }
 
 /// The answer to `diff`.
+///
+/// # Errors
+///
+/// Returns the fault of a table whose rows can't be read, that lacks a column of the key, or in which a key stands twice where keys may
+/// not repeat; also want of memory, as the fault of one of them.
 pub fn compare<'a, A: Read + Drop, B: Read + Drop>(
     alloc: Global,
     settings: Settings<'a>,
@@ -70,6 +75,11 @@ fn compared(
 }
 
 /// The answer to `apply`.
+///
+/// # Errors
+///
+/// Returns the fault of a table whose rows can't be read, that lacks a column of the key, or in which a key stands twice where keys may
+/// not repeat; of changes in which a row begins with no sign; also want of memory, as the fault of one of them.
 pub fn change<'a, A: Read + Drop, B: Read + Drop>(
     alloc: Global,
     settings: Settings<'a>,
@@ -114,6 +124,11 @@ fn changed(
 }
 
 /// The answer to `merge`.
+///
+/// # Errors
+///
+/// Returns the fault of a table whose rows can't be read, that lacks a column of the key, or in which a key stands twice where keys may
+/// not repeat; also want of memory, as the fault of one of them.
 pub fn merge<'a, A: Read + Drop, B: Read + Drop, C: Read + Drop>(
     alloc: Global,
     settings: Settings<'a>,
@@ -159,6 +174,11 @@ fn merged(
 }
 
 /// The answer to `join`.
+///
+/// # Errors
+///
+/// Returns the fault of a table whose rows can't be read, that lacks a column of the key, or in which a key stands twice where keys may
+/// not repeat; also want of memory, as the fault of one of them.
 pub fn join<'a, A: Read + Drop, B: Read + Drop>(
     alloc: Global,
     settings: Settings<'a>,

@@ -5,7 +5,7 @@ use eob_tables::{Cells, Ungathered};
 use std::alloc::{AllocError, AllocFailed};
 use std::{fmt, io};
 
-/// A fault, and the file that it is in.
+/// What is wrong with an input or the output, and the name of its file. Prints as `FILE: REASON`, on one line.
 #[derive(Drop)]
 pub struct Fault<'a> {
     pub file: &'a str,
@@ -15,21 +15,33 @@ pub struct Fault<'a> {
 /// What is wrong.
 #[derive(Drop)]
 pub enum Reason {
+    /// A request for memory was refused.
     NoMemory,
+    /// A file can't be opened, or a stream can't be read or written.
     Io(io::Error),
+    /// The byte between cells is not one byte, or one that ends rows or quotes cells.
     BadDelimiter,
+    /// A file that is to begin with a header is empty.
     NoHeader,
+    /// The header lacks this column of the key.
     NoColumn(Vec<u8>),
+    /// The header has this column twice.
     RepeatedColumn(Vec<u8>),
+    /// A row has more or fewer cells than the first one.
     CellCount {
         line: u64,
         expected: u64,
         found: u64,
     },
+    /// In a table of changes, the row on this line begins with no sign.
     NoSign(u64),
+    /// In a table that is read as its keys rise, the key on this line is not greater than the one before it.
     NotRising(u64),
+    /// Tables are to be compared as they are read, and the answer to be lined up, for which all its rows must be known.
     NeedsCsv,
+    /// More than one of the files is the standard input.
     TwiceStdin,
+    /// Two rows have the same key, and keys may not repeat.
     RepeatedKey {
         key: Cells,
         first: u64,
@@ -89,7 +101,7 @@ impl From<csv::Error> for Reason {
 
 impl fmt::Display for Fault<'_> {
     fn fmt<W: fmt::Write>(&self, f: &mut fmt::Formatter<W>) -> fmt::Result {
-        write!(f, "eob_diff: {}: {}", self.file, self.reason)
+        write!(f, "{}: {}", self.file, self.reason)
     }
 }
 

@@ -11,6 +11,10 @@ use std::rt::Files;
 use std::{fs, io};
 
 /// Writes the answer to a request, all of it or nothing of it where something is wrong with an input, and returns the status.
+///
+/// # Errors
+///
+/// Returns the fault of the first input that is bad, or that of the output, which may then have taken a part of the answer.
 pub fn write_request<'a, R: Files + Input + AllocGlobal, W: Write>(
     rt: &R,
     settings: Settings<'a>,
@@ -23,6 +27,11 @@ pub fn write_request<'a, R: Files + Input + AllocGlobal, W: Write>(
 }
 
 /// Writes the answer to a request while its tables are read, whose keys rise, and returns the status.
+///
+/// # Errors
+///
+/// Returns the fault of the input or the output where it comes up: whole rows may be written by then. Where a request can't be answered
+/// row by row, the fault is `Reason::NeedsCsv` of the option `--sorted`, and nothing is read or written.
 pub fn stream_request<'a, R: Files + Input + AllocGlobal, W: Write>(
     rt: &R,
     settings: Settings<'a>,
@@ -50,12 +59,20 @@ pub fn stream_request<'a, R: Files + Input + AllocGlobal, W: Write>(
 }
 
 /// Writes all bytes, as far as the output takes them.
+///
+/// # Errors
+///
+/// Returns the error of the output, which may then have taken a part of the bytes.
 pub fn write_whole<W: Write>(output: &mut W, bytes: &[u8]) -> io::Result<()> {
     output.write_all(bytes)?;
     output.flush()
 }
 
 /// The answer to a request, of the files that it names.
+///
+/// # Errors
+///
+/// Returns the fault of the first input that is bad: a file that can't be opened, or one of which the command can't be answered.
 pub fn answer_request<'a, R: Files + Input + AllocGlobal>(
     rt: &R,
     settings: Settings<'a>,

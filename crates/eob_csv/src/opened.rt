@@ -16,6 +16,10 @@ pub struct Opened<'a, R> {
 }
 
 /// The outcome, with the file that it is of.
+///
+/// # Errors
+///
+/// Returns the error of the outcome, as a fault of the file.
 pub fn at<'a, T: Drop, E: Drop>(file: &'a str, outcome: Result<T, E>) -> Result<T, Fault<'a>>
 where
     Reason: From<E>,
@@ -31,6 +35,10 @@ where
 
 impl<'a, R: Read + Drop> Opened<'a, R> {
     /// A table, with its header read.
+    ///
+    /// # Errors
+    ///
+    /// Returns the error of `Source::open`, as a fault of the file.
     pub fn table(
         alloc: Global,
         settings: Settings<'_>,
@@ -42,6 +50,10 @@ impl<'a, R: Read + Drop> Opened<'a, R> {
     }
 
     /// A table of changes, with its header read.
+    ///
+    /// # Errors
+    ///
+    /// Returns the error of `Source::open_changes`, as a fault of the file.
     pub fn changes(
         alloc: Global,
         settings: Settings<'_>,
@@ -53,6 +65,10 @@ impl<'a, R: Read + Drop> Opened<'a, R> {
     }
 
     /// Reads the rows (`Source::read_rows`).
+    ///
+    /// # Errors
+    ///
+    /// Returns the error of `Source::read_rows`, as a fault of the file.
     pub fn read_rows(
         &mut self,
         columns: &Columns,
@@ -63,6 +79,10 @@ impl<'a, R: Read + Drop> Opened<'a, R> {
     }
 
     /// Reads the rows of changes (`Source::read_changes`).
+    ///
+    /// # Errors
+    ///
+    /// Returns the error of `Source::read_changes`, as a fault of the file.
     pub fn read_changes(
         &mut self,
         columns: &Columns,

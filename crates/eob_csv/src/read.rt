@@ -23,11 +23,20 @@ pub struct Source<R> {
 impl<R: Read + Drop> Source<R> {
     /// Reads the header: names of columns, of which no two are the same. Where there is none, the columns have numbers for names, and an
     /// empty file has no column.
+    ///
+    /// # Errors
+    ///
+    /// Returns `NoHeader` if the file is empty and is to have a header, `RepeatedColumn` if two columns have the same name, `Io` if the
+    /// reader fails, and `NoMemory` if a request for memory was refused.
     pub fn open(alloc: Global, reader: R, form: Form) -> Result<Self, Reason> {
         Source::open_after(alloc, reader, form, 0)
     }
 
     /// Reads the header of a table of changes, whose first column is the sign.
+    ///
+    /// # Errors
+    ///
+    /// Returns the errors of `open`.
     pub fn open_changes(alloc: Global, reader: R, form: Form) -> Result<Self, Reason> {
         Source::open_after(alloc, reader, form, 1)
     }
@@ -56,6 +65,11 @@ impl<R: Read + Drop> Source<R> {
 
     /// Reads the rows, and gathers them by key, of which no two rows have the same unless keys may repeat. A cell of a column that the
     /// header lacks is empty.
+    ///
+    /// # Errors
+    ///
+    /// Returns `NoColumn` if the header lacks a column of the key, `CellCount` if a row has another number of cells than the first,
+    /// `RepeatedKey` if a key repeats that may not, `Io` if the reader fails, and `NoMemory` if a request for memory was refused.
     pub fn read_rows(
         &mut self,
         columns: &Columns,
@@ -75,6 +89,10 @@ impl<R: Read + Drop> Source<R> {
     }
 
     /// Reads the rows of changes, and gathers them by key: those whose first cell is `-`, which go, and those where it is `+`, which come.
+    ///
+    /// # Errors
+    ///
+    /// Returns the errors of `read_rows`, and `NoSign` if the first cell of a row is neither of the two.
     pub fn read_changes(
         &mut self,
         columns: &Columns,

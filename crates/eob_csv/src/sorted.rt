@@ -60,6 +60,11 @@ fn changes_as_csv(
 }
 
 /// Writes the changes between two tables as CSV while they are read, and returns the status.
+///
+/// # Errors
+///
+/// Returns the fault of a table whose rows can't be read, that lacks a column of the key, or in which a key is not greater than the one
+/// before it, and that of the output; also want of memory. Whole rows may be written by then.
 pub fn compare_sorted<'a, A: Read + Drop, B: Read + Drop, W: Write>(
     alloc: Global,
     settings: Settings<'a>,
@@ -79,6 +84,11 @@ pub fn compare_sorted<'a, A: Read + Drop, B: Read + Drop, W: Write>(
 }
 
 /// Writes a join of two tables as CSV while they are read, and returns the status.
+///
+/// # Errors
+///
+/// Returns the fault of a table whose rows can't be read, that lacks a column of the key, or in which a key is not greater than the one
+/// before it, and that of the output; also want of memory. Whole rows may be written by then.
 pub fn join_sorted<'a, A: Read + Drop, B: Read + Drop, W: Write>(
     alloc: Global,
     settings: Settings<'a>,

@@ -57,6 +57,6 @@ fn has_text<R: Env>(rt: &R, name: &str) -> bool {
 // Says what is wrong, and returns the status of trouble.
 fn trouble<R: Eprint>(rt: &R, file: &str, reason: Reason) -> u8 {
     let fault = Fault { file, reason };
-    let _ = rt.eprintln(&fault);
+    let _ = eprintln!(rt; "eob_diff: {fault}");
     TROUBLE
 }

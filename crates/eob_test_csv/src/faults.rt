@@ -64,7 +64,7 @@ fn broken_off<'a>(alloc: Global, new: &[u8]) -> Result<Answer, Fault<'a>> {
 fn inputs_that_fail_are_named(rt: HostRuntime) -> Result<(), Fail> {
     let alloc = rt.alloc();
     let error = io::Error::from(ErrorKind::ConnectionReset);
-    let wanted = format!(in alloc; "eob_diff: new: {error}")?;
+    let wanted = format!(in alloc; "new: {error}")?;
     for count in 0..TABLE.len() {
         let line = said(alloc, broken_off(alloc, &TABLE[..count]))?;
         assert_eq!(rt; line, wanted);
@@ -98,9 +98,9 @@ fn outputs_that_are_full_are_errors(rt: HostRuntime) -> Result<(), Fail> {
 fn files_that_are_none_are_named(rt: HostRuntime) -> Result<(), Fail> {
     let alloc = rt.alloc();
     for (file, wanted) in [
-        ("/no/such/file", "eob_diff: /no/such/file: "),
-        ("/", "eob_diff: /: "),
-        ("-", "eob_diff: -: the standard input is one table only"),
+        ("/no/such/file", "/no/such/file: "),
+        ("/", "/: "),
+        ("-", "-: the standard input is one table only"),
     ] {
         let request = Request::Diff {
             old: file,
@@ -118,11 +118,11 @@ const BAD: &[u8] = b"id,a\n1,x\n1,y\n";
 
 #[rattlefmt::skip]
 const VERSIONS: [([&[u8]; 3], &str); 5] = [
-    ([BAD, TABLE, TABLE], "eob_diff: base: line 3: the key 1 stands on line 2 too"),
-    ([TABLE, BAD, TABLE], "eob_diff: ours: line 3: the key 1 stands on line 2 too"),
-    ([TABLE, TABLE, BAD], "eob_diff: theirs: line 3: the key 1 stands on line 2 too"),
-    ([TABLE, TABLE, b"a\nx\n"], "eob_diff: theirs: line 1: no column id"),
-    ([TABLE, b"id,a\n1,x,y\n", TABLE], "eob_diff: ours: line 2: 3 cells, and there are 2 columns"),
+    ([BAD, TABLE, TABLE], "base: line 3: the key 1 stands on line 2 too"),
+    ([TABLE, BAD, TABLE], "ours: line 3: the key 1 stands on line 2 too"),
+    ([TABLE, TABLE, BAD], "theirs: line 3: the key 1 stands on line 2 too"),
+    ([TABLE, TABLE, b"a\nx\n"], "theirs: line 1: no column id"),
+    ([TABLE, b"id,a\n1,x,y\n", TABLE], "ours: line 2: 3 cells, and there are 2 columns"),
 ];
 
 /// Of three versions the one that is bad is named.

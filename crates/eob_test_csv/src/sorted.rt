@@ -101,7 +101,7 @@ fn keys_out_of_order_are_named(rt: HostRuntime) -> Result<(), Fail> {
         )?;
         assert_eq!(rt;
             line.as_str(),
-            "eob_diff: new: line 2050: the key is not greater than the one before it"
+            "new: line 2050: the key is not greater than the one before it"
         );
     }
     Ok(())

@@ -128,11 +128,11 @@ const GOOD: &[u8] = b"id,a\n1,x\n";
 
 #[rattlefmt::skip]
 const BAD: [(&[u8], &[u8], &str); 5] = [
-    (b"", GOOD, "eob_diff: old: line 1: no header"),
-    (GOOD, b"key,a\n1,x\n", "eob_diff: new: line 1: no column id"),
-    (GOOD, b"id,id\n1,x\n", "eob_diff: new: line 1: two columns id"),
-    (GOOD, b"id,a\n1,x\n2\n", "eob_diff: new: line 3: 1 cells, and there are 2 columns"),
-    (b"id,a\n7,x\n8,y\n7,z\n", GOOD, "eob_diff: old: line 4: the key 7 stands on line 2 too"),
+    (b"", GOOD, "old: line 1: no header"),
+    (GOOD, b"key,a\n1,x\n", "new: line 1: no column id"),
+    (GOOD, b"id,id\n1,x\n", "new: line 1: two columns id"),
+    (GOOD, b"id,a\n1,x\n2\n", "new: line 3: 1 cells, and there are 2 columns"),
+    (b"id,a\n7,x\n8,y\n7,z\n", GOOD, "old: line 4: the key 7 stands on line 2 too"),
 ];
 
 /// Each fault is one line that names the file, the line and what is wrong.
