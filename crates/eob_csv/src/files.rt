@@ -3,6 +3,7 @@
 use crate::answers::{Answer, change, compare, join, merge};
 use crate::fault::{Fault, Reason};
 use crate::opened::{Opened, at};
+use crate::read::Content;
 use crate::request::{Format, Request, Settings};
 use crate::sorted::{compare_sorted, join_sorted};
 use either_or_both::Either;
@@ -85,15 +86,15 @@ pub fn answer_request<'a, R: Files + Input + AllocGlobal>(
         }
         Request::Apply { old, changes } => {
             check_stdin(&[old, changes])?;
-            let mut old = open(rt, settings, old)?;
-            let mut changes = open_changes(rt, settings, changes)?;
+            let mut old = open(rt, settings, Content::Rows, old)?;
+            let mut changes = open(rt, settings, Content::Changes, changes)?;
             change(rt.alloc(), settings, &mut old, &mut changes)
         }
         Request::Merge { base, ours, theirs } => {
             check_stdin(&[base, ours, theirs])?;
-            let mut base = open(rt, settings, base)?;
-            let mut ours = open(rt, settings, ours)?;
-            let mut theirs = open(rt, settings, theirs)?;
+            let mut base = open(rt, settings, Content::Rows, base)?;
+            let mut ours = open(rt, settings, Content::Rows, ours)?;
+            let mut theirs = open(rt, settings, Content::Rows, theirs)?;
             merge(rt.alloc(), settings, &mut base, &mut ours, &mut theirs)
         }
         Request::Join { left, right, kind } => {
@@ -128,29 +129,20 @@ fn open_two<'a, R: Files + Input + AllocGlobal>(
     second: &'a str,
 ) -> Result<(File<'a, R>, File<'a, R>), Fault<'a>> {
     check_stdin(&[first, second])?;
-    let first = open(rt, settings, first)?;
-    let second = open(rt, settings, second)?;
+    let first = open(rt, settings, Content::Rows, first)?;
+    let second = open(rt, settings, Content::Rows, second)?;
     Ok((first, second))
 }
 
-// A table, with its header read.
+// A table or changes, with the header read.
 fn open<'a, R: Files + Input + AllocGlobal>(
     rt: &R,
     settings: Settings<'a>,
+    content: Content,
     file: &'a str,
 ) -> Result<File<'a, R>, Fault<'a>> {
     let stream = at(file, stream_of(rt, file))?;
-    Opened::table(rt.alloc(), settings, file, stream)
-}
-
-// A table of changes, with its header read.
-fn open_changes<'a, R: Files + Input + AllocGlobal>(
-    rt: &R,
-    settings: Settings<'a>,
-    file: &'a str,
-) -> Result<File<'a, R>, Fault<'a>> {
-    let stream = at(file, stream_of(rt, file))?;
-    Opened::changes(rt.alloc(), settings, file, stream)
+    Opened::new(rt.alloc(), settings, content, file, stream)
 }
 
 // The file, or the standard input where its name is `-`.

@@ -24,6 +24,6 @@ pub use answers::{Answer, change, compare, join, merge};
 pub use fault::{Fault, Reason};
 pub use files::{answer_request, stream_request, write_request, write_whole};
 pub use opened::{Opened, at};
-pub use read::Source;
+pub use read::{Content, Source};
 pub use request::{Form, Format, Kind, Request, Settings};
 pub use sorted::{compare_sorted, join_sorted};

@@ -2,7 +2,7 @@
 
 use crate::columns::Columns;
 use crate::fault::{Fault, Reason};
-use crate::read::Source;
+use crate::read::{Content, Source};
 use crate::request::Settings;
 use eob_tables::{Cells, Group, Order, Rows};
 use std::alloc::Global;
@@ -34,33 +34,19 @@ where
 }
 
 impl<'a, R: Read + Drop> Opened<'a, R> {
-    /// A table, with its header read.
+    /// A table or changes, with the header read.
     ///
     /// # Errors
     ///
     /// Returns the error of `Source::open`, as a fault of the file.
-    pub fn table(
+    pub fn new(
         alloc: Global,
         settings: Settings<'_>,
+        content: Content,
         file: &'a str,
         reader: R,
     ) -> Result<Self, Fault<'a>> {
-        let source = at(file, Source::open(alloc, reader, settings.form))?;
-        Ok(Opened { file, source })
-    }
-
-    /// A table of changes, with its header read.
-    ///
-    /// # Errors
-    ///
-    /// Returns the error of `Source::open_changes`, as a fault of the file.
-    pub fn changes(
-        alloc: Global,
-        settings: Settings<'_>,
-        file: &'a str,
-        reader: R,
-    ) -> Result<Self, Fault<'a>> {
-        let source = at(file, Source::open_changes(alloc, reader, settings.form))?;
+        let source = at(file, Source::open(alloc, reader, settings.form, content))?;
         Ok(Opened { file, source })
     }
 

@@ -8,6 +8,13 @@ use eob_tables::{Cells, Group, Order, ReadRow, Rows, gathered};
 use std::alloc::{AllocError, Global};
 use std::io::Read;
 
+/// What a file has: rows, or changes as `diff` writes them, whose first column is a sign.
+#[derive(Clone, Copy)]
+pub enum Content {
+    Rows,
+    Changes,
+}
+
 /// A reader whose names of columns are known, and whose rows are not read.
 #[derive(Drop)]
 pub struct Source<R> {
@@ -21,27 +28,18 @@ pub struct Source<R> {
 }
 
 impl<R: Read + Drop> Source<R> {
-    /// Reads the header: names of columns, of which no two are the same. Where there is none, the columns have numbers for names, and an
-    /// empty file has no column.
+    /// Reads the header: names of columns, of which no two are the same, without the first where that is the sign of changes. Where there
+    /// is none, the columns have numbers for names, and an empty file has no column.
     ///
     /// # Errors
     ///
     /// Returns `NoHeader` if the file is empty and is to have a header, `RepeatedColumn` if two columns have the same name, `Io` if the
     /// reader fails, and `NoMemory` if a request for memory was refused.
-    pub fn open(alloc: Global, reader: R, form: Form) -> Result<Self, Reason> {
-        Source::open_after(alloc, reader, form, 0)
-    }
-
-    /// Reads the header of a table of changes, whose first column is the sign.
-    ///
-    /// # Errors
-    ///
-    /// Returns the errors of `open`.
-    pub fn open_changes(alloc: Global, reader: R, form: Form) -> Result<Self, Reason> {
-        Source::open_after(alloc, reader, form, 1)
-    }
-
-    fn open_after(alloc: Global, reader: R, form: Form, before: usize) -> Result<Self, Reason> {
+    pub fn open(alloc: Global, reader: R, form: Form, content: Content) -> Result<Self, Reason> {
+        let before = match content {
+            Content::Rows => 0,
+            Content::Changes => 1,
+        };
         let mut reader = ReaderBuilder::new()
             .delimiter(form.delimiter)
             .has_headers(false)

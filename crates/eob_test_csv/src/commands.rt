@@ -1,6 +1,8 @@
 //! Each command on tables that are texts.
 
-use eob_csv::{Answer, Fault, Form, Format, Kind, Opened, Settings, change, compare, join, merge};
+use eob_csv::{
+    Answer, Content, Fault, Form, Format, Kind, Opened, Settings, change, compare, join, merge,
+};
 use std::alloc::Global;
 use std::test::Fail;
 
@@ -28,8 +30,8 @@ pub fn compared<'a>(
     old: &[u8],
     new: &[u8],
 ) -> Result<Answer, Fault<'a>> {
-    let mut old = Opened::table(alloc, settings, "old", old)?;
-    let mut new = Opened::table(alloc, settings, "new", new)?;
+    let mut old = Opened::new(alloc, settings, Content::Rows, "old", old)?;
+    let mut new = Opened::new(alloc, settings, Content::Rows, "new", new)?;
     compare(alloc, settings, format, &mut old, &mut new)
 }
 
@@ -40,8 +42,8 @@ pub fn applied<'a>(
     old: &[u8],
     changes: &[u8],
 ) -> Result<Answer, Fault<'a>> {
-    let mut old = Opened::table(alloc, settings, "old", old)?;
-    let mut changes = Opened::changes(alloc, settings, "changes", changes)?;
+    let mut old = Opened::new(alloc, settings, Content::Rows, "old", old)?;
+    let mut changes = Opened::new(alloc, settings, Content::Changes, "changes", changes)?;
     change(alloc, settings, &mut old, &mut changes)
 }
 
@@ -53,9 +55,9 @@ pub fn merged<'a>(
     ours: &[u8],
     theirs: &[u8],
 ) -> Result<Answer, Fault<'a>> {
-    let mut base = Opened::table(alloc, settings, "base", base)?;
-    let mut ours = Opened::table(alloc, settings, "ours", ours)?;
-    let mut theirs = Opened::table(alloc, settings, "theirs", theirs)?;
+    let mut base = Opened::new(alloc, settings, Content::Rows, "base", base)?;
+    let mut ours = Opened::new(alloc, settings, Content::Rows, "ours", ours)?;
+    let mut theirs = Opened::new(alloc, settings, Content::Rows, "theirs", theirs)?;
     merge(alloc, settings, &mut base, &mut ours, &mut theirs)
 }
 
@@ -67,8 +69,8 @@ pub fn joined<'a>(
     left: &[u8],
     right: &[u8],
 ) -> Result<Answer, Fault<'a>> {
-    let mut left = Opened::table(alloc, settings, "left", left)?;
-    let mut right = Opened::table(alloc, settings, "right", right)?;
+    let mut left = Opened::new(alloc, settings, Content::Rows, "left", left)?;
+    let mut right = Opened::new(alloc, settings, Content::Rows, "right", right)?;
     join(alloc, settings, kind, &mut left, &mut right)
 }
 

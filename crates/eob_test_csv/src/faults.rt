@@ -1,7 +1,9 @@
 //! Tests: streams that fail, and files that are none.
 
 use crate::commands::{PLAIN, TEXT, merged, said};
-use eob_csv::{Answer, Fault, Format, Opened, Request, answer_request, compare, write_whole};
+use eob_csv::{
+    Answer, Content, Fault, Format, Opened, Request, answer_request, compare, write_whole,
+};
 use std::alloc::Global;
 use std::io;
 use std::io::{ErrorKind, Read, Write};
@@ -54,8 +56,8 @@ const TABLE: &[u8] = b"id,a\n1,\"x\ny\"\n2,z\n";
 
 // The answer to `diff` where the input of the new table fails behind these bytes.
 fn broken_off<'a>(alloc: Global, new: &[u8]) -> Result<Answer, Fault<'a>> {
-    let mut old = Opened::table(alloc, PLAIN, "old", TABLE)?;
-    let mut new = Opened::table(alloc, PLAIN, "new", Broken { rest: new })?;
+    let mut old = Opened::new(alloc, PLAIN, Content::Rows, "old", TABLE)?;
+    let mut new = Opened::new(alloc, PLAIN, Content::Rows, "new", Broken { rest: new })?;
     compare(alloc, PLAIN, Format::Csv, &mut old, &mut new)
 }
 

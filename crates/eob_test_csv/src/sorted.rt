@@ -1,7 +1,7 @@
 //! Tests: tables of hundreds of rows whose keys rise, compared and joined as they are read.
 
 use crate::commands::{PLAIN, answered, compared, joined, said};
-use eob_csv::{Answer, Fault, Format, Kind, Opened, compare_sorted, join_sorted};
+use eob_csv::{Answer, Content, Fault, Format, Kind, Opened, compare_sorted, join_sorted};
 use std::alloc::{AllocError, Global};
 use std::fmt::Write;
 use std::test::Fail;
@@ -20,8 +20,8 @@ fn table(alloc: Global, step: usize, limit: usize) -> Result<String, AllocError>
 // What `diff` writes as it reads, and its status.
 fn compared_in_parts<'a>(alloc: Global, old: &[u8], new: &[u8]) -> Result<Answer, Fault<'a>> {
     let mut bytes = Vec::new(alloc);
-    let old = Opened::table(alloc, PLAIN, "old", old)?;
-    let new = Opened::table(alloc, PLAIN, "new", new)?;
+    let old = Opened::new(alloc, PLAIN, Content::Rows, "old", old)?;
+    let new = Opened::new(alloc, PLAIN, Content::Rows, "new", new)?;
     let status = compare_sorted(alloc, PLAIN, old, new, &mut bytes)?;
     Ok(Answer { bytes, status })
 }
@@ -34,8 +34,8 @@ fn joined_in_parts<'a>(
     right: &[u8],
 ) -> Result<Answer, Fault<'a>> {
     let mut bytes = Vec::new(alloc);
-    let left = Opened::table(alloc, PLAIN, "left", left)?;
-    let right = Opened::table(alloc, PLAIN, "right", right)?;
+    let left = Opened::new(alloc, PLAIN, Content::Rows, "left", left)?;
+    let right = Opened::new(alloc, PLAIN, Content::Rows, "right", right)?;
     let status = join_sorted(alloc, PLAIN, kind, left, right, &mut bytes)?;
     Ok(Answer { bytes, status })
 }
