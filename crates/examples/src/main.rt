@@ -9,6 +9,7 @@ mod changes;
 mod closures;
 mod keys;
 mod layers;
+mod ledger;
 mod lined_up;
 mod matched;
 mod patched;
@@ -17,10 +18,12 @@ mod readme;
 mod report;
 mod serialized;
 mod settings;
+mod stock;
 #[cfg(test)]
 mod tests;
 mod three_tables;
 mod upsert;
+mod verdicts;
 mod writing;
 
 use changes::compare;

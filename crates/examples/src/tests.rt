@@ -5,6 +5,7 @@ use crate::changes::{Counts, compare, count_changes};
 use crate::closures::{feed_both, map_left_by};
 use crate::keys::{number_of, put_number, sort};
 use crate::layers::settings;
+use crate::ledger::ledger;
 use crate::lined_up::{lined_up, lined_up_at_ends, lined_up_reversed};
 use crate::matched::{inventory, on_sale, sold_out};
 use crate::patched::caught_up;
@@ -13,15 +14,17 @@ use crate::readme::{full_outer_join, joined_if_rising, port, side_by_side, split
 use crate::report::{parse_table, render};
 use crate::serialized::{Row, from_json, to_json};
 use crate::settings::{Layer, Settings, resolve};
+use crate::stock::{stocked, stocked_hashed};
 use crate::three_tables::joined;
 use crate::upsert::set_right;
+use crate::verdicts::{count_disputed, side_by_side as versions_side_by_side};
 use crate::writing::{count_right, raise_left};
 use either_or_both::EitherOrBoth;
 use either_or_both::EitherOrBoth::{Both, Left, Right};
 use either_or_both::join::is_rising;
 use indexmap::IndexMap;
 use std::alloc::{AllocError, Global};
-use std::collections::BTreeMap;
+use std::collections::{BTreeMap, HashMap};
 use std::test::Fail;
 
 /// The README's example.
@@ -349,5 +352,77 @@ fn of_three_tables(rt: HostRuntime) -> Result<(), Fail> {
             (4, Right(Right(10)))
         ]?
     );
+    Ok(())
+}
+
+/// Three versions of a table: a row that both sides changed, one that theirs took out and ours changed, and one that is as it was.
+#[test]
+fn of_verdicts(rt: HostRuntime) -> Result<(), Fail> {
+    let alloc = rt.alloc();
+    let base = vec![in alloc; (1, 'a'), (2, 'b'), (3, 'c')]?;
+    let ours = vec![in alloc; (1, 'x'), (2, 'y'), (3, 'c')]?;
+    let theirs = vec![in alloc; (1, 'z'), (3, 'c'), (4, 'd')]?;
+    assert!(rt; is_rising(&base) && is_rising(&ours) && is_rising(&theirs));
+    let rows = versions_side_by_side(alloc, base, ours, theirs)?;
+    assert_eq!(rt;
+        rows,
+        vec![in alloc;
+            (1, Both('a', Both('x', 'z'))),
+            (2, Both('b', Left('y'))),
+            (3, Both('c', Both('c', 'c'))),
+            (4, Right(Right('d')))
+        ]?
+    );
+    assert_eq!(rt; count_disputed(&rows), 2);
+    Ok(())
+}
+
+/// Articles in the order in which they were entered, and what is in stock beside them.
+#[test]
+fn of_stock(rt: HostRuntime) -> Result<(), Fail> {
+    let alloc = rt.alloc();
+    let mut articles = IndexMap::new(alloc);
+    articles.insert("pen", 'a')?;
+    articles.insert("ink", 'b')?;
+    let mut stock = IndexMap::new(alloc);
+    stock.insert("wax", 9)?;
+    stock.insert("ink", 40)?;
+    let rows = stocked(alloc, articles, stock)?;
+    let text = format!(in alloc; "{rows:?}")?;
+    assert_eq!(rt;
+        text.as_str(),
+        "{\"pen\": Left('a'), \"ink\": Both('b', 40), \"wax\": Right(9)}"
+    );
+    let mut articles = HashMap::new(alloc);
+    articles.insert("ink", 'b')?;
+    let mut stock = HashMap::new(alloc);
+    stock.insert("ink", 40)?;
+    stock.insert("wax", 9)?;
+    let rows = stocked_hashed(alloc, articles, stock)?;
+    let text = format!(in alloc; "{rows:?}")?;
+    assert_eq!(rt;
+        text.as_str(),
+        "{\"ink\": Both('b', 40), \"wax\": Right(9)}"
+    );
+    Ok(())
+}
+
+/// The same rows of tables in order and of tables in none.
+#[test]
+fn of_a_ledger(rt: HostRuntime) -> Result<(), Fail> {
+    let alloc = rt.alloc();
+    let rows = [
+        [("ann", 7), ("ann", 5), ("eve", 12)],
+        [("eve", 12), ("ann", 7), ("ann", 5)],
+    ];
+    for orders in rows {
+        let payments = vec![in alloc; ("ann", 9), ("bob", 1)]?;
+        let rows = ledger(alloc, orders.to_vec(alloc)?, payments)?;
+        let text = format!(in alloc; "{rows:?}")?;
+        assert_eq!(rt;
+            text.as_str(),
+            "[(\"ann\", Both([7, 5], [9])), (\"bob\", Right([1])), (\"eve\", Left([12]))]"
+        );
+    }
     Ok(())
 }
