@@ -96,7 +96,8 @@ const COMMANDS: [Below<'static>; 4] = [
     ),
     (
         "merge",
-        "Prints two versions of a table merged over their base. Status 0: merged, 1: rows in conflict, 2: trouble.",
+        "Prints two versions of a table merged over their base. \
+         Status 0: merged, 1: rows in conflict, 2: trouble.",
         &[
             ("BASE", "The base; - is the standard input"),
             ("OURS", "Our version; - is the standard input"),
@@ -191,7 +192,8 @@ fn kind<'a>(alloc: Global) -> Arg<'a> {
         .value_parser(["outer", "inner", "left", "right", "semi", "anti"].as_slice())
         .default_value("outer")
         .help(
-            "Which rows: of either table, of both, of the left, of the right; semi and anti: of the left, with its cells alone",
+            "Which rows: of either table, of both, of the left, of the right; \
+             semi and anti: of the left, with its cells alone",
         )
 }
 
