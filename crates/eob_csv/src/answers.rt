@@ -11,7 +11,7 @@ use crate::request::{Form, Format, Kind, Settings};
 use crate::written::{write_changes, write_table};
 use eob_joins::Merged;
 use eob_tables::{Cells, Group, Order, Rows, changes_of, merge_of, paired, patched};
-use std::alloc::{AllocError, Global};
+use std::alloc::Global;
 use std::io::Read;
 
 /// What stands on the output, and the status that the program ends with.
@@ -142,16 +142,30 @@ pub fn merge<'a, A: Read + Drop, B: Read + Drop, C: Read + Drop>(
         theirs.source.header.as_slice(),
     ];
     let columns = at(base.file, columns_of(alloc, settings, &headers))?;
-    // The base is not written: rows come out in the order of ours, and then in that of theirs.
     let mut order = order_of(alloc, settings);
-    let our_rows = ours.read_rows(&columns, &mut order, settings.groups)?;
-    let their_rows = theirs.read_rows(&columns, &mut order, settings.groups)?;
-    let base_rows = base.read_rows(&columns, &mut Order::by_key(), settings.groups)?;
-    let merge = merge_of(alloc, base_rows, our_rows, their_rows);
+    let versions = read_versions(&columns, &mut order, settings.groups, base, ours, theirs)?;
     at(
         theirs.file,
-        merged(alloc, settings.form, &columns, &order, merge),
+        merged(alloc, settings.form, &columns, &order, versions),
     )
+}
+
+// The rows of the base, of ours and of theirs.
+type ThreeVersions = (Rows<Cells, Group>, Rows<Cells, Group>, Rows<Cells, Group>);
+
+// Reads three versions. The base is not written: rows come out in the order of ours, and then in that of theirs.
+fn read_versions<'a, A: Read + Drop, B: Read + Drop, C: Read + Drop>(
+    columns: &Columns,
+    order: &mut Order,
+    repeats: bool,
+    base: &mut Opened<'a, A>,
+    ours: &mut Opened<'a, B>,
+    theirs: &mut Opened<'a, C>,
+) -> Result<ThreeVersions, Fault<'a>> {
+    let our_rows = ours.read_rows(columns, order, repeats)?;
+    let their_rows = theirs.read_rows(columns, order, repeats)?;
+    let base_rows = base.read_rows(columns, &mut Order::by_key(), repeats)?;
+    Ok((base_rows, our_rows, their_rows))
 }
 
 fn merged(
@@ -159,9 +173,10 @@ fn merged(
     form: Form,
     columns: &Columns,
     order: &Order,
-    merge: Result<Merged<Cells, Group>, AllocError>,
+    versions: ThreeVersions,
 ) -> Result<Answer, Reason> {
-    match merge? {
+    let (base, ours, theirs) = versions;
+    match merge_of(alloc, base, ours, theirs)? {
         Merged::Whole(rows) => Ok(Answer {
             bytes: write_table(alloc, form, columns, &order.arrange(rows)?)?,
             status: 0,

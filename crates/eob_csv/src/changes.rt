@@ -100,15 +100,23 @@ pub fn count_rows(pairs: &[(Cells, Group)]) -> usize {
 
 // The counts of changes to a table that had this many rows.
 fn count(old_rows: usize, changes: &[RowChange<'_>]) -> Counts {
-    let added = changes.iter().filter(|row| row.1.is_right()).count();
-    let removed = changes.iter().filter(|row| row.1.is_left()).count();
-    let changed = changes.iter().filter(|row| row.1.is_both()).count();
-    Counts {
-        added,
-        removed,
-        changed,
-        same: old_rows.saturating_sub(removed).saturating_sub(changed),
+    let mut counts = Counts {
+        added: 0,
+        removed: 0,
+        changed: 0,
+        same: 0,
+    };
+    for (_, change) in changes {
+        match change {
+            EitherOrBoth::Left(_) => counts.removed = counts.removed.saturating_add(1),
+            EitherOrBoth::Both(..) => counts.changed = counts.changed.saturating_add(1),
+            EitherOrBoth::Right(_) => counts.added = counts.added.saturating_add(1),
+        }
     }
+    counts.same = old_rows
+        .saturating_sub(counts.removed)
+        .saturating_sub(counts.changed);
+    counts
 }
 
 // The rows that changed as a table, and the counts.
