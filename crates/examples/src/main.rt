@@ -12,6 +12,7 @@ mod layers;
 mod ledger;
 mod lined_up;
 mod matched;
+mod own_join;
 mod patched;
 mod readers;
 mod readme;

@@ -8,6 +8,7 @@ use crate::layers::settings;
 use crate::ledger::ledger;
 use crate::lined_up::{lined_up, lined_up_at_ends, lined_up_reversed};
 use crate::matched::{inventory, on_sale, sold_out};
+use crate::own_join::still_due;
 use crate::patched::caught_up;
 use crate::readers::{next_line, opened};
 use crate::readme::{full_outer_join, joined_if_rising, port, side_by_side, split};
@@ -424,5 +425,19 @@ fn of_a_ledger(rt: HostRuntime) -> Result<(), Fail> {
             "[(\"ann\", Both([7, 5], [9])), (\"bob\", Right([1])), (\"eve\", Left([12]))]"
         );
     }
+    Ok(())
+}
+
+/// Orders of which a part, all and more than all was delivered, one of which nothing was, and a delivery that none ordered.
+#[test]
+fn of_a_join_of_ones_own(rt: HostRuntime) -> Result<(), Fail> {
+    let alloc = rt.alloc();
+    let ordered = vec![in alloc; ("ink", 5), ("nib", 2), ("pad", 3), ("pen", 4)]?;
+    let delivered = vec![in alloc; ("ink", 2), ("nib", 2), ("pad", 9), ("wax", 1)]?;
+    assert!(rt; is_rising(&ordered) && is_rising(&delivered));
+    assert_eq!(rt;
+        still_due(alloc, ordered, delivered)?,
+        vec![in alloc; ("ink", 3), ("pen", 4)]?
+    );
     Ok(())
 }
