@@ -12,7 +12,7 @@ use Rattle.eob_both.specs.Places.{from_places, right_place}
 use Rattle.either_or_both.specs.Join.{value_under}
 use Rattle.either_or_both.proofs.JoinLemmas.{same_values}
 use Rattle.either_or_both.proofs.MergeLemmas.{Up, absent_alike, rising, up, up_weaker}
-use Rattle.eob_joins.specs.Tables.{Tabulates, SameTableLaw, KeptLaw, KeptRowsLaw, kept, both_places, paired_left, paired_right, shared_left, lone_left, unless}
+use Rattle.eob_joins.specs.Tables.{Tabulates, SameTableLaw, KeptLaw, IsKeptByKey, kept, both_places, paired_left, paired_right, shared_left, lone_left, unless}
 use Rattle.eob_joins.specs.Tables.{IsKeptOfJoin, IsInnerJoin, IsLeftJoin, IsRightJoin, IsSemiJoin, IsAntiJoin}
 use Rattle.eob_joins.specs.Changes.{ApplyDiffLaw, applied, changed}
 use Rattle.eob_joins.specs.Laws.{RightLaw, SelfJoinLaw, ThreeJoinsLaw}
@@ -104,7 +104,8 @@ module _ {K : Type 0} (cmp : K → K → Ordering) where
     values = λ k. kept_value o g (λ j. ⊤) zs (up cmp zs h.rises) k ∙ ap (option_and_then g) (h.values k);
   }
 
-  pub kept_join : IsTotalOrder cmp → (A B W : Type 0) → (rs : List (K × W)) → KeptRowsLaw cmp A B rs
+  pub kept_join : IsTotalOrder cmp → (A B W : Type 0) (rs : List (K × W)) (g : EitherOrBoth A B → Option W) (p : List (K × A)) (q : List (K × B))
+      → IsKeptOfJoin cmp g p q rs → IsKeptByKey cmp g p q rs
   kept_join o A B W rs g p q h =
       subst (λ l. Tabulates cmp l (λ k. option_and_then g (from_places (value_under cmp p k) (value_under cmp q k)))) (sym h.2)
       (kept_law o (EitherOrBoth A B) W g (λ k. from_places (value_under cmp p k) (value_under cmp q k)) h.0 (record { rises = h.1.rises; values = h.1.values }))

@@ -1,13 +1,15 @@
 //! What holds of every join and of every table, as contracts of functions that do nothing: a caller calls one to learn it.
 ghost use Rattle.eob_joins.specs.Laws.{CutJoinLaw, RightLaw, SelfJoinLaw, ThreeJoinsLaw};
-ghost use Rattle.eob_joins.specs.Tables.{KeptLaw, KeptRowsLaw, SameTableLaw};
+ghost use Rattle.eob_joins.specs.Tables.{KeptLaw, KeptRisesLaw, KeptRowsLaw, SameTableLaw};
 
-/// What a function keeps of the rows of a join has under each key what the function keeps of what the two lists have there.
+/// What a function keeps of the rows of a join has under each key what the function keeps of what the two lists have there, and its keys
+/// rise.
 ///
-/// A caller that writes a join of its own, `outer_join_lazily(left, right).filter_map(f).collect(alloc)`, calls this law with the rows
-/// that it got and knows them by look-ups.
+/// A join of a caller's own, `outer_join_lazily(left, right).filter_map(f).collect(alloc)`, stands in a function that says
+/// `IsKeptOfJoin` of its rows. Who calls that function calls this law with the rows that it got, and knows them by look-ups.
 pub fn law_kept_join<K: Ord, A, B, W>(rows: &[(K, W)])
-    ensures { KeptRowsLaw K.cmp A B rows.now }
+    ensures values { KeptRowsLaw K.cmp A B rows.now }
+    ensures rises { KeptRisesLaw K.cmp A B rows.now }
 {}
 
 /// What a function keeps of the rows of any table whose keys rise has under each key what the function keeps of what the table has
