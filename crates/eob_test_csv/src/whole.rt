@@ -69,15 +69,8 @@ fn counts_of_tables_made_by_a_rule(rt: HostRuntime) -> Result<(), Fail> {
 // Two tables, the format of the answer, its status, and what it is.
 type Comparison = (&'static [u8], &'static [u8], Format, u8, &'static str);
 
-const COLOURS: Format = Format::Table { has_colour: true };
-
-// Of three rows one stays, one changes and one goes, and a fourth comes.
-const THREE: &[u8] = b"id,a\n1,x\n2,y\n3,z\n";
-
-const OTHER_THREE: &[u8] = b"a,id\nx,1\nw,2\nv,4\n";
-
 #[rattlefmt::skip]
-const COMPARISONS: [Comparison; 6] = [
+const COMPARISONS: [Comparison; 4] = [
     // Columns are matched by name, and keys stand in any order. Another order of columns is said.
     (b"id,a,b\n2,x,y\n1,p,q\n", b"b,id,a\nq,1,p\ny,2,x\n", TEXT, 0,
         "columns in another order\n0 added, 0 removed, 0 changed, 2 the same\n"),
@@ -93,26 +86,9 @@ changed  2   y  z ->    -> w
     // Bytes that are no UTF-8 and control characters stand escaped on the line of their row.
     (b"id,a\n1,\"x\ny\"\n", b"id,a\n1,\xff\n", TEXT, 1,
         "         id  a\nchanged  1   x\\ny -> \\xff\n0 added, 0 removed, 1 changed, 0 the same\n"),
-    // Where colours are asked for, each row has that of its change from its first cell to its last, and no other line has one.
-    (THREE, OTHER_THREE, COLOURS, 1,
-        "columns in another order
-         id  a
-\x1b[33mchanged  2   y -> w\x1b[0m
-\x1b[31mremoved  3   z\x1b[0m
-\x1b[32madded    4   v\x1b[0m
-1 added, 1 removed, 1 changed, 1 the same
-"),
-    (THREE, OTHER_THREE, TEXT, 1,
-        "columns in another order
-         id  a
-changed  2   y -> w
-removed  3   z
-added    4   v
-1 added, 1 removed, 1 changed, 1 the same
-"),
 ];
 
-/// Rows and columns in another order, columns of one version alone, cells that are no text, and colours.
+/// Rows and columns in another order, columns of one version alone, and cells that are no text.
 #[test]
 fn changes_are_shown(rt: HostRuntime) -> Result<(), Fail> {
     let alloc = rt.alloc();
@@ -120,6 +96,39 @@ fn changes_are_shown(rt: HostRuntime) -> Result<(), Fail> {
         let answer = answered(compared(alloc, PLAIN, format, old, new))?;
         assert_eq!(rt; str::from_utf8(&answer.bytes)?, wanted);
         assert_eq!(rt; answer.status, status, "{wanted}");
+    }
+    Ok(())
+}
+
+// Of three rows one stays, one changes and one goes, and a fourth comes.
+const THREE: &[u8] = b"id,a\n1,x\n2,y\n3,z\n";
+
+const OTHER_THREE: &[u8] = b"a,id\nx,1\nw,2\nv,4\n";
+
+const SHOWN: &[u8] = b"columns in another order
+         id  a
+changed  2   y -> w
+removed  3   z
+added    4   v
+1 added, 1 removed, 1 changed, 1 the same
+";
+
+const COLOURED: &[u8] = b"columns in another order
+         id  a
+\x1b[33mchanged  2   y -> w\x1b[0m
+\x1b[31mremoved  3   z\x1b[0m
+\x1b[32madded    4   v\x1b[0m
+1 added, 1 removed, 1 changed, 1 the same
+";
+
+/// Where colours are asked for, each row has that of its change from its first cell to its last, and no other line has one.
+#[test]
+fn rows_have_the_colour_of_their_change(rt: HostRuntime) -> Result<(), Fail> {
+    let alloc = rt.alloc();
+    for (has_colour, wanted) in [(false, SHOWN), (true, COLOURED)] {
+        let format = Format::Table { has_colour };
+        let answer = answered(compared(alloc, PLAIN, format, THREE, OTHER_THREE))?;
+        assert!(rt; answer.bytes.as_slice() == wanted);
     }
     Ok(())
 }
