@@ -7,11 +7,13 @@
 mod accounts;
 mod changes;
 mod closures;
+mod grouped;
 mod keys;
 mod layers;
 mod ledger;
 mod lined_up;
 mod matched;
+mod merged;
 mod own_join;
 mod patched;
 mod readers;

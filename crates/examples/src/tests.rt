@@ -3,11 +3,13 @@
 use crate::accounts::{accounts, count_unpaid};
 use crate::changes::{Counts, compare, count_changes};
 use crate::closures::{feed_both, map_left_by};
+use crate::grouped::{by_customer, nth_customer};
 use crate::keys::{number_of, put_number, sort};
 use crate::layers::settings;
 use crate::ledger::ledger;
 use crate::lined_up::{lined_up, lined_up_at_ends, lined_up_reversed};
-use crate::matched::{inventory, on_sale, sold_out};
+use crate::matched::{counted, in_stock, inventory, on_sale, sold_out};
+use crate::merged::merged;
 use crate::own_join::still_due;
 use crate::patched::caught_up;
 use crate::readers::{next_line, opened};
@@ -23,6 +25,7 @@ use crate::writing::{count_right, raise_left};
 use either_or_both::EitherOrBoth;
 use either_or_both::EitherOrBoth::{Both, Left, Right};
 use either_or_both::join::is_rising;
+use eob_joins::is_ordered;
 use indexmap::IndexMap;
 use std::alloc::{AllocError, Global};
 use std::collections::{BTreeMap, HashMap};
@@ -253,19 +256,25 @@ fn of_closures(rt: HostRuntime) {
     assert_eq!(rt; sum, 123);
 }
 
+// A map of two entries, in their order.
+fn index_map(
+    alloc: Global,
+    first: (&'static str, u32),
+    second: (&'static str, u32),
+) -> Result<IndexMap<&'static str, u32>, AllocError> {
+    let mut map = IndexMap::new(alloc);
+    map.insert(first.0, first.1)?;
+    map.insert(second.0, second.1)?;
+    Ok(map)
+}
+
 /// Layers of settings: the last one that has a key decides.
 #[test]
 fn of_layers(rt: HostRuntime) -> Result<(), Fail> {
     let alloc = rt.alloc();
-    let mut default = IndexMap::new(alloc);
-    default.insert("host", 1)?;
-    default.insert("port", 80)?;
-    let mut site = IndexMap::new(alloc);
-    site.insert("depth", 3)?;
-    site.insert("port", 81)?;
-    let mut user = IndexMap::new(alloc);
-    user.insert("width", 72)?;
-    user.insert("host", 2)?;
+    let default = index_map(alloc, ("host", 1), ("port", 80))?;
+    let site = index_map(alloc, ("depth", 3), ("port", 81))?;
+    let user = index_map(alloc, ("width", 72), ("host", 2))?;
     let all = settings(alloc, default, site, user)?;
     let text = format!(in alloc; "{all:?}")?;
     assert_eq!(rt;
@@ -313,6 +322,80 @@ fn of_matched_tables(rt: HostRuntime) -> Result<(), Fail> {
     assert_eq!(rt;
         sold_out(alloc, articles, stock)?,
         vec![in alloc; (1, "pen")]?
+    );
+    Ok(())
+}
+
+/// The same tables, from the side of the stock.
+#[test]
+fn of_matched_stock(rt: HostRuntime) -> Result<(), Fail> {
+    let alloc = rt.alloc();
+    let articles = vec![in alloc; (1, "pen"), (2, "ink"), (4, "pad")]?;
+    let stock = vec![in alloc; (2, 40), (3, 9), (4, 7)]?;
+    assert!(rt; is_rising(&articles) && is_rising(&stock));
+    assert_eq!(rt;
+        counted(alloc, articles.clone()?, stock.clone()?)?,
+        vec![in alloc;
+            (2, (Some("ink"), 40)),
+            (3, (None, 9)),
+            (4, (Some("pad"), 7))
+        ]?
+    );
+    assert_eq!(rt;
+        in_stock(alloc, articles, stock)?,
+        vec![in alloc; (2, "ink"), (4, "pad")]?
+    );
+    Ok(())
+}
+
+/// Orders in which a customer stands twice.
+#[test]
+fn of_customers(rt: HostRuntime) -> Result<(), Fail> {
+    let alloc = rt.alloc();
+    let orders = vec![in alloc; ("ann", 7), ("ann", 5), ("eve", 12)]?;
+    assert!(rt; is_ordered(&orders));
+    let text = format!(in alloc; "{:?}", by_customer(alloc, orders)?)?;
+    assert_eq!(rt; text.as_str(), "[(\"ann\", [7, 5]), (\"eve\", [12])]");
+    Ok(())
+}
+
+/// The same where they stand: a customer's orders, and a place past the last customer.
+#[test]
+fn of_one_customer(rt: HostRuntime) {
+    let orders = [("ann", 7), ("ann", 5), ("eve", 12)];
+    assert!(rt; is_ordered(&orders));
+    let eve = nth_customer(&orders, 1);
+    assert!(rt; eve.is_some_and(|group| *group.0 == "eve" && group.1.len() == 1));
+    assert!(rt; nth_customer(&orders, 2).is_none());
+}
+
+/// Two sides that changed other rows.
+#[test]
+fn of_merged_versions(rt: HostRuntime) -> Result<(), Fail> {
+    let alloc = rt.alloc();
+    let base = vec![in alloc; (1, 'a'), (2, 'b'), (3, 'c')]?;
+    let ours = vec![in alloc; (1, 'x'), (2, 'b'), (3, 'c')]?;
+    let theirs = vec![in alloc; (1, 'a'), (3, 'c'), (4, 'd')]?;
+    assert!(rt; is_rising(&base) && is_rising(&ours) && is_rising(&theirs));
+    let merge = merged(alloc, base, ours, theirs)?;
+    let text = format!(in alloc; "{merge:?}")?;
+    assert_eq!(rt; text.as_str(), "Whole([(1, 'x'), (3, 'c'), (4, 'd')])");
+    Ok(())
+}
+
+/// Two sides that changed the same row.
+#[test]
+fn of_versions_in_conflict(rt: HostRuntime) -> Result<(), Fail> {
+    let alloc = rt.alloc();
+    let base = vec![in alloc; (1, 'a'), (2, 'b')]?;
+    let ours = vec![in alloc; (1, 'x'), (2, 'b')]?;
+    let theirs = vec![in alloc; (1, 'z'), (2, 'b')]?;
+    assert!(rt; is_rising(&base) && is_rising(&ours) && is_rising(&theirs));
+    let merge = merged(alloc, base, ours, theirs)?;
+    let text = format!(in alloc; "{merge:?}")?;
+    assert_eq!(rt;
+        text.as_str(),
+        "Conflicts([(1, Both('a', Both('x', 'z')))])"
     );
     Ok(())
 }
@@ -378,33 +461,41 @@ fn of_verdicts(rt: HostRuntime) -> Result<(), Fail> {
     Ok(())
 }
 
-/// Articles in the order in which they were entered, and what is in stock beside them.
+/// Articles with their prices in the order in which they were entered, and what is in stock beside them.
 #[test]
 fn of_stock(rt: HostRuntime) -> Result<(), Fail> {
     let alloc = rt.alloc();
-    let mut articles = IndexMap::new(alloc);
-    articles.insert("pen", 'a')?;
-    articles.insert("ink", 'b')?;
-    let mut stock = IndexMap::new(alloc);
-    stock.insert("wax", 9)?;
-    stock.insert("ink", 40)?;
+    let articles = index_map(alloc, ("pen", 3), ("ink", 5))?;
+    let stock = index_map(alloc, ("wax", 9), ("ink", 40))?;
     let rows = stocked(alloc, articles, stock)?;
     let text = format!(in alloc; "{rows:?}")?;
     assert_eq!(rt;
         text.as_str(),
-        "{\"pen\": Left('a'), \"ink\": Both('b', 40), \"wax\": Right(9)}"
+        "{\"pen\": Left(3), \"ink\": Both(5, 40), \"wax\": Right(9)}"
     );
-    let mut articles = HashMap::new(alloc);
-    articles.insert("ink", 'b')?;
-    let mut stock = HashMap::new(alloc);
-    stock.insert("ink", 40)?;
-    stock.insert("wax", 9)?;
+    Ok(())
+}
+
+// A map of one entry, with no order of its own.
+fn hash_map(
+    alloc: Global,
+    key: &'static str,
+    value: u32,
+) -> Result<HashMap<&'static str, u32>, AllocError> {
+    let mut map = HashMap::new(alloc);
+    map.insert(key, value)?;
+    Ok(map)
+}
+
+/// The same of maps that keep no order.
+#[test]
+fn of_hashed_stock(rt: HostRuntime) -> Result<(), Fail> {
+    let alloc = rt.alloc();
+    let articles = hash_map(alloc, "ink", 5)?;
+    let stock = hash_map(alloc, "ink", 40)?;
     let rows = stocked_hashed(alloc, articles, stock)?;
     let text = format!(in alloc; "{rows:?}")?;
-    assert_eq!(rt;
-        text.as_str(),
-        "{\"ink\": Both('b', 40), \"wax\": Right(9)}"
-    );
+    assert_eq!(rt; text.as_str(), "{\"ink\": Both(5, 40)}");
     Ok(())
 }
 
