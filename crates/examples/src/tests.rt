@@ -3,7 +3,7 @@
 use crate::accounts::{accounts, count_unpaid};
 use crate::changes::{Counts, compare, count_changes};
 use crate::closures::{feed_both, map_left_by};
-use crate::grouped::{by_customer, nth_customer};
+use crate::grouped::{by_customer, nth_account, nth_customer};
 use crate::keys::{number_of, put_number, sort};
 use crate::layers::settings;
 use crate::ledger::ledger;
@@ -367,6 +367,17 @@ fn of_one_customer(rt: HostRuntime) {
     let eve = nth_customer(&orders, 1);
     assert!(rt; eve.is_some_and(|group| *group.0 == "eve" && group.1.len() == 1));
     assert!(rt; nth_customer(&orders, 2).is_none());
+}
+
+/// Two tables where they stand: a customer's orders with no payment, and a place past the last customer.
+#[test]
+fn of_one_account(rt: HostRuntime) {
+    let orders = [("ann", 7), ("ann", 5), ("eve", 12)];
+    let payments = [("ann", 'p')];
+    assert!(rt; is_ordered(&orders) && is_ordered(&payments));
+    let eve = nth_account(&orders, &payments, 1);
+    assert!(rt; eve.is_some_and(|row| *row.0 == "eve" && row.1.is_left()));
+    assert!(rt; nth_account(&orders, &payments, 2).is_none());
 }
 
 /// Two sides that changed other rows.
