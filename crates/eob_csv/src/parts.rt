@@ -61,11 +61,11 @@ impl<'a, R: Read + Drop> Parts<'a, R> {
 
     fn put(&mut self, row: ReadRow) -> Result<(), Reason> {
         if let Some(last) = &self.last {
-            if row.0 <= *last {
-                return Err(Reason::NotRising(row.1.0));
+            if row.key <= *last {
+                return Err(Reason::NotRising(row.line));
             }
         }
-        self.last = Some(row.0.clone()?);
+        self.last = Some(row.key.clone()?);
         self.waiting.push_back(row)?;
         Ok(())
     }
@@ -101,7 +101,7 @@ impl<'a, R: Read + Drop> Parts<'a, R> {
     fn is_within(&self, bound: &Option<Cells>) -> bool {
         match self.waiting.front() {
             Some(row) => match bound {
-                Some(key) => row.0 <= *key,
+                Some(key) => row.key <= *key,
                 None => true,
             },
             None => false,

@@ -168,7 +168,7 @@ fn note_and_push(
     rows: &mut Vec<ReadRow>,
     row: ReadRow,
 ) -> Result<(), AllocError> {
-    order.note(&row.0)?;
+    order.note(&row.key)?;
     rows.push(row)?;
     Ok(())
 }
@@ -226,7 +226,7 @@ impl Places {
     fn pick_row(&self, alloc: Global, record: &ByteRecord) -> Result<ReadRow, AllocError> {
         let key = pick(alloc, record, &self.key)?;
         let rest = pick(alloc, record, &self.rest)?;
-        Ok((key, (line_of(record), rest)))
+        Ok(ReadRow::new(key, line_of(record), rest))
     }
 }
 

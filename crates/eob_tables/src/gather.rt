@@ -6,9 +6,50 @@ use crate::table::{Cells, Group, Rows};
 use either_or_both::join::is_rising;
 use eob_joins::group_by_key;
 use std::alloc::{AllocError, AllocFailed, Global};
+use std::cmp::Ordering;
 
-/// A row as it is read: its key, its line, and its other cells.
-pub type ReadRow = (Cells, (u64, Cells));
+/// A row as it is read.
+#[derive(Drop)]
+pub struct ReadRow {
+    pub key: Cells,
+    pub line: u64,
+    pub cells: Cells,
+    // The key's first eight bytes as a number. A row with a lesser one has the lesser key, so that most rows are put in order with no
+    // look at the memory of their keys.
+    beginning: u64,
+}
+
+impl ReadRow {
+    /// A row of a line, by its key and its other cells.
+    pub fn new(key: Cells, line: u64, cells: Cells) -> Self {
+        let beginning = beginning_of(&key);
+        ReadRow {
+            key,
+            line,
+            cells,
+            beginning,
+        }
+    }
+
+    // The order of the keys.
+    fn order(&self, next: &Self) -> Ordering {
+        match self.beginning.cmp(&next.beginning) {
+            Ordering::Equal => self.key.cmp(&next.key),
+            order => order,
+        }
+    }
+}
+
+// The first eight bytes of the first cell, with zeros behind one that is shorter.
+fn beginning_of(key: &[Vec<u8>]) -> u64 {
+    let mut bytes = [0; 8];
+    if let Some(cell) = key.first() {
+        for (place, byte) in bytes.iter_mut().zip(cell.iter()) {
+            *place = *byte;
+        }
+    }
+    u64::from_be_bytes(bytes)
+}
 
 /// Why rows are no table.
 #[derive(Debug, Drop)]
@@ -44,14 +85,14 @@ pub fn gathered(
     if repeats {
         return Ok(grouped(alloc, rows)?);
     }
-    rows.sort_by(|row, next| row.0.cmp(&next.0))?;
+    rows.sort_by(|row, next| row.order(next))?;
     let mut pairs = Vec::with_capacity(alloc, rows.len())?;
     let mut lines = Vec::with_capacity(alloc, rows.len())?;
-    for (key, (line, cells)) in rows {
+    for row in rows {
         let mut group = Vec::with_capacity(alloc, 1)?;
-        group.push(cells)?;
-        pairs.push((key, group))?;
-        lines.push(line)?;
+        group.push(row.cells)?;
+        pairs.push((row.key, group))?;
+        lines.push(row.line)?;
     }
     if is_rising(&pairs) {
         Ok(Rows { pairs })
@@ -63,8 +104,8 @@ pub fn gathered(
 // The rows in groups by key, each in the order of its cells.
 fn grouped(alloc: Global, rows: Vec<ReadRow>) -> Result<Rows<Cells, Group>, AllocError> {
     let mut pairs = Vec::with_capacity(alloc, rows.len())?;
-    for (key, (_line, cells)) in rows {
-        pairs.push((key, cells))?;
+    for row in rows {
+        pairs.push((row.key, row.cells))?;
     }
     pairs.sort_by(|row, next| row.1.cmp(&next.1))?;
     let pairs = in_order(pairs)?;

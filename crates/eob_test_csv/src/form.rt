@@ -135,3 +135,18 @@ fn rows_keep_the_order_of_the_files(rt: HostRuntime) -> Result<(), Fail> {
     }
     Ok(())
 }
+
+// Keys in the order of their bytes, and the other way about: some share their first eight bytes, and some end before them.
+const RISING: &[u8] =
+    b"id,a\n,1\n\0,2\na,3\na\0,4\nab,5\nabcdefgh,6\nabcdefgh\0,7\nabcdefghi,8\n\xff,9\n";
+
+const FALLING: &[u8] =
+    b"id,a\n\xff,9\nabcdefghi,8\nabcdefgh\0,7\nabcdefgh,6\nab,5\na\0,4\na,3\n\0,2\n,1\n";
+
+/// Rows come out in the order of their keys' bytes, of whatever length the keys are.
+#[test]
+fn rows_rise_by_the_bytes_of_their_keys(rt: HostRuntime) -> Result<(), Fail> {
+    let answer = answered(joined(rt.alloc(), PLAIN, Kind::Semi, FALLING, RISING))?;
+    assert!(rt; answer.bytes.as_slice() == RISING);
+    Ok(())
+}
