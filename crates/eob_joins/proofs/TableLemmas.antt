@@ -14,7 +14,7 @@ use Rattle.either_or_both.proofs.JoinLemmas.{same_values}
 use Rattle.either_or_both.proofs.MergeLemmas.{Up, absent_alike, rising, up, up_weaker}
 use Rattle.eob_joins.specs.Tables.{Tabulates, SameTableLaw, KeptLaw, IsKeptByKey, kept, both_places, paired_left, paired_right, shared_left, lone_left, unless}
 use Rattle.eob_joins.specs.Tables.{IsKeptOfJoin, IsInnerJoin, IsLeftJoin, IsRightJoin, IsSemiJoin, IsAntiJoin}
-use Rattle.eob_joins.specs.Changes.{ApplyDiffLaw, applied, changed}
+use Rattle.eob_joins.specs.Changes.{ApplyDiffLaw, ChangedValueLaw, applied, changed}
 use Rattle.eob_joins.specs.Laws.{RightLaw, SelfJoinLaw, ThreeJoinsLaw}
 use Rattle.eob_both.specs.declared.either_or_both.EitherOrBoth.TheVariants.{Both}
 
@@ -67,8 +67,7 @@ self_is : {V : Type 0} (m : Option V) → from_places m m ≡ option_and_then (�
 self_is None = refl
 self_is (Some v) = refl
 
-applied_is : {V : Type 0} (eq : V → V → Bool) → ((v w : V) → eq v w ≡ true → v ≡ w) → (m n : Option V)
-    → option_and_then applied (from_places m (option_and_then (changed eq) (from_places m n))) ≡ n
+pub applied_is : {V : Type 0} (eq : V → V → Bool) → ChangedValueLaw eq
 applied_is eq same None None = refl
 applied_is eq same None (Some w) = refl
 applied_is eq same (Some v) None = refl

@@ -1,11 +1,12 @@
 -- What changed between two versions of a table, and a table with changes made to it.
 use Rattle.std.specs.Prelude.{◌≡◌, Bool, true, List, Option, Some, None, if◌then◌else◌}
 use Rattle.std.specs.List.{AllZip}
+use Rattle.std.specs.Option.{option_and_then}
 use Rattle.std.specs.declared.cmp.Ordering.{Ordering}
 use Rattle.std.specs.declared.cmp.Ordering.TheVariants.{Equal}
 use Rattle.eob_both.specs.declared.either_or_both.EitherOrBoth.{EitherOrBoth}
 use Rattle.eob_both.specs.declared.either_or_both.EitherOrBoth.TheVariants.{Left, Both, Right}
-use Rattle.eob_both.specs.Places.{right_place}
+use Rattle.eob_both.specs.Places.{from_places, right_place}
 use Rattle.either_or_both.specs.Join.{Rising}
 use Rattle.eob_joins.specs.Tables.{IsKeptOfJoin}
 
@@ -20,6 +21,11 @@ abbrev pub applied : {V : Type 0} → EitherOrBoth V (EitherOrBoth V V) → Opti
 applied (Left o) = Some o
 applied (Both o c) = right_place c
 applied (Right c) = right_place c
+
+-- a change made to the value that it is from gives the value that it is to, where values that count as equal are equal
+abbrev pub ChangedValueLaw : {V : Type 0} → (V → V → Bool) → Type 0
+ChangedValueLaw {V} eq = ((v w : V) → eq v w ≡ true → v ≡ w) → (m n : Option V)
+    → option_and_then applied (from_places m (option_and_then (changed eq) (from_places m n))) ≡ n
 
 module _ {K : Type 0} (cmp : K → K → Ordering) where
   -- the changes from p to q, made to p, give q

@@ -1,7 +1,7 @@
 //! Two versions of a table: what changed between them, and the new version made again of the old one and the changes.
 ghost use Rattle.std.specs.Prelude.{◌≡◌, IfOk, option_map};
 ghost use Rattle.either_or_both.specs.Join.{Rising};
-ghost use Rattle.eob_joins.specs.Changes.{ApplyDiffLaw, PatchedLaw, applied, changed};
+ghost use Rattle.eob_joins.specs.Changes.{ApplyDiffLaw, ChangedValueLaw, PatchedLaw, applied, changed};
 ghost use Rattle.eob_joins.specs.Tables.{IsKeptByKey, IsKeptOfJoin};
 
 use crate::pushed::push_all;
@@ -201,6 +201,12 @@ fn applied_row<K: Drop, V: Drop>(row: (K, EitherOrBoth<V, Change<V>>)) -> Option
         },
     }
 }
+
+/// A value with the change made to it that leads to another is the other, and so where one of them is absent: where values that count
+/// as equal are equal. With what [`diff`] and [`apply`] say of each key, the changes made to the old version have what the new one has.
+pub fn law_changed_value<V: Eq>()
+    ensures { ChangedValueLaw V.eq }
+{}
 
 /// The changes from one version of a table to another, made to the first, give the second: where keys that count as equal are equal,
 /// and values too.

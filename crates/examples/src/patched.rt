@@ -1,26 +1,26 @@
 //! A copy of a table brought up to date: what is sent is what changed in the table, and nothing else.
-ghost use Rattle.either_or_both.specs.Prelude.{IfOk, Rising};
-ghost use Rattle.eob_joins.specs.Changes.{applied, changed};
-ghost use Rattle.eob_joins.specs.Tables.{IsKeptOfJoin};
+ghost use Rattle.std.specs.Prelude.{◌≡◌};
+ghost use Rattle.either_or_both.specs.Prelude.{IfOk, Rising, true, value_under};
 
-use eob_joins::{apply, diff};
+use eob_joins::{apply, diff, law_changed_value};
 use std::alloc::{AllocError, Global};
 
-/// The copy with the changes from the old version to the new one made to it. Of a copy of the old version that is the new one, pair by
-/// pair, as far as keys and values count as equal: `law_patched` of `eob_joins` says so.
+/// The copy with the changes from the old version to the new one made to it. Under each key where it had what the old version has, it
+/// has what the new one has.
 pub fn caught_up<K: Ord + Drop, V: Eq + Drop>(
     alloc: Global,
     copy: Vec<(K, V)>,
     old: Vec<(K, V)>,
     new: Vec<(K, V)>,
 ) -> Result<Vec<(K, V)>, AllocError>
+    requires values { (v w : V) → V.eq v w ≡ true → v ≡ w }
     requires copy { Rising K.cmp copy.items }
     requires old { Rising K.cmp old.items }
     requires new { Rising K.cmp new.items }
-    ensures { IfOk result (λ rows. (changes : _)
-        × IsKeptOfJoin K.cmp (changed V.eq) old.items new.items changes
-        × IsKeptOfJoin K.cmp applied copy.items changes rows.items) }
+    ensures { IfOk result (λ rows. (k : _) → value_under K.cmp copy.items k ≡ value_under K.cmp old.items k
+        → value_under K.cmp rows.items k ≡ value_under K.cmp new.items k) }
 {
+    law_changed_value::<V>();
     let changes = diff(alloc, old, new)?;
     Ok(apply(alloc, copy, changes)?)
 }
