@@ -16,7 +16,7 @@ use std::hash::{BuildHasher, Hash};
 
 /// Returns the full outer join of two maps in the order of insertion: the keys of the left map in their order, then those that it lacks
 /// in the order of the right map, each with the left map's value as left place and the right map's as right place. Takes one look-up by
-/// hash for each entry of either map.
+/// hash for each entry of the left map, and at most two for each of the right map.
 ///
 /// # Errors
 ///
@@ -94,7 +94,7 @@ pub fn outer_join_index_maps_in<
 
 /// Returns the full outer join of two hashed maps: the keys of the left map, in the order in which it iterates, then those that it
 /// lacks, in the order in which the right map iterates, each with the left map's value as left place and the right map's as right
-/// place. Takes one look-up by hash for each entry of either map.
+/// place. Takes one look-up by hash for each entry of the left map, and at most two for each of the right map.
 ///
 /// # Errors
 ///

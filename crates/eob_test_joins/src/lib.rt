@@ -6,6 +6,8 @@
 #[cfg(test)]
 mod changes;
 #[cfg(test)]
+mod counts;
+#[cfg(test)]
 mod groups;
 #[cfg(test)]
 mod maps;
