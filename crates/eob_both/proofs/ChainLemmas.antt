@@ -10,34 +10,34 @@ use Rattle.eob_both.proofs.EndsLemmas.{side_of_place}
 use Rattle.eob_both.proofs.StepLemmas.{TakesFront, TakesBack, SideHolds, side_fewer, side_counted, side_callable, side_callable_back, side_front, side_back, side_of_all, side_to_come_back, side_yields_front}
 
 -- of a side F holds before a call, and G after
-module _ {S W A B : Type 0} (steps : S → Option A → S → Type 0) (v : A → B) (F G : List B → Option S → Type 0) (P : List B → W → Type 0) (t : W) (near far near' far' : Option S) (remains : (q : List B) (o : Option S) → F q o → G q o) where
-  pub turn_front : ((p q : List B) → G p near' → G q far' → P (p ++ q) t) → TakesFront steps v F G → (p q : List B) (r o : Option A) → F p near → F q far
-      → side_steps steps near o near' → MatchOption o (side_steps steps far r far') (λ x. (r ≡ Some x) × (far' ≡ far)) → FirstTaken v P (p ++ q) r t
-  turn_front next f p q r (Some x) a b e m =
-      let l = f p near (Some x) near' a e in
-      subst (λ y. FirstTaken v P (p ++ q) y t) (sym m.0) (l.0 ++ q, ap (λ z. z ++ q) l.1, next l.0 q l.2 (subst (G q) (sym m.1) (remains q far b)))
-  turn_front next f p q None None a b e m =
-      let l = f p near None near' a e in
-      let k = f q far None far' b m in
-      (ap₂ (λ y z. y ++ z) l.0 k.0, next [] [] l.1 k.1)
-  turn_front next f p q (Some x) None a b e m =
-      let l = f p near None near' a e in
-      let k = f q far (Some x) far' b m in
-      (k.0, ap (λ z. z ++ q) l.0 ∙ k.1, next [] k.0 l.1 k.2)
+module _ {S W A B : Type 0} (steps : S → Option A → S → Type 0) (v : A → B) (F G : List B → Option S → Type 0) (P : List B → W → Type 0) (t : W) (near far near' far' : Option S) (remains : (q : List B) (o : Option S) → F q o → G q o) (absent : G [] None) where
+  pub turn_front : ((p q : List B) → G p near' → G q far' → P (p ++ q) t) → TakesFront steps v F G → (p q : List B) (r o : Option A) (kept : Option S) → F p near → F q far
+      → side_steps steps near o kept → MatchOption o (side_steps steps far r near' × (far' ≡ None)) (λ x. (r ≡ Some x) × (near' ≡ kept) × (far' ≡ far)) → FirstTaken v P (p ++ q) r t
+  turn_front next f p q r (Some x) kept a b e m =
+      let l = f p near (Some x) kept a e in
+      subst (λ y. FirstTaken v P (p ++ q) y t) (sym m.0) (l.0 ++ q, ap (λ z. z ++ q) l.1, next l.0 q (subst (G l.0) (sym m.1) l.2) (subst (G q) (sym m.2) (remains q far b)))
+  turn_front next f p q None None kept a b e m =
+      let l = f p near None kept a e in
+      let k = f q far None near' b m.0 in
+      (ap₂ (λ y z. y ++ z) l.0 k.0, next [] [] k.1 (subst (G []) (sym m.1) absent))
+  turn_front next f p q (Some x) None kept a b e m =
+      let l = f p near None kept a e in
+      let k = f q far (Some x) near' b m.0 in
+      (k.0, ap (λ z. z ++ q) l.0 ∙ k.1, subst (λ z. P z t) (append-nil k.0) (next k.0 [] k.2 (subst (G []) (sym m.1) absent)))
 
-  pub turn_back : ((q p : List B) → G q near' → G p far' → P (p ++ q) t) → TakesBack steps v F G → (q p : List B) (r o : Option A) → F q near → F p far
-      → side_steps steps near o near' → MatchOption o (side_steps steps far r far') (λ x. (r ≡ Some x) × (far' ≡ far)) → LastTaken v P (p ++ q) r t
-  turn_back next f q p r (Some x) a b e m =
-      let l = f q near (Some x) near' a e in
-      subst (λ y. LastTaken v P (p ++ q) y t) (sym m.0) (p ++ l.0, ap (λ z. p ++ z) l.1 ∙ sym (append_assoc p l.0 (v x ∷ [])), next l.0 p l.2 (subst (G p) (sym m.1) (remains p far b)))
-  turn_back next f q p None None a b e m =
-      let l = f q near None near' a e in
-      let k = f p far None far' b m in
-      (ap₂ (λ y z. y ++ z) k.0 l.0, next [] [] l.1 k.1)
-  turn_back next f q p (Some x) None a b e m =
-      let l = f q near None near' a e in
-      let k = f p far (Some x) far' b m in
-      (k.0, ap (λ z. p ++ z) l.0 ∙ append-nil p ∙ k.1, subst (λ z. P z t) (append-nil k.0) (next [] k.0 l.1 k.2))
+  pub turn_back : ((q p : List B) → G q near' → G p far' → P (p ++ q) t) → TakesBack steps v F G → (q p : List B) (r o : Option A) (kept : Option S) → F q near → F p far
+      → side_steps steps near o kept → MatchOption o (side_steps steps far r near' × (far' ≡ None)) (λ x. (r ≡ Some x) × (near' ≡ kept) × (far' ≡ far)) → LastTaken v P (p ++ q) r t
+  turn_back next f q p r (Some x) kept a b e m =
+      let l = f q near (Some x) kept a e in
+      subst (λ y. LastTaken v P (p ++ q) y t) (sym m.0) (p ++ l.0, ap (λ z. p ++ z) l.1 ∙ sym (append_assoc p l.0 (v x ∷ [])), next l.0 p (subst (G l.0) (sym m.1) l.2) (subst (G p) (sym m.2) (remains p far b)))
+  turn_back next f q p None None kept a b e m =
+      let l = f q near None kept a e in
+      let k = f p far None near' b m.0 in
+      (ap₂ (λ y z. y ++ z) k.0 l.0, next [] [] k.1 (subst (G []) (sym m.1) absent))
+  turn_back next f q p (Some x) None kept a b e m =
+      let l = f q near None kept a e in
+      let k = f p far (Some x) near' b m.0 in
+      (k.0, ap (λ z. p ++ z) l.0 ∙ append-nil p ∙ k.1, next k.0 [] k.2 (subst (G []) (sym m.1) absent))
 
 -- a C that holds of no items, and of the items of two iterators together
 module _ {S A B : Type 0} (C : Count → ℕ → Type 0) (none : C (at_most 0) 0) (adds : (c d : Count) (n m : ℕ) → C c n → C d m → C (count_add c d) (n + m)) (it : Ends S A) (v : A → B) where
@@ -50,10 +50,10 @@ module _ {S A B : Type 0} (C : Count → ℕ → Type 0) (none : C (at_most 0) 0
     callable = (side_callable C it v n p (chain_left s) a, side_callable C it v n q (chain_right s) b);
     callable_back = (side_callable_back C it v n p (chain_left s) a, side_callable_back C it v n q (chain_right s) b);
     counted = subst (C ((chain_ends it).remaining s)) (sym (length-append p q)) (adds _ _ (length p) (length q) (side_counted C it v none n p (chain_left s) a) (side_counted C it v none n q (chain_right s) b));
-    front = λ r t e. turn_front it.next_gives v (SideHolds C it v (suc n)) (SideHolds C it v n) (Holds n) t (chain_left s) (chain_right s) (chain_left t) (chain_right t) (side_fewer C it v n)
-        (λ p' q' a' b'. chain_holds n p' q' t a' b') (side_front C it v n) p q r e.0 a b e.1 e.2;
-    back = λ r t e. turn_back it.next_back_gives v (SideHolds C it v (suc n)) (SideHolds C it v n) (Holds n) t (chain_right s) (chain_left s) (chain_right t) (chain_left t) (side_fewer C it v n)
-        (λ q' p' b' a'. chain_holds n p' q' t a' b') (side_back C it v n) q p r e.0 b a e.1 e.2;
+    front = λ r t e. turn_front it.next_gives v (SideHolds C it v (suc n)) (SideHolds C it v n) (Holds n) t (chain_left s) (chain_right s) (chain_left t) (chain_right t) (side_fewer C it v n) refl
+        (λ p' q' a' b'. chain_holds n p' q' t a' b') (side_front C it v n) p q r e.0 e.1 a b e.2 e.3;
+    back = λ r t e. turn_back it.next_back_gives v (SideHolds C it v (suc n)) (SideHolds C it v n) (Holds n) t (chain_right s) (chain_left s) (chain_right t) (chain_left t) (side_fewer C it v n) refl
+        (λ q' p' b' a'. chain_holds n p' q' t a' b') (side_back C it v n) q p r e.0 e.1 b a e.2 e.3;
   }
 
   chain_of_sides : (p q : List B) (s : ChainedIterEitherOrBoth S) → SideToCome C it v p (chain_left s) → SideToCome C it v q (chain_right s) → ToCome C (chain_ends it) v (p ++ q) s
@@ -82,8 +82,8 @@ tail_same e = cc
 module _ {S A B : Type 0} (steps : S → Option A → S → Type 0) (v : A → B) where
   pub chain_yields_front : (zs : List B) (s : ChainedIterEitherOrBoth S) (r : Option A) (t : ChainedIterEitherOrBoth S) → ChainYields steps v zs s → chain_steps steps s r t → FirstTaken v (ChainYields steps v) zs r t
   chain_yields_front zs s r t h e = subst (λ l. FirstTaken v (ChainYields steps v) l r t) (sym h.4)
-      (turn_front steps v (SideYields steps v) (SideYields steps v) (ChainYields steps v) t (chain_left s) (chain_right s) (chain_left t) (chain_right t) (λ q o k. k)
-      (λ p q a b. (p, q, a, b, refl)) (side_yields_front steps v) h.0 h.1 r e.0 h.2 h.3 e.1 e.2)
+      (turn_front steps v (SideYields steps v) (SideYields steps v) (ChainYields steps v) t (chain_left s) (chain_right s) (chain_left t) (chain_right t) (λ q o k. k) refl
+      (λ p q a b. (p, q, a, b, refl)) (side_yields_front steps v) h.0 h.1 r e.0 e.1 h.2 h.3 e.2 e.3)
 
   -- taken forward, the chain gives the left list and then the right one
   pub chain_always : (zs : List B) (s : ChainedIterEitherOrBoth S) → ChainYields steps v zs s → AlwaysYields (chain_steps steps) v s zs
@@ -96,5 +96,5 @@ module _ {S A B : Type 0} (steps : S → Option A → S → Type 0) (v : A → B
 module _ {S A B : Type 0} (it : Ends S A) (v : A → B) where
   pub chain_comes_back : (zs : List B) (s : ChainedIterEitherOrBoth S) (r : Option A) (t : ChainedIterEitherOrBoth S) → ChainToCome it v zs s → chain_steps_back it.next_back_gives s r t → LastTaken v (ChainToCome it v) zs r t
   chain_comes_back zs s r t h e = subst (λ l. LastTaken v (ChainToCome it v) l r t) (sym h.4)
-      (turn_back it.next_back_gives v (SideToCome HasBound it v) (SideToCome HasBound it v) (ChainToCome it v) t (chain_right s) (chain_left s) (chain_right t) (chain_left t) (λ p o k. k)
-      (λ q p b a. (p, q, a, b, refl)) (side_to_come_back HasBound it v) h.1 h.0 r e.0 h.3 h.2 e.1 e.2)
+      (turn_back it.next_back_gives v (SideToCome HasBound it v) (SideToCome HasBound it v) (ChainToCome it v) t (chain_right s) (chain_left s) (chain_right t) (chain_left t) (λ p o k. k) refl
+      (λ q p b a. (p, q, a, b, refl)) (side_to_come_back HasBound it v) h.1 h.0 r e.0 e.1 h.3 h.2 e.2 e.3)

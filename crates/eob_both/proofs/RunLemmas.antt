@@ -150,43 +150,43 @@ module _ {S A : Type 0} (steps : S → Option A → S → Type 0) where
   abbrev Parts : List A → Bool → Chained → Type 0
   Parts zs b s = (xs : List A) × (ys : List A) × (c : Bool) × (d : Bool) × SideDrains steps (chain_left s) xs c × SideDrains steps (chain_right s) ys d × (zs ≡ xs ++ ys) × (b ≡ true → (c ≡ true) × (d ≡ true))
 
-  part_on : (z : A) (zs : List A) (b : Bool) (s j : Chained) (o : Option A) → side_steps steps (chain_left s) o (chain_left j)
-      → MatchOption o (side_steps steps (chain_right s) (Some z) (chain_right j)) (λ x. (Some z ≡ Some x) × (chain_right j ≡ chain_right s)) → Parts zs b j → Parts (z ∷ zs) b s
-  part_on z zs b s j (Some x) e m h =
+  part_on : (z : A) (zs : List A) (b : Bool) (s j : Chained) (o : Option A) (kept : Option S) → side_steps steps (chain_left s) o kept
+      → MatchOption o (side_steps steps (chain_right s) (Some z) (chain_left j) × (chain_right j ≡ None)) (λ x. (Some z ≡ Some x) × (chain_left j ≡ kept) × (chain_right j ≡ chain_right s)) → Parts zs b j → Parts (z ∷ zs) b s
+  part_on z zs b s j (Some x) kept e m h =
       let same : z ≡ x = let k = m.0 in cc in (
         x ∷ h.0,
         h.1,
         h.2,
         h.3,
-        side_more steps (chain_left s) (Some x) (chain_left j) h.0 h.2 e h.4,
-        subst (λ o. SideDrains steps o h.1 h.3) m.1 h.5,
+        side_more steps (chain_left s) (Some x) kept h.0 h.2 e (subst (λ o. SideDrains steps o h.0 h.2) m.1 h.4),
+        subst (λ o. SideDrains steps o h.1 h.3) m.2 h.5,
         ap₂ (λ y l. y ∷ l) same h.6,
         h.7,
       )
-  part_on z zs b s j None e m h =
-      let n : h.0 ≡ [] = side_empty steps (chain_left s) (chain_left j) h.0 h.2 e h.4 in (
-        h.0,
-        z ∷ h.1,
+  part_on z zs b s j None kept e m h =
+      let n : h.1 ≡ [] = subst (λ o. SideDrains steps o h.1 h.3) m.1 h.5 in (
+        [],
+        z ∷ h.0,
+        true,
         h.2,
-        h.3,
-        side_more steps (chain_left s) None (chain_left j) h.0 h.2 e h.4,
-        side_more steps (chain_right s) (Some z) (chain_right j) h.1 h.3 m h.5,
-        ap (λ l. z ∷ l) (h.6 ∙ ap (λ l. l ++ h.1) n) ∙ ap (λ l. l ++ (z ∷ h.1)) (sym n),
-        h.7,
+        side_done steps (chain_left s) kept e,
+        side_more steps (chain_right s) (Some z) (chain_left j) h.0 h.2 m.0 h.4,
+        ap (λ l. z ∷ l) (h.6 ∙ ap (λ l. h.0 ++ l) n ∙ append-nil h.0),
+        λ w. (refl, (h.7 w).0),
       )
 
-  parts_end : (s u : Chained) (o : Option A) → side_steps steps (chain_left s) o (chain_left u)
-      → MatchOption o (side_steps steps (chain_right s) None (chain_right u)) (λ x. (None ≡ Some x) × (chain_right u ≡ chain_right s)) → Parts [] true s
-  parts_end s u (Some x) e m = absurd (let k = m.0 in cc)
-  parts_end s u None e m = ([], [], true, true, side_done steps (chain_left s) (chain_left u) e, side_done steps (chain_right s) (chain_right u) m, refl, λ _. (refl, refl))
+  parts_end : (s u : Chained) (o : Option A) (kept : Option S) → side_steps steps (chain_left s) o kept
+      → MatchOption o (side_steps steps (chain_right s) None (chain_left u) × (chain_right u ≡ None)) (λ x. (None ≡ Some x) × (chain_left u ≡ kept) × (chain_right u ≡ chain_right s)) → Parts [] true s
+  parts_end s u (Some x) kept e m = absurd (let k = m.0 in cc)
+  parts_end s u None kept e m = ([], [], true, true, side_done steps (chain_left s) kept e, side_done steps (chain_right s) (chain_left u) m.0, refl, λ _. (refl, refl))
 
   parts : (zs : List A) (b : Bool) (s : Chained) → DrainsIf (chain_steps steps) (b ≡ true) s zs → Parts zs b s
   parts [] false s k = ([], [], false, false, side_idle steps (chain_left s), side_idle steps (chain_right s), refl, λ e. absurd (never e))
   parts [] true s k =
       let u = (k.2 refl).0 in
       let e = subst (λ j. chain_steps steps j None u) (sym k.1) (k.2 refl).1 in
-      parts_end s u e.0 e.1 e.2
-  parts (z ∷ zs) b s k = part_on z zs b s k.1.0 k.1.1.0 k.1.1.1 k.1.1.2 (parts zs b k.1.0 (k.0, k.1.2, k.2))
+      parts_end s u e.0 e.1 e.2 e.3
+  parts (z ∷ zs) b s k = part_on z zs b s k.1.0 k.1.1.0 k.1.1.1 k.1.1.2 k.1.1.3 (parts zs b k.1.0 (k.0, k.1.2, k.2))
 
   in_turn_runs : (z : Chained) (s t : S) → chain_left z ≡ Some s → chain_right z ≡ Some t → EachRunFrom (chain_steps steps) z (λ p. SomeRun steps s (λ a. SomeRun steps t (λ b. IsInTurnRun p a b)))
   in_turn_runs z s t l r p _ from =

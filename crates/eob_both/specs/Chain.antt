@@ -1,16 +1,17 @@
 -- The sides and the steps of `ChainedIterEitherOrBoth`.
-use Rattle.std.specs.Prelude.{◌≡◌, Option, Some, IfSome, MatchOption, List, ◌++◌}
+use Rattle.std.specs.Prelude.{◌≡◌, Option, Some, None, IfSome, MatchOption, List, ◌++◌}
 use Rattle.std.specs.Iterator.{Count, count_add}
 use Rattle.eob_both.specs.declared.iter.chain.ChainedIterEitherOrBoth.{ChainedIterEitherOrBoth}
 use Rattle.eob_both.specs.Side.{side_steps, side_remaining}
 use Rattle.eob_both.specs.Ends.{Ends, both_ends, FirstTaken, LastTaken, HasBound, StillToCome, SideToCome, SideYields}
 
 module _ {S : Type 0} where
-  -- a call of two sides in turn: the near side answers, and where it has ended the far one does
+  -- a call of two sides in turn: the near side answers, and where it has ended the far one takes its place and does
   abbrev pub InTurn : {A : Type 0} → (S → Option A → S → Type 0) → Option S → Option S → Option A → Option S
       → Option S → Type 0
-  InTurn {A} steps near far r near' far' = (o : Option A) × side_steps steps near o near'
-      × MatchOption o (side_steps steps far r far') (λ x. (r ≡ Some x) × (far' ≡ far))
+  InTurn {A} steps near far r near' far' = (o : Option A) × (kept : Option S) × side_steps steps near o kept
+      × MatchOption o (side_steps steps far r near' × (far' ≡ None))
+      (λ x. (r ≡ Some x) × (near' ≡ kept) × (far' ≡ far))
 
   -- the sides that the walk still asks
   abbrev pub chain_left : ChainedIterEitherOrBoth S → Option S

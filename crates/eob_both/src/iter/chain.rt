@@ -1,6 +1,7 @@
 //! The iterator over the left side, and then over the right one.
 //!
-//! It holds two optional sides of one type. `next` polls the left one first, and `next_back` the right one.
+//! It holds two optional sides of one type. `next` polls the left one first, and `next_back` the right one. Where that one has ended the
+//! other takes its place, so that a loop polls one place alone.
 ghost use Rattle.std.specs.Prelude.{◌≡◌, None, IfSome, IsSomeAnd};
 ghost use Rattle.std.specs.Iterator.{UpTo};
 ghost use Rattle.std.specs.Iterator.SizeHint.{IsWithinCount};
@@ -73,15 +74,12 @@ impl<T: Iterator> Iterator for ChainedIterEitherOrBoth<T> {
     /// ```
     #[inline(always)]
     fn next(&mut self) -> Option<Self::Item> {
-        match &mut self.left {
-            Some(side) => match side.next() {
-                Some(item) => Some(item),
-                None => {
-                    self.left = None;
-                    next_of(&mut self.right)
-                }
-            },
-            None => next_of(&mut self.right),
+        match next_of(&mut self.left) {
+            Some(item) => Some(item),
+            None => {
+                self.left = self.right.take();
+                next_of(&mut self.left)
+            }
         }
     }
 
@@ -117,15 +115,12 @@ impl<T: DoubleEndedIterator> DoubleEndedIterator for ChainedIterEitherOrBoth<T> 
     /// ```
     #[inline(always)]
     fn next_back(&mut self) -> Option<Self::Item> {
-        match &mut self.right {
-            Some(side) => match side.next_back() {
-                Some(item) => Some(item),
-                None => {
-                    self.right = None;
-                    next_back_of(&mut self.left)
-                }
-            },
-            None => next_back_of(&mut self.left),
+        match next_back_of(&mut self.right) {
+            Some(item) => Some(item),
+            None => {
+                self.right = self.left.take();
+                next_back_of(&mut self.right)
+            }
         }
     }
 }
