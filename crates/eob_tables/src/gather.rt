@@ -1,6 +1,7 @@
 //! From the rows of a file to a table.
-ghost use Rattle.std.specs.Prelude.{IfOk};
-ghost use Rattle.eob_joins.specs.Groups.{Ordered};
+ghost use Rattle.std.specs.Prelude.{◌≡◌, IfOk, IsPermutation, map};
+ghost use Rattle.eob_joins.specs.Groups.{Ordered, shown_group};
+ghost use Rattle.eob_tables.specs.Gathered.{AloneLaw, HoldsRows, alone};
 
 use crate::table::{Cells, Group, Rows};
 use either_or_both::join::is_rising;
@@ -72,7 +73,7 @@ impl<T: Drop> From<AllocFailed<T>> for Ungathered {
     }
 }
 
-/// The rows by key. Where keys may not repeat, no two have the same.
+/// The rows by key: each row once, under its key. Where keys may not repeat, no two rows have the same.
 ///
 /// # Errors
 ///
@@ -81,11 +82,43 @@ pub fn gathered(
     alloc: Global,
     mut rows: Vec<ReadRow>,
     repeats: bool,
-) -> Result<Rows<Cells, Group>, Ungathered> {
+) -> Result<Rows<Cells, Group>, Ungathered>
+    ensures { IfOk result (λ table. HoldsRows ⟦<Cells as Ord>⟧.cmp
+        (map (λ row. (row.key, row.cells)) rows.items) table.pairs.items) }
+{
     if repeats {
-        return Ok(grouped(alloc, rows)?);
+        let pairs = key_rows(alloc, rows)?;
+        return Ok(grouped(alloc, pairs)?);
     }
     rows.sort_by(|row, next| row.order(next))?;
+    let (pairs, lines) = part_rows(alloc, rows)?;
+    law_alone::<Cells, Cells>();
+    if is_rising(&pairs) {
+        Ok(Rows { pairs })
+    } else {
+        Err(repeated_key(alloc, &pairs, &lines)?)
+    }
+}
+
+// The rows without their lines.
+fn key_rows(alloc: Global, rows: Vec<ReadRow>) -> Result<Vec<(Cells, Cells)>, AllocError>
+    ensures { IfOk result (λ pairs. pairs.items ≡ map (λ row. (row.key, row.cells)) rows.items) }
+{
+    let mut pairs = Vec::with_capacity(alloc, rows.len())?;
+    for row in rows {
+        pairs.push((row.key, row.cells))?;
+    }
+    Ok(pairs)
+}
+
+// Each row as a group of its own, and its line.
+fn part_rows(
+    alloc: Global,
+    rows: Vec<ReadRow>,
+) -> Result<(Vec<(Cells, Group)>, Vec<u64>), AllocError>
+    ensures { IfOk result (λ parts. map shown_group parts.0.items
+        ≡ map (λ row. alone (row.key, row.cells)) rows.items) }
+{
     let mut pairs = Vec::with_capacity(alloc, rows.len())?;
     let mut lines = Vec::with_capacity(alloc, rows.len())?;
     for row in rows {
@@ -94,32 +127,35 @@ pub fn gathered(
         pairs.push((row.key, group))?;
         lines.push(row.line)?;
     }
-    if is_rising(&pairs) {
-        Ok(Rows { pairs })
-    } else {
-        Err(repeated_key(alloc, &pairs, &lines)?)
-    }
+    Ok((pairs, lines))
 }
 
 // The rows in groups by key, each in the order of its cells.
-fn grouped(alloc: Global, rows: Vec<ReadRow>) -> Result<Rows<Cells, Group>, AllocError> {
-    let mut pairs = Vec::with_capacity(alloc, rows.len())?;
-    for row in rows {
-        pairs.push((row.key, row.cells))?;
-    }
-    pairs.sort_by(|row, next| row.1.cmp(&next.1))?;
-    let pairs = in_order(pairs)?;
-    let pairs = group_by_key(alloc, pairs)?;
+fn grouped<K: Ord + Drop, V: Ord + Drop>(
+    alloc: Global,
+    mut rows: Vec<(K, V)>,
+) -> Result<Rows<K, Vec<V>>, AllocError>
+    ensures { IfOk result (λ table. HoldsRows K.cmp rows.items table.pairs.items) }
+{
+    rows.sort_by(|row, next| row.1.cmp(&next.1))?;
+    let rows = in_order(rows)?;
+    let pairs = group_by_key(alloc, rows)?;
     Ok(Rows { pairs })
 }
 
 // The rows in the order of their keys, those under a key as they stood.
 fn in_order<K: Ord + Drop, V: Drop>(mut rows: Vec<(K, V)>) -> Result<Vec<(K, V)>, AllocError>
-    ensures { IfOk result (λ sorted. Ordered K.cmp sorted.items) }
+    ensures ordered { IfOk result (λ sorted. Ordered K.cmp sorted.items) }
+    ensures same { IfOk result (λ sorted. IsPermutation rows.items sorted.items) }
 {
     rows.sort_by(|row, next| row.0.cmp(&next.0))?;
     Ok(rows)
 }
+
+// Rows whose keys rise, each as a group of its own, are their groups by key.
+fn law_alone<K: Ord, V>()
+    ensures { AloneLaw K.cmp V }
+{}
 
 // The first key that stands twice, with both of its lines.
 fn repeated_key(

@@ -1,0 +1,18 @@
+-- What a table has that was gathered from rows.
+use Rattle.std.specs.Prelude.{List, [], ◌∷◌, Vec, map}
+use Rattle.std.specs.List.Sorted.{IsPermutation}
+use Rattle.std.specs.declared.cmp.Ordering.{Ordering}
+use Rattle.either_or_both.specs.Join.{Rising}
+use Rattle.eob_joins.specs.Groups.{AreGroups, shown_group}
+
+-- gs are the groups by key of the rows ps, put into some order: each row is there once, under its key, and nothing else is
+abbrev pub HoldsRows : {K V M : Type 0} → (K → K → Ordering) → List (K × V) → List (K × Vec V M) → Type 0
+HoldsRows {K} {V} cmp ps gs = (sorted : List (K × V)) × IsPermutation ps sorted × AreGroups cmp sorted (map shown_group gs)
+
+-- a row as a group of its own
+abbrev pub alone : {K V : Type 0} → K × V → K × List V
+alone row = (row.0, row.1 ∷ [])
+
+-- rows whose keys rise, each as a group of its own, are their groups by key
+abbrev pub AloneLaw : {K : Type 0} → (K → K → Ordering) → Type 0 → Type 0
+AloneLaw {K} cmp V = (rows : List (K × V)) → Rising cmp (map alone rows) → AreGroups cmp rows (map alone rows)
