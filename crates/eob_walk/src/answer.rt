@@ -52,7 +52,7 @@ fn append_text<A: Allocator + Copy>(
         Answer::Walk(items) => append_items(output, &items),
         Answer::Normal(true) => append_parts(output, &[b"yes"]),
         Answer::Normal(false) => append_parts(output, &[b"no"]),
-        Answer::Ends(sides, ends) => append_ends(alloc, output, sides, &ends),
+        Answer::Ends(sides, calls) => append_ends(alloc, output, sides, calls),
         Answer::Join(joined) => append_join(output, &joined),
     }
 }

@@ -10,9 +10,10 @@ mod joins;
 mod walks;
 
 use either_or_both::EitherOrBoth;
-use either_or_both::laws::{End, is_normal, regroup_in};
+use either_or_both::laws::{is_normal, regroup_in};
 use joins::{Joined, parse_join};
 use std::alloc::{AllocError, Allocator};
+pub use walks::Calls;
 use walks::{parse_ends, parse_items, parse_sides};
 
 /// An item of a line: one word or two.
@@ -33,9 +34,9 @@ pub enum Answer<'a, A: Allocator> {
     Walk(Items<'a, A>),
     /// To `normal ITEM..`: whether its items are in their normal form.
     Normal(bool),
-    /// To `ends FB ITEM..`: what the paired walk over its collected items gives to calls of these ends. The walk is driven where the
-    /// answer is appended.
-    Ends(Sides<'a, A>, Vec<End, A>),
+    /// To `ends FB ITEM..`: what the paired walk over its collected items gives to these calls. The walk is driven where the answer is
+    /// appended.
+    Ends(Sides<'a, A>, Calls<'a>),
     /// To `join K=V.. / K=V..`: the join of its two tables.
     Join(Joined<'a, A>),
 }
@@ -124,8 +125,21 @@ fn is_word_end(rest: &[u8]) -> bool {
     matches!(rest, [] | [b' ', ..])
 }
 
+// Each byte of a name at its own place, and a dot at every other. A look-up takes one step for any byte, where two comparisons would
+// branch on whether it is a letter or a digit.
+static NAME_BYTES: [u8; 256] = *b"\
+    ................................\
+    ................0123456789......\
+    ................................\
+    .abcdefghijklmnopqrstuvwxyz.....\
+    ................................\
+    ................................\
+    ................................\
+    ................................";
+
+#[inline(always)]
 fn is_name_byte(byte: u8) -> bool
     ensures { IsTrue result ↔ IsNameByte byte }
 {
-    byte.is_ascii_lowercase() || byte.is_ascii_digit()
+    NAME_BYTES[usize::from(byte)] != b'.'
 }

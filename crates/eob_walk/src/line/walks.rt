@@ -6,7 +6,6 @@ use super::{
     Answer, Item, Items, Sides, is_word_end, skip_spaces, split_name, split_names, split_word,
 };
 use either_or_both::EitherOrBoth;
-use either_or_both::laws::End;
 use std::alloc::{AllocError, Allocator};
 
 // The words of a line as items: the items in order, and None for the first word that is no item, which is the last.
@@ -91,33 +90,40 @@ pub fn parse_sides<'a, A: Allocator + Copy>(
     ItemWords::new(words).collect(alloc)
 }
 
+/// The calls of ends that a word names, a letter each: `f` calls the front and `b` the back.
+#[derive(Clone, Copy)]
+pub struct Calls<'a> {
+    letters: &'a [u8],
+}
+
+impl<'a> Calls<'a> {
+    // None where there is another letter, or none.
+    fn new(letters: &'a [u8]) -> Option<Self> {
+        let are_ends = letters.iter().all(|letter| matches!(letter, b'f' | b'b'));
+        if are_ends && !letters.is_empty() {
+            Some(Calls { letters })
+        } else {
+            None
+        }
+    }
+
+    /// The letters, in the order of the calls.
+    pub fn letters(self) -> &'a [u8] {
+        self.letters
+    }
+}
+
 /// The answer to an `ends` line with these words, or None where one is bad.
 pub fn parse_ends<'a, A: Allocator + Copy>(
     alloc: A,
     words: &'a [u8],
 ) -> Result<Option<Answer<'a, A>>, AllocError> {
     let (calls, items) = split_word(words);
-    let Some(ends) = parse_calls(alloc, calls)? else {
+    let Some(calls) = Calls::new(calls) else {
         return Ok(None);
     };
     match parse_sides(alloc, items)? {
-        Some(sides) => Ok(Some(Answer::Ends(sides, ends))),
+        Some(sides) => Ok(Some(Answer::Ends(sides, calls))),
         None => Ok(None),
     }
-}
-
-// The ends that one or more letters `f` and `b` call, or None where there is another letter, or none.
-fn parse_calls<A: Allocator>(alloc: A, calls: &[u8]) -> Result<Option<Vec<End, A>>, AllocError> {
-    if calls.is_empty() {
-        return Ok(None);
-    }
-    let mut ends = Vec::with_capacity(alloc, calls.len())?;
-    for call in calls {
-        match call {
-            b'f' => ends.push(End::Front)?,
-            b'b' => ends.push(End::Back)?,
-            _ => return Ok(None),
-        }
-    }
-    Ok(Some(ends))
 }

@@ -6,8 +6,8 @@ use Rattle.either_or_both.proofs.SwapLemmas.{swap_of_places}
 use Rattle.eob_walk.proofs.GrowthLemmas.{extends_same, extends_trans}
 use Rattle.eob_walk.proofs.answer.ends.append_ends.Goals as goal
 
-pub loop-some-init : goal.loop-some-init
-loop-some-init g c =
+pub loop-letters-init : goal.loop-letters-init
+loop-letters-init g c =
     let left = left_place c.args.sides in
     let right = right_place c.args.sides in (
       extends_same _,
@@ -19,11 +19,11 @@ loop-some-init g c =
 
 pub drive_walk_in-requires : goal.drive_walk_in-requires
 drive_walk_in-requires g c =
-    let walk = c.loop-some.invariant.1 in
-    (walk.0, to_come_uncounted _ walk.0.view walk.0.items c.loop-some.walk walk.1)
+    let walk = c.loop-letters.invariant.1 in
+    (walk.0, to_come_uncounted _ walk.0.view walk.0.items c.loop-letters.walk walk.1)
 
-pub loop-some-preserved : goal.loop-some-preserved
-loop-some-preserved g c =
-    let walk = c.loop-some.invariant.1 in
+pub loop-letters-preserved : goal.loop-letters-preserved
+loop-letters-preserved g c =
+    let walk = c.loop-letters.invariant.1 in
     let left = c.in_ok-answers.ensures.rest walk.0 walk.1 in
-    (extends_trans _ _ _ c.loop-some.invariant.0 c.append_answers.ensures, (record { view = walk.0.view; items = left.0 }, left.1))
+    (extends_trans _ _ _ c.loop-letters.invariant.0 c.append_answers.ensures, (record { view = walk.0.view; items = left.0 }, left.1))

@@ -6,5 +6,5 @@ use Rattle.eob_walk.specs.Growth.{Extends}
 use Rattle.eob_walk.proofs.answer.ends.append_ends.Given as goal
 
 -- what was there stays, and the walk has some list still to come
-abbrev pub invariant-loop-some : goal.invariant-loop-some
-invariant-loop-some g l = Extends l.fn.output.items l.output.items × ((list : Listed _) × CountedToCome (swap_ends vec_ends vec_ends) list.view list.items l.walk)
+abbrev pub invariant-loop-letters : goal.invariant-loop-letters
+invariant-loop-letters g l = Extends l.fn.output.items l.output.items × ((list : Listed _) × CountedToCome (swap_ends vec_ends vec_ends) list.view list.items l.walk)
