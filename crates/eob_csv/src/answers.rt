@@ -9,7 +9,7 @@ use crate::opened::{Opened, at};
 use crate::patch::misfits;
 use crate::request::{Form, Format, Kind, Settings};
 use crate::written::{write_changes, write_table};
-use eob_joins::Merged;
+use eob_joins::{Change, Merged};
 use eob_tables::{Cells, Group, Order, Rows, changes_of, merge_of, paired, patched};
 use std::alloc::Global;
 use std::io::Read;
@@ -116,6 +116,18 @@ fn changed(
             status: 1,
         });
     }
+    write_patched(alloc, form, columns, order, old, changes)
+}
+
+// The table with changes made to it that fit, as CSV.
+fn write_patched(
+    alloc: Global,
+    form: Form,
+    columns: &Columns,
+    order: &Order,
+    old: Rows<Cells, Group>,
+    changes: Rows<Cells, Change<Group>>,
+) -> Result<Answer, Reason> {
     let rows = order.arrange(patched(alloc, old, changes)?)?;
     Ok(Answer {
         bytes: write_table(alloc, form, columns, &rows)?,

@@ -1,7 +1,7 @@
 //! What changed between two tables, as a person reads it.
 
 use crate::columns::{Columns, place_of};
-use crate::lined_up::{Colour, Grid, Line, Shown, line_up, put_shown};
+use crate::lined_up::{Colour, Grid, Line, Shown, line_up, put_shown, show_cell};
 use either_or_both::EitherOrBoth;
 use eob_joins::{Change, group_join_unordered};
 use eob_tables::{Cells, Group};
@@ -165,18 +165,29 @@ impl ColumnChanges {
                 has_lone: false,
             });
         }
-        for name in new.iter().filter(|name| place_of(old, name).is_none()) {
-            writeln!(text, "column {} added", Shown(name))?;
-        }
-        for name in old.iter().filter(|name| place_of(new, name).is_none()) {
-            writeln!(text, "column {} removed", Shown(name))?;
-        }
+        say_lone(&mut text, new, old, "added")?;
+        say_lone(&mut text, old, new, "removed")?;
         let has_lone = !text.is_empty();
         if !is_same_order(old, new) {
             writeln!(text, "columns in another order")?;
         }
         Ok(ColumnChanges { text, has_lone })
     }
+}
+
+// Says what became of each name that is not among the others.
+fn say_lone(
+    text: &mut String,
+    names: &[Vec<u8>],
+    others: &[Vec<u8>],
+    word: &str,
+) -> Result<(), AllocError> {
+    for name in names {
+        if place_of(others, name).is_none() {
+            writeln!(text, "column {} {word}", Shown(name))?;
+        }
+    }
+    Ok(())
 }
 
 // Whether the names that both headers have stand in the same order.
@@ -246,9 +257,10 @@ fn mark(change: Change<&Cells>) -> (&'static str, Colour) {
 
 // A cell of both versions: once where they agree.
 fn changed_cell(alloc: Global, old: &[u8], new: &[u8]) -> Result<String, AllocError> {
-    if old == new {
-        format!(in alloc; "{}", Shown(old))
-    } else {
-        format!(in alloc; "{} -> {}", Shown(old), Shown(new))
+    let mut text = show_cell(alloc, old)?;
+    if old != new {
+        text.push_str(" -> ")?;
+        text.push_str(&show_cell(alloc, new)?)?;
     }
+    Ok(text)
 }

@@ -4,7 +4,7 @@ use crate::answers::{Answer, change, compare, join, merge};
 use crate::fault::{Fault, Reason};
 use crate::opened::{Opened, at};
 use crate::read::Content;
-use crate::request::{Format, Request, Settings};
+use crate::request::{Format, Kind, Request, Settings};
 use crate::sorted::{compare_sorted, join_sorted};
 use either_or_both::Either;
 use std::io::Write;
@@ -80,28 +80,59 @@ pub fn answer_request<'a, R: Files + Input + AllocGlobal>(
     request: Request<'a>,
 ) -> Result<Answer, Fault<'a>> {
     match request {
-        Request::Diff { old, new, format } => {
-            let (mut old, mut new) = open_two(rt, settings, old, new)?;
-            compare(rt.alloc(), settings, format, &mut old, &mut new)
-        }
-        Request::Apply { old, changes } => {
-            check_stdin(&[old, changes])?;
-            let mut old = open(rt, settings, Content::Rows, old)?;
-            let mut changes = open(rt, settings, Content::Changes, changes)?;
-            change(rt.alloc(), settings, &mut old, &mut changes)
-        }
-        Request::Merge { base, ours, theirs } => {
-            check_stdin(&[base, ours, theirs])?;
-            let mut base = open(rt, settings, Content::Rows, base)?;
-            let mut ours = open(rt, settings, Content::Rows, ours)?;
-            let mut theirs = open(rt, settings, Content::Rows, theirs)?;
-            merge(rt.alloc(), settings, &mut base, &mut ours, &mut theirs)
-        }
-        Request::Join { left, right, kind } => {
-            let (mut left, mut right) = open_two(rt, settings, left, right)?;
-            join(rt.alloc(), settings, kind, &mut left, &mut right)
-        }
+        Request::Diff { old, new, format } => answer_diff(rt, settings, format, old, new),
+        Request::Apply { old, changes } => answer_apply(rt, settings, old, changes),
+        Request::Merge { base, ours, theirs } => answer_merge(rt, settings, base, ours, theirs),
+        Request::Join { left, right, kind } => answer_join(rt, settings, kind, left, right),
     }
+}
+
+fn answer_diff<'a, R: Files + Input + AllocGlobal>(
+    rt: &R,
+    settings: Settings<'a>,
+    format: Format,
+    old: &'a str,
+    new: &'a str,
+) -> Result<Answer, Fault<'a>> {
+    let (mut old, mut new) = open_two(rt, settings, old, new)?;
+    compare(rt.alloc(), settings, format, &mut old, &mut new)
+}
+
+fn answer_apply<'a, R: Files + Input + AllocGlobal>(
+    rt: &R,
+    settings: Settings<'a>,
+    old: &'a str,
+    changes: &'a str,
+) -> Result<Answer, Fault<'a>> {
+    check_stdin(&[old, changes])?;
+    let mut old = open(rt, settings, Content::Rows, old)?;
+    let mut changes = open(rt, settings, Content::Changes, changes)?;
+    change(rt.alloc(), settings, &mut old, &mut changes)
+}
+
+fn answer_merge<'a, R: Files + Input + AllocGlobal>(
+    rt: &R,
+    settings: Settings<'a>,
+    base: &'a str,
+    ours: &'a str,
+    theirs: &'a str,
+) -> Result<Answer, Fault<'a>> {
+    check_stdin(&[base, ours, theirs])?;
+    let mut base = open(rt, settings, Content::Rows, base)?;
+    let mut ours = open(rt, settings, Content::Rows, ours)?;
+    let mut theirs = open(rt, settings, Content::Rows, theirs)?;
+    merge(rt.alloc(), settings, &mut base, &mut ours, &mut theirs)
+}
+
+fn answer_join<'a, R: Files + Input + AllocGlobal>(
+    rt: &R,
+    settings: Settings<'a>,
+    kind: Kind,
+    left: &'a str,
+    right: &'a str,
+) -> Result<Answer, Fault<'a>> {
+    let (mut left, mut right) = open_two(rt, settings, left, right)?;
+    join(rt.alloc(), settings, kind, &mut left, &mut right)
 }
 
 // One of the files at most is the standard input.

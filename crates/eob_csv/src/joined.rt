@@ -6,7 +6,7 @@ use crate::request::{Form, Kind};
 use crate::written::{Written, write_table};
 use either_or_both::EitherOrBoth;
 use either_or_both::join::outer_join;
-use eob_joins::{anti_join, inner_join, left_join, semi_join};
+use eob_joins::{anti_join, inner_join, left_join, right_join, semi_join};
 use eob_tables::{Cells, Group, Order, Rows};
 use std::alloc::Global;
 
@@ -66,10 +66,10 @@ impl Joining<'_> {
     }
 
     fn right(self, left: Table, right: Table) -> Result<Vec<u8>, Reason> {
-        let rows = left_join(self.alloc, right.pairs, left.pairs)?;
+        let rows = right_join(self.alloc, left.pairs, right.pairs)?;
         let rows = self.order.arrange(rows)?;
         let mut written = self.begin(false)?;
-        for (key, (b, a)) in &rows {
+        for (key, (a, b)) in &rows {
             put_rows(&mut written, self.columns, None, key, (a.as_ref(), Some(b)))?;
         }
         written.finish()

@@ -58,11 +58,15 @@ pub struct Line {
 /// Lines of cells.
 pub type Grid = Vec<Line>;
 
+/// A cell as text on one line.
+pub fn show_cell(alloc: Global, cell: &[u8]) -> Result<String, AllocError> {
+    format!(in alloc; "{}", Shown(cell))
+}
+
 /// Puts cells behind those of a line.
 pub fn put_shown(alloc: Global, line: &mut Line, cells: &[Vec<u8>]) -> Result<(), AllocError> {
     for cell in cells {
-        let shown = format!(in alloc; "{}", Shown(cell))?;
-        line.cells.push(shown)?;
+        line.cells.push(show_cell(alloc, cell)?)?;
     }
     Ok(())
 }

@@ -76,10 +76,10 @@ pub fn compare_sorted<'a, A: Read + Drop, B: Read + Drop, W: Write>(
     let columns = at(old.file, columns_of(alloc, settings, &headers))?;
     let said = ColumnChanges::new(alloc, &old.source.header, &new.source.header);
     let said = at(new.file, said)?;
-    let old = Parts::new(alloc, old, &columns)?;
-    let new = Parts::new(alloc, new, &columns)?;
+    let mut old = Parts::new(alloc, old, &columns)?;
+    let mut new = Parts::new(alloc, new, &columns)?;
     let work = Work::Changes(&columns);
-    let status = write_parts(alloc, settings.form, work, old, new, output)?;
+    let status = write_parts(alloc, settings.form, work, &mut old, &mut new, output)?;
     Ok(if said.has_lone { 1 } else { status })
 }
 
@@ -99,35 +99,47 @@ pub fn join_sorted<'a, A: Read + Drop, B: Read + Drop, W: Write>(
 ) -> Result<u8, Fault<'a>> {
     let columns = join_columns(alloc, settings, &left.source.header, &right.source.header);
     let columns = at(left.file, columns)?;
-    let left = Parts::new(alloc, left, &columns.left)?;
-    let right = Parts::new(alloc, right, &columns.right)?;
+    let mut left = Parts::new(alloc, left, &columns.left)?;
+    let mut right = Parts::new(alloc, right, &columns.right)?;
     let work = Work::Join(kind, &columns);
-    write_parts(alloc, settings.form, work, left, right, output)
+    write_parts(alloc, settings.form, work, &mut left, &mut right, output)
 }
 
 fn write_parts<'a, A: Read + Drop, B: Read + Drop, W: Write>(
     alloc: Global,
     mut form: Form,
     work: Work<'_>,
-    mut left: Parts<'a, A>,
-    mut right: Parts<'a, B>,
+    left: &mut Parts<'a, A>,
+    right: &mut Parts<'a, B>,
     output: &mut W,
 ) -> Result<u8, Fault<'a>> {
     let mut status = 0;
     for _ in 0..u64::MAX {
-        let (left_rows, right_rows, is_last) = next_part(&mut left, &mut right)?;
-        let part = work.answer(alloc, form, left_rows, right_rows);
-        let part = at(right.file, part)?;
-        at("the standard output", output.write_all(&part.bytes))?;
+        let (part_status, is_last) = write_part(alloc, form, work, left, right, output)?;
         // One header stands before all parts.
         form.has_header = false;
-        status = part.status.max(status);
+        status = part_status.max(status);
         if is_last {
             break;
         }
     }
     at("the standard output", output.flush())?;
     Ok(status)
+}
+
+// Writes what there is to say of the next part, and returns its status, and whether it is the last.
+fn write_part<'a, A: Read + Drop, B: Read + Drop, W: Write>(
+    alloc: Global,
+    form: Form,
+    work: Work<'_>,
+    left: &mut Parts<'a, A>,
+    right: &mut Parts<'a, B>,
+    output: &mut W,
+) -> Result<(u8, bool), Fault<'a>> {
+    let (left_rows, right_rows, is_last) = next_part(left, right)?;
+    let part = at(right.file, work.answer(alloc, form, left_rows, right_rows))?;
+    at("the standard output", output.write_all(&part.bytes))?;
+    Ok((part.status, is_last))
 }
 
 // The rows of both tables up to a key, and whether they are the last.

@@ -65,19 +65,19 @@ impl Written {
         self.end_row()
     }
 
-    // Puts rows under a key, with a sign before each.
-    fn put_signed(
+    // Puts the rows under a key, each behind a sign where there is one.
+    fn put_rows(
         &mut self,
-        sign: &[u8],
+        sign: Option<&[u8]>,
         columns: &Columns,
         key: &[Vec<u8>],
-        group: Option<&Group>,
+        rows: &[Cells],
     ) -> Result<(), Reason> {
-        if let Some(rows) = group {
-            for rest in rows {
+        for rest in rows {
+            if let Some(sign) = sign {
                 self.put_cell(sign)?;
-                self.put_row(columns, key, rest)?;
             }
+            self.put_row(columns, key, rest)?;
         }
         Ok(())
     }
@@ -95,9 +95,7 @@ pub fn write_table(
         written.put_row(columns, &columns.key, &columns.rest)?;
     }
     for row in rows {
-        for rest in &row.1 {
-            written.put_row(columns, &row.0, rest)?;
-        }
+        written.put_rows(None, columns, &row.0, &row.1)?;
     }
     written.finish()
 }
@@ -116,8 +114,12 @@ pub fn write_changes(
     }
     for row in changes {
         let (old, new) = row.1.as_ref().unzip();
-        written.put_signed(b"-", columns, &row.0, old)?;
-        written.put_signed(b"+", columns, &row.0, new)?;
+        if let Some(rows) = old {
+            written.put_rows(Some(b"-"), columns, &row.0, rows)?;
+        }
+        if let Some(rows) = new {
+            written.put_rows(Some(b"+"), columns, &row.0, rows)?;
+        }
     }
     written.finish()
 }
