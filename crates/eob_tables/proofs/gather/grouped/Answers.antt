@@ -1,4 +1,3 @@
-use Rattle.std.proofs.Common.{IsPermutation}
 use Rattle.std.proofs.lemmas.List.Sorted.{IsPermutation-trans}
 use Rattle.eob_tables.proofs.gather.grouped.Goals as goal
 

@@ -1,4 +1,4 @@
-use Rattle.std.proofs.Common.{rules, ◌≡◌, length, take, ap, sym, subst, ◌∙◌}
+use Rattle.std.proofs.Common.{rules, ◌≡◌, sym, subst}
 use Rattle.eob_walk.specs.Growth.{Extends}
 use Rattle.eob_walk.proofs.GrowthLemmas.{extends_same, take_extended}
 use Rattle.eob_walk.proofs.run.Answers.add.Goals as goal
