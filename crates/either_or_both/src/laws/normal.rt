@@ -56,7 +56,8 @@ pub fn regroup_in<L: Drop, R: Drop, A: Allocator + Copy>(
     line_up(alloc, left, right)
 }
 
-// The left values and the right values of a list. The vectors are made as long as they get, since growing them costs more than counting.
+// The left values and the right values of a list. No side is longer than the list, so neither vector grows, which would cost more than
+// the room that stays.
 fn split_sides<L: Drop, R: Drop, A: Allocator + Copy>(
     alloc: A,
     list: Vec<EitherOrBoth<L, R>, A>,
@@ -64,8 +65,8 @@ fn split_sides<L: Drop, R: Drop, A: Allocator + Copy>(
     ensures { IfOk result (λ sides. (sides.0.items ≡ lefts list.items)
         × (sides.1.items ≡ rights list.items)) }
 {
-    let mut left = Vec::with_capacity(alloc, count_lefts(&list))?;
-    let mut right = Vec::with_capacity(alloc, count_rights(&list))?;
+    let mut left = Vec::with_capacity(alloc, list.len())?;
+    let mut right = Vec::with_capacity(alloc, list.len())?;
     for value in list {
         match value {
             EitherOrBoth::Left(l) => left.push(l)?,
@@ -77,14 +78,6 @@ fn split_sides<L: Drop, R: Drop, A: Allocator + Copy>(
         }
     }
     Ok((left, right))
-}
-
-fn count_lefts<L, R>(list: &[EitherOrBoth<L, R>]) -> usize {
-    list.iter().filter(|value| value.has_left()).count()
-}
-
-fn count_rights<L, R>(list: &[EitherOrBoth<L, R>]) -> usize {
-    list.iter().filter(|value| value.has_right()).count()
 }
 
 // The values of both vectors side by side. Pushed one by one: std's collecting may take a refused request for the end.
