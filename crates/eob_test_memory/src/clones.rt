@@ -1,18 +1,18 @@
 //! Clones of both enums and of their walks, and clones of what references show.
 
 use crate::same::same;
+use crate::token::{Token, counted};
 use either_or_both::EitherOrBoth::{Both, Left, Right};
 use either_or_both::{Either, EitherOrBoth};
 use eob_testkit::memory::{RUNS, Refusing, Tokens};
 use std::alloc::{AllocError, Global};
 use std::fmt::Debug;
 use std::process::Abort;
-use std::rc::Rc;
 use std::test::Fail;
 
 type Memory<'a> = &'a Refusing<Global>;
 
-type List<'a> = Vec<Rc<u8>, Memory<'a>>;
+type List<'a> = Vec<Token, Memory<'a>>;
 
 fn shown<T: Debug>(alloc: Global, value: &T) -> Result<String, AllocError> {
     format!(in alloc; "{value:?}")
@@ -58,8 +58,8 @@ fn check<V: Clone + Debug + Drop>(
 fn list<'a>(memory: Memory<'a>, tokens: &Tokens) -> Result<List<'a>, AllocError> {
     memory.refuse(0);
     let mut list = Vec::new(memory);
-    list.push(tokens.one()?)?;
-    list.push(tokens.three()?)?;
+    list.push(counted(tokens, 1)?)?;
+    list.push(counted(tokens, 3)?)?;
     Ok(list)
 }
 
@@ -71,19 +71,38 @@ fn lists<'a>(
     Ok(Both(list(memory, tokens)?, list(memory, tokens)?))
 }
 
+// The same of a pair of lists, and of one list, each proved once for all variants.
+fn check_pair(
+    rt: &impl Abort,
+    alloc: Global,
+    memory: Memory,
+    tokens: &Tokens,
+    pair: EitherOrBoth<List, List>,
+) -> Result<(), Fail> {
+    check(rt, alloc, memory, tokens, pair)
+}
+
+fn check_one(
+    rt: &impl Abort,
+    alloc: Global,
+    memory: Memory,
+    tokens: &Tokens,
+    one: Either<List, List>,
+) -> Result<(), Fail> {
+    check(rt, alloc, memory, tokens, one)
+}
+
 /// Each variant of both enums: a clone is made whole, or where memory is refused is dropped.
 #[test]
 fn values_are_cloned(rt: HostRuntime) -> Result<(), Fail> {
     let alloc = rt.alloc();
     let m = &Refusing::new(alloc);
     let t = &Tokens::new(alloc)?;
-    let left = EitherOrBoth::<List, u8>::Left(list(m, t)?);
-    check(&rt, alloc, m, t, left)?;
-    check(&rt, alloc, m, t, lists(m, t)?)?;
-    let right = EitherOrBoth::<u8, List>::Right(list(m, t)?);
-    check(&rt, alloc, m, t, right)?;
-    check(&rt, alloc, m, t, Either::<List, u8>::Left(list(m, t)?))?;
-    check(&rt, alloc, m, t, Either::<u8, List>::Right(list(m, t)?))
+    check_pair(&rt, alloc, m, t, Left(list(m, t)?))?;
+    check_pair(&rt, alloc, m, t, lists(m, t)?)?;
+    check_pair(&rt, alloc, m, t, Right(list(m, t)?))?;
+    check_one(&rt, alloc, m, t, Either::Left(list(m, t)?))?;
+    check_one(&rt, alloc, m, t, Either::Right(list(m, t)?))
 }
 
 /// The same of the walks over both enums.

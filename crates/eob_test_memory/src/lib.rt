@@ -21,3 +21,7 @@ mod extending;
 mod many;
 #[cfg(test)]
 mod same;
+#[cfg(test)]
+mod shapes;
+#[cfg(test)]
+mod token;

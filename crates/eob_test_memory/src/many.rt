@@ -1,6 +1,6 @@
 //! Three hundred values a side in each shape of container, past its first tables: collected, collected again and cloned; regrouped,
 //! driven and joined, too. Each request is refused in turn.
-ghost use Rattle.std.specs.Prelude.{List};
+ghost use Rattle.std.specs.Prelude.{List, ◌≤◌};
 ghost use Rattle.eob_both.specs.declared.either_or_both.EitherOrBoth as enum;
 ghost use Rattle.either_or_both.specs.declared.either.Either as one;
 
@@ -22,7 +22,9 @@ type Memory<'a> = &'a Refusing<Global>;
 
 type Hasher = BuildHasherDefault<FoldHasher>;
 
-type One = Rc<u16>;
+// A number that many share, as a type with no parameter, over which the containers are proved with less.
+#[derive(Debug, Clone, PartialEq, Eq, PartialOrd, Ord, Hash, Drop)]
+struct One(Rc<u16>);
 
 type Entry = (One, One);
 
@@ -37,7 +39,7 @@ const FEW: u64 = 150;
 fn numbers(alloc: Global, first: u16) -> Result<Vec<One>, AllocError> {
     let mut numbers = Vec::new(alloc);
     for i in 0..MANY {
-        numbers.push(Rc::new(alloc, (i * 97 % 307).saturating_add(first))?)?;
+        numbers.push(One(Rc::new(alloc, (i * 97 % 307).saturating_add(first))?))?;
     }
     Ok(numbers)
 }
@@ -58,7 +60,7 @@ type Numbers<'a> = (&'a [One], &'a [One]);
 fn alive(numbers: Numbers) -> usize {
     let mut sum = 0usize;
     for number in numbers.0.iter().chain(numbers.1) {
-        sum = sum.saturating_add(Rc::strong_count(number));
+        sum = sum.saturating_add(Rc::strong_count(&number.0));
     }
     sum
 }
@@ -217,40 +219,119 @@ fn maps_are_collected_and_cloned(rt: HostRuntime) -> Result<(), Fail> {
     check::<BTreeMap<One, One, _>>(&rt, alloc, m, numbers, sides)
 }
 
+// The numbers side by side, as regrouping them gives them: a value has both while the right ones last.
+fn side_by_side(alloc: Global, numbers: Numbers) -> Result<Vec<EitherOrBoth<One>>, AllocError> {
+    let mut list = Vec::new(alloc);
+    for (i, l) in numbers.0.iter().enumerate() {
+        match numbers.1.get(i) {
+            Some(r) => list.push(Both(l.clone()?, r.clone()?))?,
+            None => list.push(Left(l.clone()?))?,
+        }
+    }
+    Ok(list)
+}
+
+// The left numbers, and then the right ones.
+fn in_turn<'a>(
+    memory: Memory<'a>,
+    numbers: Numbers,
+) -> Result<Vec<EitherOrBoth<One>, Memory<'a>>, AllocError> {
+    let mut list = Vec::new(memory);
+    for item in numbers.0 {
+        list.push(Left(item.clone()?))?;
+    }
+    for item in numbers.1 {
+        list.push(Right(item.clone()?))?;
+    }
+    Ok(list)
+}
+
+// Regroups the numbers with each request refused in turn.
+fn check_regrouped(
+    rt: &impl Abort,
+    memory: Memory,
+    numbers: Numbers,
+    want: &[EitherOrBoth<One>],
+) -> Result<(), Fail> {
+    let count = alive(numbers);
+    for number in 1..RUNS {
+        memory.refuse(0);
+        let list = in_turn(memory, numbers)?;
+        memory.refuse(number);
+        if let Some(whole) = memory.judge(regroup_in(memory, list))? {
+            same(rt, "regroup", &number, &whole.as_slice(), &want);
+            return Ok(());
+        }
+        same(rt, "values alive", &number, &alive(numbers), &count);
+    }
+    Err("each run was refused")?;
+    Ok(())
+}
+
 /// A list of three hundred left values and then two hundred right ones is regrouped into two hundred of both and the other left ones.
 #[test]
 fn lists_are_regrouped(rt: HostRuntime) -> Result<(), Fail> {
-    let memory = Refusing::new(rt.alloc());
-    let left = numbers(rt.alloc(), 0)?;
-    let mut right = numbers(rt.alloc(), 200)?;
+    let alloc = rt.alloc();
+    let left = numbers(alloc, 0)?;
+    let mut right = numbers(alloc, 200)?;
     right.truncate(200);
-    let mut want: Vec<EitherOrBoth<One>> = Vec::new(rt.alloc());
-    for (i, l) in left.iter().enumerate() {
-        match right.get(i) {
-            Some(r) => want.push(Both(l.clone()?, r.clone()?))?,
-            None => want.push(Left(l.clone()?))?,
+    let sides = (left.as_slice(), right.as_slice());
+    let want = side_by_side(alloc, sides)?;
+    check_regrouped(&rt, &Refusing::new(alloc), sides, &want)
+}
+
+type Rows<A> = Vec<(u16, One), A>;
+
+// Three hundred rows whose keys rise by this step.
+fn rows<'a>(memory: Memory<'a>, one: &One, step: u16) -> Result<Rows<Memory<'a>>, AllocError>
+    requires { step ≤ 3 }
+{
+    let mut rows = Vec::new(memory);
+    for i in 0..MANY {
+        rows.push((i * step, one.clone()?))?;
+    }
+    Ok(rows)
+}
+
+type Joined = Vec<(u16, EitherOrBoth<One>)>;
+
+// The join of three hundred even keys with three hundred keys that three divides.
+fn joined(alloc: Global, one: &One) -> Result<Joined, AllocError> {
+    let mut joined = Vec::new(alloc);
+    for key in 0..900u16 {
+        match (key % 2 == 0 && key < 600, key % 3 == 0) {
+            (true, false) => joined.push((key, Left(one.clone()?)))?,
+            (true, true) => joined.push((key, Both(one.clone()?, one.clone()?)))?,
+            (false, true) => joined.push((key, Right(one.clone()?)))?,
+            (false, false) => {}
         }
     }
-    let count = alive((&left, &right));
+    Ok(joined)
+}
+
+// Joins such rows with each request refused in turn.
+fn check_joined(
+    rt: &impl Abort,
+    memory: Memory,
+    one: &One,
+    want: &[(u16, EitherOrBoth<One>)],
+) -> Result<(), Fail> {
+    let count = Rc::strong_count(&one.0);
     for number in 1..RUNS {
         memory.refuse(0);
-        let mut list = Vec::new(&memory);
-        for item in &left {
-            list.push(Left(item.clone()?))?;
-        }
-        for item in &right {
-            list.push(Right(item.clone()?))?;
-        }
+        let left = rows(memory, one, 2)?;
+        let right = rows(memory, one, 3)?;
+        assert!(rt; is_rising(&left) && is_rising(&right));
         memory.refuse(number);
-        if let Some(whole) = memory.judge(regroup_in(&memory, list))? {
-            same(&rt, "regroup", &number, &whole.as_slice(), &want.as_slice());
+        if let Some(joined) = memory.judge(outer_join_in(memory, left, right))? {
+            same(rt, "outer_join", &number, &joined.as_slice(), &want);
             return Ok(());
         }
         same(
-            &rt,
+            rt,
             "values alive",
             &number,
-            &alive((&left, &right)),
+            &Rc::strong_count(&one.0),
             &count,
         );
     }
@@ -261,46 +342,8 @@ fn lists_are_regrouped(rt: HostRuntime) -> Result<(), Fail> {
 /// Three hundred keys a side, of which a hundred are on both, are joined.
 #[test]
 fn lists_are_joined(rt: HostRuntime) -> Result<(), Fail> {
-    let memory = Refusing::new(rt.alloc());
-    let one = Rc::new(rt.alloc(), 1u16)?;
-    let mut want: Vec<(u16, EitherOrBoth<One>)> = Vec::new(rt.alloc());
-    for key in 0..900u16 {
-        match (key % 2 == 0 && key < 600, key % 3 == 0) {
-            (true, false) => want.push((key, Left(one.clone()?)))?,
-            (true, true) => want.push((key, Both(one.clone()?, one.clone()?)))?,
-            (false, true) => want.push((key, Right(one.clone()?)))?,
-            (false, false) => {}
-        }
-    }
-    let count = Rc::strong_count(&one);
-    for number in 1..RUNS {
-        memory.refuse(0);
-        let mut left = Vec::new(&memory);
-        let mut right = Vec::new(&memory);
-        for i in 0..MANY {
-            left.push((i * 2, one.clone()?))?;
-            right.push((i * 3, one.clone()?))?;
-        }
-        assert!(rt; is_rising(&left) && is_rising(&right));
-        memory.refuse(number);
-        if let Some(joined) = memory.judge(outer_join_in(&memory, left, right))? {
-            same(
-                &rt,
-                "outer_join",
-                &number,
-                &joined.as_slice(),
-                &want.as_slice(),
-            );
-            return Ok(());
-        }
-        same(
-            &rt,
-            "values alive",
-            &number,
-            &Rc::strong_count(&one),
-            &count,
-        );
-    }
-    Err("each run was refused")?;
-    Ok(())
+    let alloc = rt.alloc();
+    let one = One(Rc::new(alloc, 1u16)?);
+    let want = joined(alloc, &one)?;
+    check_joined(&rt, &Refusing::new(alloc), &one, &want)
 }
