@@ -1,8 +1,8 @@
 //! Tests: conversions from tuples, options, results and the other enum.
 
+use crate::same::same;
 use either_or_both::EitherOrBoth::{Both, Left, Right};
 use either_or_both::{Either, EitherOrBoth, TryFromOptionsError};
-use eob_testkit::rows::check_made;
 use std::test::Fail;
 
 type Value = EitherOrBoth<u8, char>;
@@ -45,11 +45,19 @@ static OF_EITHER: [(Either<u8, char>, Value); 2] = [
 
 /// The values of a tuple go to their places, where None is an absent place. Two absent places are refused.
 #[test]
-fn values_of_tuples_go_to_their_places() -> Result<(), Fail> {
-    check_made("from", &OF_TUPLE, |tuple| Value::from(tuple))?;
-    check_made("from", &OF_LEFT_OPTION, |tuple| Value::from(tuple))?;
-    check_made("from", &OF_RIGHT_OPTION, |tuple| Value::from(tuple))?;
-    check_made("try_from", &OF_OPTIONS, |tuple| Value::try_from(tuple))
+fn values_of_tuples_go_to_their_places(rt: HostRuntime) {
+    for (tuple, want) in &OF_TUPLE {
+        same(&rt, "from", tuple, &Value::from(*tuple), want);
+    }
+    for (tuple, want) in &OF_LEFT_OPTION {
+        same(&rt, "from", tuple, &Value::from(*tuple), want);
+    }
+    for (tuple, want) in &OF_RIGHT_OPTION {
+        same(&rt, "from", tuple, &Value::from(*tuple), want);
+    }
+    for (tuple, want) in &OF_OPTIONS {
+        same(&rt, "try_from", tuple, &Value::try_from(*tuple), want);
+    }
 }
 
 /// The refusal says what is missing.
@@ -65,9 +73,17 @@ fn refusal_says_what_is_missing(rt: HostRuntime) -> Result<(), Fail> {
 
 /// The value of an Ok is the right one and an error the left one. An `Either` keeps its place in an `EitherOrBoth`.
 #[test]
-fn results_and_either_keep_their_places() -> Result<(), Fail> {
-    check_made("from", &OF_NUMBERS, |answer| Either::from(answer))?;
-    check_made("from", &OF_ERROR, |answer| Either::from(answer))?;
-    check_made("from", &OF_RESULT, |answer| Either::from(answer))?;
-    check_made("from", &OF_EITHER, |value| EitherOrBoth::from(value))
+fn results_and_either_keep_their_places(rt: HostRuntime) {
+    for (answer, want) in &OF_NUMBERS {
+        same(&rt, "from", answer, &Either::from(*answer), want);
+    }
+    for (answer, want) in &OF_ERROR {
+        same(&rt, "from", answer, &Either::from(*answer), want);
+    }
+    for (answer, want) in &OF_RESULT {
+        same(&rt, "from", answer, &Either::from(*answer), want);
+    }
+    for (value, want) in &OF_EITHER {
+        same(&rt, "from", value, &EitherOrBoth::from(*value), want);
+    }
 }

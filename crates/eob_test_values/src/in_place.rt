@@ -1,10 +1,11 @@
 //! Tests: a value put beside the one that is there, and values replaced.
 
 use crate::counted::{Counted, Tally};
-use crate::same::same;
+use crate::owned::check_owned;
+use crate::same::{same, same_calls};
 use either_or_both::EitherOrBoth::{Both, Left, Right};
 use either_or_both::{Either, EitherOrBoth};
-use eob_testkit::rows::{Calls, check_changed};
+use eob_testkit::rows::Calls;
 use std::alloc::{AllocError, Global};
 use std::test::Fail;
 
@@ -97,11 +98,11 @@ fn left_insertion_answers_its_place(rt: HostRuntime) {
         let mut changed = value;
         let shown = *inserted_left(call, &mut changed, &calls);
         same(&rt, call, &value, &(shown, changed), &(want, after));
-        same(&rt, call, &value, &calls.take().as_str(), &want_calls);
+        same_calls(&rt, call, &value, &calls, want_calls);
         let mut changed = value;
         *inserted_left(call, &mut changed, &calls) = 8;
         same(&rt, call, &value, &changed, &written);
-        same(&rt, call, &value, &calls.take().as_str(), &want_calls);
+        same_calls(&rt, call, &value, &calls, want_calls);
     }
 }
 
@@ -114,11 +115,11 @@ fn right_insertion_answers_its_place(rt: HostRuntime) {
         let mut changed = value;
         let shown = *inserted_right(call, &mut changed, &calls);
         same(&rt, call, &value, &(shown, changed), &(want, after));
-        same(&rt, call, &value, &calls.take().as_str(), &want_calls);
+        same_calls(&rt, call, &value, &calls, want_calls);
         let mut changed = value;
         *inserted_right(call, &mut changed, &calls) = 'd';
         same(&rt, call, &value, &changed, &written);
-        same(&rt, call, &value, &calls.take().as_str(), &want_calls);
+        same_calls(&rt, call, &value, &calls, want_calls);
     }
 }
 
@@ -166,80 +167,104 @@ static EITHER_REPLACED_RIGHT: [(Either<u8, char>, Option<char>, Either<u8, char>
 
 /// A replacement answers what was there and changes a place that is present. An absent place stays absent.
 #[test]
-fn replacement_answers_what_was_there() -> Result<(), Fail> {
-    check_changed(
-        "replace_any",
-        &REPLACED_ANY,
-        |value| value.replace_any(5, 'm'),
-    )?;
-    check_changed(
-        "replace_any",
-        &REPLACED_NUMBERS,
-        |value| value.replace_any(5, 6),
-    )?;
-    check_changed(
-        "replace_left",
-        &REPLACED_LEFT,
-        |value| value.replace_left(5),
-    )?;
-    check_changed(
-        "replace_right",
-        &REPLACED_RIGHT,
-        |value| value.replace_right('m'),
-    )?;
-    check_changed(
-        "replace_left",
-        &EITHER_REPLACED_LEFT,
-        |value| value.replace_left(5),
-    )?;
-    check_changed(
-        "replace_right",
-        &EITHER_REPLACED_RIGHT,
-        |value| value.replace_right('m'),
-    )
+fn replacement_answers_what_was_there(rt: HostRuntime) {
+    for (value, want, after) in &REPLACED_ANY {
+        let mut changed = *value;
+        same(
+            &rt,
+            "replace_any",
+            value,
+            &changed.replace_any(5, 'm'),
+            want,
+        );
+        same(&rt, "replace_any", value, &changed, after);
+    }
+    for (value, want, after) in &REPLACED_NUMBERS {
+        let mut changed = *value;
+        same(&rt, "replace_any", value, &changed.replace_any(5, 6), want);
+        same(&rt, "replace_any", value, &changed, after);
+    }
+    for (value, want, after) in &REPLACED_LEFT {
+        let mut changed = *value;
+        same(&rt, "replace_left", value, &changed.replace_left(5), want);
+        same(&rt, "replace_left", value, &changed, after);
+    }
+    for (value, want, after) in &REPLACED_RIGHT {
+        let mut changed = *value;
+        same(
+            &rt,
+            "replace_right",
+            value,
+            &changed.replace_right('m'),
+            want,
+        );
+        same(&rt, "replace_right", value, &changed, after);
+    }
 }
 
-// Both values, with memory of their own.
-fn owned(
-    alloc: Global,
-    text: &str,
-    numbers: &[u8],
-) -> Result<EitherOrBoth<String, Vec<u8>>, AllocError> {
-    Ok(Both(String::from_str(alloc, text)?, numbers.to_vec(alloc)?))
-}
-
-/// A value that is put beside one with memory of its own leaves that one whole.
+/// The same of `Either`.
 #[test]
-fn insertion_leaves_the_other_value_whole(rt: HostRuntime) -> Result<(), Fail> {
+fn replacement_in_either_answers_what_was_there(rt: HostRuntime) {
+    for (value, want, after) in &EITHER_REPLACED_LEFT {
+        let mut changed = *value;
+        same(&rt, "replace_left", value, &changed.replace_left(5), want);
+        same(&rt, "replace_left", value, &changed, after);
+    }
+    for (value, want, after) in &EITHER_REPLACED_RIGHT {
+        let mut changed = *value;
+        same(
+            &rt,
+            "replace_right",
+            value,
+            &changed.replace_right('m'),
+            want,
+        );
+        same(&rt, "replace_right", value, &changed, after);
+    }
+}
+
+/// A text that is put beside numbers leaves them whole, each with memory of its own.
+#[test]
+fn insertion_on_the_left_leaves_the_other_value_whole(rt: HostRuntime) -> Result<(), Fail> {
     let alloc = rt.alloc();
     let mut value: EitherOrBoth<String, Vec<u8>> = Right(vec![in alloc; 1, 2]?);
     value
         .insert_left(String::from_str(alloc, "seven")?)
         .push('!')?;
-    same(
+    check_owned(
         &rt,
-        "insert_left",
-        &"Right",
+        alloc,
+        "insert_left on Right",
         &value,
-        &owned(alloc, "seven!", &[1, 2])?,
-    );
+        "seven!",
+        &[1, 2],
+    )?;
+    Ok(())
+}
+
+/// So do numbers that are put beside a text, and a text that takes the place of another one.
+#[test]
+fn insertion_leaves_the_other_value_whole(rt: HostRuntime) -> Result<(), Fail> {
+    let alloc = rt.alloc();
     let mut value: EitherOrBoth<String, Vec<u8>> = Left(String::from_str(alloc, "seven")?);
     value.insert_right(vec![in alloc; 1, 2]?).push(3)?;
-    same(
+    check_owned(
         &rt,
-        "insert_right",
-        &"Left",
+        alloc,
+        "insert_right on Left",
         &value,
-        &owned(alloc, "seven", &[1, 2, 3])?,
-    );
+        "seven",
+        &[1, 2, 3],
+    )?;
     value.insert_left(String::from_str(alloc, "eight")?);
-    same(
+    check_owned(
         &rt,
-        "insert_left",
-        &"Both",
+        alloc,
+        "insert_left on Both",
         &value,
-        &owned(alloc, "eight", &[1, 2, 3])?,
-    );
+        "eight",
+        &[1, 2, 3],
+    )?;
     Ok(())
 }
 

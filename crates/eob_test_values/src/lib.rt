@@ -15,6 +15,8 @@ mod in_place;
 #[cfg(test)]
 mod order;
 #[cfg(test)]
+mod owned;
+#[cfg(test)]
 mod queries;
 #[cfg(test)]
 mod references;

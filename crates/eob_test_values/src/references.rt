@@ -1,11 +1,13 @@
 //! Tests: references to the places of a value, and clones and copies of what references point to.
 
 use crate::counted::{Counted, Tally};
+use crate::owned::{check_owned, owned};
 use crate::same::same;
 use either_or_both::EitherOrBoth::{Both, Left, Right};
 use either_or_both::{Either, EitherOrBoth};
 use std::alloc::{AllocError, Global};
 use std::mem;
+use std::process::Abort;
 use std::test::Fail;
 
 /// A value, references to its places, and what it holds once 10 and 'm' are written through such references.
@@ -46,26 +48,41 @@ fn boxed(
     })
 }
 
+// References point to the held values, and what is written through them is held.
+fn check_lent(rt: &impl Abort, (value, references, written): &Row) {
+    same(rt, "as_ref", value, &value.as_ref(), references);
+    let mut changed = *value;
+    let was = write(changed.as_mut(), 10, 'm');
+    same(rt, "as_mut", value, &(was, changed), &(*value, *written));
+}
+
+// The same of references to what boxes hold.
+fn check_boxed(
+    rt: &impl Abort,
+    alloc: Global,
+    (value, references, written): &Row,
+) -> Result<(), AllocError> {
+    let mut boxes = boxed(alloc, *value)?;
+    same(rt, "as_deref", value, &boxes.as_deref(), references);
+    let was = write(boxes.as_deref_mut(), 10, 'm');
+    same(rt, "as_deref_mut", value, &was, value);
+    same(rt, "as_deref_mut", value, &boxes, &boxed(alloc, *written)?);
+    Ok(())
+}
+
 /// References point to the held values or to their targets, and what is written through them is what is held afterwards.
 #[test]
 fn references_point_to_what_is_held(rt: HostRuntime) -> Result<(), Fail> {
-    for (value, references, written) in &OF_EITHER_OR_BOTH {
-        same(&rt, "as_ref", value, &value.as_ref(), references);
-        let mut changed = *value;
-        let was = write(changed.as_mut(), 10, 'm');
-        same(&rt, "as_mut", value, &(was, changed), &(*value, *written));
-        let mut boxes = boxed(rt.alloc(), *value)?;
-        same(&rt, "as_deref", value, &boxes.as_deref(), references);
-        let was = write(boxes.as_deref_mut(), 10, 'm');
-        same(&rt, "as_deref_mut", value, &was, value);
-        same(
-            &rt,
-            "as_deref_mut",
-            value,
-            &boxes,
-            &boxed(rt.alloc(), *written)?,
-        );
+    for row in &OF_EITHER_OR_BOTH {
+        check_lent(&rt, row);
+        check_boxed(&rt, rt.alloc(), row)?;
     }
+    Ok(())
+}
+
+/// The same of two numbers.
+#[test]
+fn references_point_to_both_numbers(rt: HostRuntime) {
     let mut numbers = Both(1, 2);
     let was = write(numbers.as_mut(), 10, 20);
     same(
@@ -75,22 +92,17 @@ fn references_point_to_what_is_held(rt: HostRuntime) -> Result<(), Fail> {
         &(was, numbers),
         &(Both(1, 2), Both(10, 20)),
     );
+}
+
+/// The same of a lone number in a box.
+#[test]
+fn references_point_to_a_number_in_a_box(rt: HostRuntime) -> Result<(), Fail> {
     let mut number = boxed(rt.alloc(), Left(3))?;
     same(&rt, "as_deref", &"Left(3)", &number.as_deref(), &Left(&3));
-    same(
-        &rt,
-        "as_deref_mut",
-        &"Left(3)",
-        &write(number.as_deref_mut(), 4, 'm'),
-        &Left(3),
-    );
-    same(
-        &rt,
-        "as_deref_mut",
-        &"Left(3)",
-        &number,
-        &boxed(rt.alloc(), Left(4))?,
-    );
+    let was = write(number.as_deref_mut(), 4, 'm');
+    same(&rt, "as_deref_mut", &"Left(3)", &was, &Left(3));
+    let want = boxed(rt.alloc(), Left(4))?;
+    same(&rt, "as_deref_mut", &"Left(3)", &number, &want);
     Ok(())
 }
 
@@ -110,15 +122,6 @@ fn copies_hold_what_references_show(rt: HostRuntime) -> Result<(), Fail> {
         same(&rt, "copied, cloned and clone", value, &made, &[*value; 6]);
     }
     Ok(())
-}
-
-// Both values, with memory of their own.
-fn owned(
-    alloc: Global,
-    text: &str,
-    numbers: &[u8],
-) -> Result<EitherOrBoth<String, Vec<u8>>, AllocError> {
-    Ok(Both(String::from_str(alloc, text)?, numbers.to_vec(alloc)?))
 }
 
 // Adds a letter and a number to what is held.
@@ -144,10 +147,21 @@ fn clone_has_memory_of_its_own(rt: HostRuntime) -> Result<(), Fail> {
     let value = owned(alloc, "a", &[1])?;
     let mut copy = value.clone()?;
     extend(&mut copy)?;
-    let want = owned(alloc, "ab", &[1, 2])?;
-    same(&rt, "clone, written", &value, &copy, &want);
-    let want = owned(alloc, "a", &[1])?;
-    same(&rt, "clone, not written", &copy, &value, &want);
+    check_owned(&rt, alloc, "clone, written", &copy, "ab", &[1, 2])?;
+    check_owned(&rt, alloc, "clone, not written", &value, "a", &[1])?;
+    Ok(())
+}
+
+// The value holds these numbers on the right.
+fn check_numbers(
+    rt: &impl Abort,
+    alloc: Global,
+    call: &str,
+    value: &Either<String, Vec<u8>>,
+    numbers: &[u8],
+) -> Result<(), AllocError> {
+    let want = Either::Right(numbers.to_vec(alloc)?);
+    same(rt, call, &"numbers", value, &want);
     Ok(())
 }
 
@@ -158,10 +172,8 @@ fn clone_of_either_has_memory_of_its_own(rt: HostRuntime) -> Result<(), Fail> {
     let value: Either<String, Vec<u8>> = Either::Right(vec![in alloc; 1]?);
     let mut copy = value.clone()?;
     extend_either(&mut copy)?;
-    let want = Either::Right(vec![in alloc; 1, 2]?);
-    same(&rt, "clone, written", &value, &copy, &want);
-    let want = Either::Right(vec![in alloc; 1]?);
-    same(&rt, "clone, not written", &copy, &value, &want);
+    check_numbers(&rt, alloc, "clone, written", &copy, &[1, 2])?;
+    check_numbers(&rt, alloc, "clone, not written", &value, &[1])?;
     Ok(())
 }
 
@@ -268,29 +280,44 @@ fn boxed_either(
     })
 }
 
+// A reference points to the held value, and what is written through it is held.
+fn check_lent_either(rt: &impl Abort, (value, reference, written): &EitherRow) {
+    same(rt, "as_ref", value, &value.as_ref(), reference);
+    same(rt, "from", value, &Either::from(value), reference);
+    let mut changed = *value;
+    let was = write_either(changed.as_mut(), 10, 'm');
+    same(rt, "as_mut", value, &(was, changed), &(*value, *written));
+    let mut converted = *value;
+    let was = write_either(Either::from(&mut converted), 10, 'm');
+    same(rt, "from", value, &(was, converted), &(*value, *written));
+}
+
+// The same of a reference to what a box holds.
+fn check_boxed_either(
+    rt: &impl Abort,
+    alloc: Global,
+    (value, reference, written): &EitherRow,
+) -> Result<(), AllocError> {
+    let mut boxes = boxed_either(alloc, *value)?;
+    same(rt, "as_deref", value, &boxes.as_deref(), reference);
+    let was = write_either(boxes.as_deref_mut(), 10, 'm');
+    same(rt, "as_deref_mut", value, &was, value);
+    same(
+        rt,
+        "as_deref_mut",
+        value,
+        &boxes,
+        &boxed_either(alloc, *written)?,
+    );
+    Ok(())
+}
+
 /// A reference points to the held value or to its target, and what is written through it is what is held afterwards.
 #[test]
 fn reference_points_to_the_held_value(rt: HostRuntime) -> Result<(), Fail> {
-    for (value, reference, written) in &OF_EITHER {
-        same(&rt, "as_ref", value, &value.as_ref(), reference);
-        same(&rt, "from", value, &Either::from(value), reference);
-        let mut changed = *value;
-        let was = write_either(changed.as_mut(), 10, 'm');
-        same(&rt, "as_mut", value, &(was, changed), &(*value, *written));
-        let mut converted = *value;
-        let was = write_either(Either::from(&mut converted), 10, 'm');
-        same(&rt, "from", value, &(was, converted), &(*value, *written));
-        let mut boxes = boxed_either(rt.alloc(), *value)?;
-        same(&rt, "as_deref", value, &boxes.as_deref(), reference);
-        let was = write_either(boxes.as_deref_mut(), 10, 'm');
-        same(&rt, "as_deref_mut", value, &was, value);
-        same(
-            &rt,
-            "as_deref_mut",
-            value,
-            &boxes,
-            &boxed_either(rt.alloc(), *written)?,
-        );
+    for row in &OF_EITHER {
+        check_lent_either(&rt, row);
+        check_boxed_either(&rt, rt.alloc(), row)?;
     }
     Ok(())
 }

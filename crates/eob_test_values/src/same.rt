@@ -1,5 +1,6 @@
 //! One comparison of what a call answers with what is wanted, proved once for all types.
 
+use eob_testkit::rows::Calls;
 use std::fmt::Debug;
 use std::process::Abort;
 
@@ -12,4 +13,9 @@ pub fn same<T: PartialEq + Debug>(
     want: &T,
 ) {
     assert_eq!(rt; *came, *want, "{call} of {input:?}");
+}
+
+/// Fails unless the closures of a call were called as was wanted, and forgets their calls.
+pub fn same_calls(rt: &impl Abort, call: &str, input: &impl Debug, calls: &Calls, want: &str) {
+    same(rt, call, input, &calls.take().as_str(), &want);
 }

@@ -76,7 +76,7 @@ fn pointer_shows_and_changes_its_target(rt: HostRuntime) -> Result<(), Fail> {
     Ok(())
 }
 
-/// What is written is what the side then holds.
+/// Bytes that are written are what the side then holds.
 #[test]
 fn side_holds_what_is_written(rt: HostRuntime) -> Result<(), Fail> {
     let alloc = rt.alloc();
@@ -84,74 +84,77 @@ fn side_holds_what_is_written(rt: HostRuntime) -> Result<(), Fail> {
         let mut writer = held(is_left, Cursor::new(Vec::new(alloc)));
         let count = writer.write(&[1, 2])?;
         writer.flush()?;
-        same(
-            &rt,
-            "write",
-            &is_left,
-            &(count, writer.is_left()),
-            &(2, is_left),
-        );
+        let came = (count, writer.is_left());
+        same(&rt, "write", &is_left, &came, &(2, is_left));
         let bytes = writer.reduce().into_inner();
-        same(
-            &rt,
-            "write",
-            &is_left,
-            &bytes.as_slice(),
-            &[1, 2].as_slice(),
-        );
-
-        let mut text = held(is_left, String::new(alloc));
-        fmt::Write::write_str(&mut text, "ab")?;
-        same(
-            &rt,
-            "write_str",
-            &is_left,
-            &text,
-            &held(is_left, "ab".to_string(alloc)?),
-        );
-        fmt::Write::write_fmt(&mut text, format_args!("{}-{:>3}", 7, 'c'))?;
-        same(
-            &rt,
-            "write_fmt",
-            &is_left,
-            &text,
-            &held(is_left, "ab7-  c".to_string(alloc)?),
-        );
+        let want = [1, 2].as_slice();
+        same(&rt, "write", &is_left, &bytes.as_slice(), &want);
     }
     Ok(())
 }
 
-/// A line, the rest and a place of a text.
+/// Texts that are written are what the side then holds.
 #[test]
-fn line_rest_and_place_are_read(rt: HostRuntime) -> Result<(), Fail> {
+fn side_holds_the_texts_that_are_written(rt: HostRuntime) -> Result<(), Fail> {
     let alloc = rt.alloc();
-    let text = "hello\nworld";
     for is_left in SIDES {
-        let mut line = Vec::new(alloc);
-        let mut reader = held(is_left, Cursor::new(text));
+        let mut text = held(is_left, String::new(alloc));
+        fmt::Write::write_str(&mut text, "ab")?;
+        check_text(&rt, alloc, "write_str", &text, (is_left, "ab"))?;
+        fmt::Write::write_fmt(&mut text, format_args!("{}-{:>3}", 7, 'c'))?;
+        check_text(&rt, alloc, "write_fmt", &text, (is_left, "ab7-  c"))?;
+    }
+    Ok(())
+}
+
+// This side holds this text.
+fn check_text(
+    rt: &impl Abort,
+    alloc: Global,
+    call: &str,
+    text: &Either<String, String>,
+    (is_left, want): (bool, &str),
+) -> Result<(), AllocError> {
+    let want = held(is_left, want.to_string(alloc)?);
+    same(rt, call, &is_left, text, &want);
+    Ok(())
+}
+
+const TEXT: &str = "hello\nworld";
+
+/// A line of a text.
+#[test]
+fn line_is_read(rt: HostRuntime) -> Result<(), Fail> {
+    for is_left in SIDES {
+        let mut line = Vec::new(rt.alloc());
+        let mut reader = held(is_left, Cursor::new(TEXT));
         let count = reader.read_until(10, &mut line)?;
+        let came = (count, line.as_slice());
         let want = (6, b"hello\n".as_slice());
-        same(
-            &rt,
-            "read_until",
-            &is_left,
-            &(count, line.as_slice()),
-            &want,
-        );
+        same(&rt, "read_until", &is_left, &came, &want);
+    }
+    Ok(())
+}
 
-        let mut whole = Vec::new(alloc);
-        let mut reader = held(is_left, Cursor::new(text));
+/// The whole of it.
+#[test]
+fn rest_is_read(rt: HostRuntime) -> Result<(), Fail> {
+    for is_left in SIDES {
+        let mut whole = Vec::new(rt.alloc());
+        let mut reader = held(is_left, Cursor::new(TEXT));
         let count = reader.read_to_end(&mut whole)?;
-        let want = (11, text.as_bytes());
-        same(
-            &rt,
-            "read_to_end",
-            &is_left,
-            &(count, whole.as_slice()),
-            &want,
-        );
+        let came = (count, whole.as_slice());
+        let want = (11, TEXT.as_bytes());
+        same(&rt, "read_to_end", &is_left, &came, &want);
+    }
+    Ok(())
+}
 
-        let mut seeker = held(is_left, Cursor::new(text));
+/// A place in it.
+#[test]
+fn place_is_sought(rt: HostRuntime) -> Result<(), Fail> {
+    for is_left in SIDES {
+        let mut seeker = held(is_left, Cursor::new(TEXT));
         let places = (
             seeker.seek(SeekFrom::End(-5))?,
             seeker.stream_position()?,

@@ -1,9 +1,9 @@
 //! Tests: transpositions of tuples, options and results that the places of a value hold.
 
+use crate::same::{same, same_calls};
 use either_or_both::EitherOrBoth::{Both, Left, Right};
 use either_or_both::{Either, EitherOrBoth};
-use eob_testkit::rows::{Calls, check_made, check_noted};
-use std::test::Fail;
+use eob_testkit::rows::Calls;
 
 // The sum of two numbers, after a note of the call.
 fn sum(calls: &Calls, left: u8, right: u8) -> u8 {
@@ -56,16 +56,24 @@ static SECONDS: [(NumbersSecond, (EitherOrBoth<char>, u8), &str); 3] = [
 /// Of tuples, the first parts and the second parts keep the places of their tuples. The form for one side makes one value of
 /// the parts of that side, by its closure where there are two.
 #[test]
-fn parts_of_tuples_keep_their_places(rt: HostRuntime) -> Result<(), Fail> {
-    let alloc = rt.alloc();
-    check_made("transpose", &TUPLES, |value| value.transpose())?;
-    check_made("transpose", &LIKE_TUPLES, |value| value.transpose())?;
-    check_noted(alloc, "transpose_left", &FIRSTS, |value, calls| {
-        value.transpose_left(|a, b| sum(calls, a, b))
-    })?;
-    check_noted(alloc, "transpose_right", &SECONDS, |value, calls| {
-        value.transpose_right(|a, b| sum(calls, a, b))
-    })
+fn parts_of_tuples_keep_their_places(rt: HostRuntime) {
+    for (value, want) in &TUPLES {
+        same(&rt, "transpose", value, &value.transpose(), want);
+    }
+    for (value, want) in &LIKE_TUPLES {
+        same(&rt, "transpose", value, &value.transpose(), want);
+    }
+    let calls = Calls::new(rt.alloc());
+    for (value, want, want_calls) in &FIRSTS {
+        let came = value.transpose_left(|a, b| sum(&calls, a, b));
+        same(&rt, "transpose_left", value, &came, want);
+        same_calls(&rt, "transpose_left", value, &calls, want_calls);
+    }
+    for (value, want, want_calls) in &SECONDS {
+        let came = value.transpose_right(|a, b| sum(&calls, a, b));
+        same(&rt, "transpose_right", value, &came, want);
+        same_calls(&rt, "transpose_right", value, &calls, want_calls);
+    }
 }
 
 type Options = EitherOrBoth<Option<u8>, Option<char>>;
@@ -137,16 +145,24 @@ static CONTENTS: [(Numbers, Result<u8, Errors>, &str); 8] = [
 /// Of options, None where a place holds None. Of results, the errors in the places that err. The forms for one side make one
 /// value of two errors or of two contents, by their closure.
 #[test]
-fn options_and_results_change_places(rt: HostRuntime) -> Result<(), Fail> {
-    let alloc = rt.alloc();
-    check_made("transpose", &OPTIONS, |value| value.transpose())?;
-    check_made("transpose", &RESULTS, |value| value.transpose())?;
-    check_noted(alloc, "transpose_err", &ERRORS, |value, calls| {
-        value.transpose_err(|a, b| sum(calls, a, b))
-    })?;
-    check_noted(alloc, "transpose_ok", &CONTENTS, |value, calls| {
-        value.transpose_ok(|a, b| sum(calls, a, b))
-    })
+fn options_and_results_change_places(rt: HostRuntime) {
+    for (value, want) in &OPTIONS {
+        same(&rt, "transpose", value, &value.transpose(), want);
+    }
+    for (value, want) in &RESULTS {
+        same(&rt, "transpose", value, &value.transpose(), want);
+    }
+    let calls = Calls::new(rt.alloc());
+    for (value, want, want_calls) in &ERRORS {
+        let came = value.transpose_err(|a, b| sum(&calls, a, b));
+        same(&rt, "transpose_err", value, &came, want);
+        same_calls(&rt, "transpose_err", value, &calls, want_calls);
+    }
+    for (value, want, want_calls) in &CONTENTS {
+        let came = value.transpose_ok(|a, b| sum(&calls, a, b));
+        same(&rt, "transpose_ok", value, &came, want);
+        same_calls(&rt, "transpose_ok", value, &calls, want_calls);
+    }
 }
 
 type EitherPairs = Either<(u8, char), (char, &'static str)>;
@@ -173,18 +189,22 @@ static EITHER_SECONDS: [(Either<(u8, char), (char, char)>, (Either<u8, char>, ch
 
 /// Of a tuple, both parts keep its place, but for the part of the side whose form is called.
 #[test]
-fn parts_of_a_tuple_keep_its_place() -> Result<(), Fail> {
-    check_made("transpose", &EITHER_TUPLES, |value| value.transpose())?;
-    check_made(
-        "transpose_left",
-        &EITHER_FIRSTS,
-        |value| value.transpose_left(),
-    )?;
-    check_made(
-        "transpose_right",
-        &EITHER_SECONDS,
-        |value| value.transpose_right(),
-    )
+fn parts_of_a_tuple_keep_its_place(rt: HostRuntime) {
+    for (value, want) in &EITHER_TUPLES {
+        same(&rt, "transpose", value, &value.transpose(), want);
+    }
+    for (value, want) in &EITHER_FIRSTS {
+        same(&rt, "transpose_left", value, &value.transpose_left(), want);
+    }
+    for (value, want) in &EITHER_SECONDS {
+        same(
+            &rt,
+            "transpose_right",
+            value,
+            &value.transpose_right(),
+            want,
+        );
+    }
 }
 
 static EITHER_OPTIONS: [(Either<Option<u8>, Option<char>>, Option<Either<u8, char>>); 4] = [
@@ -222,17 +242,17 @@ static EITHER_CONTENTS: [(EitherNumbers, Result<u8, Either<char, &str>>); 4] = [
 /// Of an option, None where it is None. Of a result, its content or its error in its place, but for the side whose form is
 /// called.
 #[test]
-fn option_and_result_of_either_change_places() -> Result<(), Fail> {
-    check_made("transpose", &EITHER_OPTIONS, |value| value.transpose())?;
-    check_made("transpose", &EITHER_RESULTS, |value| value.transpose())?;
-    check_made(
-        "transpose_err",
-        &EITHER_ERRORS,
-        |value| value.transpose_err(),
-    )?;
-    check_made(
-        "transpose_ok",
-        &EITHER_CONTENTS,
-        |value| value.transpose_ok(),
-    )
+fn option_and_result_of_either_change_places(rt: HostRuntime) {
+    for (value, want) in &EITHER_OPTIONS {
+        same(&rt, "transpose", value, &value.transpose(), want);
+    }
+    for (value, want) in &EITHER_RESULTS {
+        same(&rt, "transpose", value, &value.transpose(), want);
+    }
+    for (value, want) in &EITHER_ERRORS {
+        same(&rt, "transpose_err", value, &value.transpose_err(), want);
+    }
+    for (value, want) in &EITHER_CONTENTS {
+        same(&rt, "transpose_ok", value, &value.transpose_ok(), want);
+    }
 }

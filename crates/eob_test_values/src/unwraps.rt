@@ -38,6 +38,16 @@ fn ask(call: &str, value: EitherOrBoth<u8, char>, calls: &Calls) -> Result<Strin
         "expect_both" if value.is_both() => calls.show(value.expect_both("m")),
         "unwrap_both" if value.is_both() => calls.show(value.unwrap_both()),
         "unwrap_both_unchecked" if value.is_both() => calls.show(value.unwrap_both_unchecked()),
+        _ => ask_left(call, value, calls),
+    }
+}
+
+fn ask_left(
+    call: &str,
+    value: EitherOrBoth<u8, char>,
+    calls: &Calls,
+) -> Result<String, AllocError> {
+    match call {
         "expect_left" if value.has_left() => calls.show(value.expect_left("m")),
         "unwrap_left" if value.has_left() => calls.show(value.unwrap_left()),
         "unwrap_left_unchecked" if value.has_left() => calls.show(value.unwrap_left_unchecked()),

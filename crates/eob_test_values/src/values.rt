@@ -5,6 +5,7 @@ use either_or_both::EitherOrBoth::{Both, Left, Right};
 use either_or_both::iter::{IntoIterEitherOrBoth, IterEitherOrBoth, IterMutEitherOrBoth};
 use either_or_both::iter_either::{IntoIterEither, IterEither, IterMutEither};
 use either_or_both::{Either, EitherOrBoth};
+use std::alloc::AllocError;
 use std::test::Fail;
 
 /// A call of `next_back`, or else of `next`, with its answer and the number of values that are to come after it.
@@ -48,6 +49,24 @@ fn written_answer(walk: &mut IterMutEitherOrBoth<'_, u8>, back: bool) -> Option<
     }
 }
 
+// What a call of this end of each of three walks and of clones of two of them answers, and how many values each has then to come.
+fn answers(
+    owned: &mut IntoIterEitherOrBoth<u8>,
+    lent: &mut IterEitherOrBoth<'_, u8>,
+    written: &mut IterMutEitherOrBoth<'_, u8>,
+    back: bool,
+) -> Result<[(Option<u8>, usize); 5], AllocError> {
+    let mut clone = owned.clone()?;
+    let mut lent_clone = lent.clone()?;
+    Ok([
+        (owned_answer(owned, back), owned.len()),
+        (owned_answer(&mut clone, back), clone.len()),
+        (lent_answer(lent, back), lent.len()),
+        (lent_answer(&mut lent_clone, back), lent_clone.len()),
+        (written_answer(written, back), written.len()),
+    ])
+}
+
 /// The values come from the end that is asked, each once, and the length and the hint are the number still to come. A walk by value,
 /// one by reference and one for writing do the same, and so does a clone that is taken on the way.
 #[test]
@@ -60,24 +79,8 @@ fn each_value_comes_from_the_end_that_is_asked(rt: HostRuntime) -> Result<(), Fa
         let lengths = [owned.len(), lent.len(), written.len()];
         same(&rt, "len", &value, &lengths, &[count; 3]);
         for (back, answer, left) in calls.iter().copied() {
-            let mut clone = owned.clone()?;
-            let mut lent_clone = lent.clone()?;
-            let answers = [
-                owned_answer(&mut owned, back),
-                owned_answer(&mut clone, back),
-                lent_answer(&mut lent, back),
-                lent_answer(&mut lent_clone, back),
-                written_answer(&mut written, back),
-            ];
-            same(&rt, "a call", &value, &answers, &[answer; 5]);
-            let lengths = [
-                clone.len(),
-                lent_clone.len(),
-                owned.len(),
-                lent.len(),
-                written.len(),
-            ];
-            same(&rt, "len", &value, &lengths, &[left; 5]);
+            let came = answers(&mut owned, &mut lent, &mut written, back)?;
+            same(&rt, "a call", &value, &came, &[(answer, left); 5]);
             let hints = [owned.size_hint(), lent.size_hint(), written.size_hint()];
             same(&rt, "size_hint", &value, &hints, &[(left, Some(left)); 3]);
         }
@@ -150,6 +153,27 @@ fn written_answer_of_either(walk: &mut IterMutEither<'_, u8>, back: bool) -> Opt
     }
 }
 
+// What a call of this end of each of three walks and of clones of two of them answers, and how many values each has then to come.
+fn answers_of_either(
+    owned: &mut IntoIterEither<u8>,
+    lent: &mut IterEither<'_, u8>,
+    written: &mut IterMutEither<'_, u8>,
+    back: bool,
+) -> Result<[(Option<u8>, usize); 5], AllocError> {
+    let mut clone = owned.clone()?;
+    let mut lent_clone = lent.clone()?;
+    Ok([
+        (owned_answer_of_either(owned, back), owned.len()),
+        (owned_answer_of_either(&mut clone, back), clone.len()),
+        (lent_answer_of_either(lent, back), lent.len()),
+        (
+            lent_answer_of_either(&mut lent_clone, back),
+            lent_clone.len(),
+        ),
+        (written_answer_of_either(written, back), written.len()),
+    ])
+}
+
 /// The one value comes from the end that is asked first, and then nothing, whichever walk gives it.
 #[test]
 fn one_value_comes_from_the_end_asked_first(rt: HostRuntime) -> Result<(), Fail> {
@@ -166,18 +190,8 @@ fn one_value_comes_from_the_end_asked_first(rt: HostRuntime) -> Result<(), Fail>
         let lengths = [owned.len(), lent.len(), written.len()];
         same(&rt, "len", &value, &lengths, &[1; 3]);
         for answer in [Some(1), None, None] {
-            let mut clone = owned.clone()?;
-            let mut lent_clone = lent.clone()?;
-            let answers = [
-                owned_answer_of_either(&mut owned, back),
-                owned_answer_of_either(&mut clone, back),
-                lent_answer_of_either(&mut lent, back),
-                lent_answer_of_either(&mut lent_clone, back),
-                written_answer_of_either(&mut written, back),
-            ];
-            same(&rt, "a call", &value, &answers, &[answer; 5]);
-            let lengths = [owned.len(), lent.len(), written.len()];
-            same(&rt, "len", &value, &lengths, &[0; 3]);
+            let came = answers_of_either(&mut owned, &mut lent, &mut written, back)?;
+            same(&rt, "a call", &value, &came, &[(answer, 0); 5]);
             let hints = [owned.size_hint(), lent.size_hint(), written.size_hint()];
             same(&rt, "size_hint", &value, &hints, &[(0, Some(0)); 3]);
         }
@@ -309,9 +323,9 @@ fn items_of_an_owned_side_come_from_both_ends(rt: HostRuntime) -> Result<(), Fai
     Ok(())
 }
 
-/// What is written through the items of a walk over an `Either` is what it holds afterwards.
+/// What is written through the item of a walk over the value of an `Either` is what it holds afterwards.
 #[test]
-fn items_of_either_are_written(rt: HostRuntime) -> Result<(), Fail> {
+fn item_of_either_is_written(rt: HostRuntime) {
     for (value, want) in [
         (Either::Left(1u8), Either::Left(11u8)),
         (Either::Right(2), Either::Right(12)),
@@ -326,12 +340,23 @@ fn items_of_either_are_written(rt: HostRuntime) -> Result<(), Fail> {
         }
         same(&rt, "into_iter of &mut", &value, &changed.reduce(), &5);
     }
+}
+
+/// The same of the items of its held side.
+#[test]
+fn items_of_the_held_side_are_written(rt: HostRuntime) -> Result<(), Fail> {
     let mut right = Either::<Vec<u8>>::Right(vec![in rt.alloc(); 1, 2]?);
     for item in right.iter_inner_mut() {
         *item = item.saturating_add(10);
     }
     let want = Either::Right(vec![in rt.alloc(); 11, 12]?);
     same(&rt, "iter_inner_mut", &"Right([1, 2])", &right, &want);
+    Ok(())
+}
+
+/// The same of its items in the held variant.
+#[test]
+fn items_in_the_held_variant_are_written(rt: HostRuntime) -> Result<(), Fail> {
     let mut left = Either::<Vec<u8>, Vec<char>>::Left(vec![in rt.alloc(); 1, 2]?);
     for item in left.iter_swap_mut() {
         match item {
