@@ -72,6 +72,19 @@ impl Calls {
             Err(empty) => empty,
         }
     }
+
+    // Fails unless the calls so far are those that are wanted, and forgets them.
+    fn check(&self, call: &str, value: &impl Debug, want: &str) -> Result<(), Fail> {
+        same_text(call, value, &self.take(), want)
+    }
+}
+
+// Fails unless the text that came of a call is the one that was wanted. The message says the call, its input and both texts.
+fn same_text(call: &str, input: &impl Debug, came: &str, want: &str) -> Result<(), Fail> {
+    if came == want {
+        return Ok(());
+    }
+    Err(Fail::new(format_args!("{call} of {input:?} gives {came}, not {want}")))
 }
 
 /// Makes the call of each row by `ask`, and compares its answer and the calls of its closures with the row's. Fails at the first row
@@ -86,13 +99,8 @@ pub fn check_rows<V: Debug + Copy, F: Fn(&str, V, &Calls) -> Result<String, Allo
     let calls = Calls::new(alloc);
     for row in rows {
         let (call, value, want, want_calls) = *row;
-        let answer = ask(call, value, &calls)?;
-        let made = calls.take();
-        if answer.as_str() != want || made.as_str() != want_calls {
-            return Err(Fail::new(format_args!(
-                "{call} of {value:?} answers {answer} and calls [{made}], not {want} and [{want_calls}]"
-            )));
-        }
+        same_text(call, &value, &ask(call, value, &calls)?, want)?;
+        calls.check(call, &value, want_calls)?;
     }
     Ok(())
 }
@@ -108,75 +116,7 @@ pub fn check_answers<V: Debug + Copy, F: Fn(&str, V, &Calls) -> Result<String, A
     let calls = Calls::new(alloc);
     for row in rows {
         let (call, value, want) = *row;
-        let answer = ask(call, value, &calls)?;
-        if answer.as_str() != want {
-            return Err(Fail::new(format_args!("{call} of {value:?} answers {answer}, not {want}")));
-        }
-    }
-    Ok(())
-}
-
-/// Compares what `make` makes of the value of each row with the answer of the row. Fails at the first row that differs.
-pub fn check_made<V: Debug + Copy, W: Debug + Copy + PartialEq, F: Fn(V) -> W + Drop>(
-    call: &str,
-    rows: &[(V, W)],
-    make: F,
-) -> Result<(), Fail>
-    requires { F.IsAlwaysCallable make }
-{
-    for row in rows {
-        let (value, want) = *row;
-        let answer = make(value);
-        if answer != want {
-            return Err(Fail::new(format_args!(
-                "{call} of {value:?} answers {answer:?}, not {want:?}"
-            )));
-        }
-    }
-    Ok(())
-}
-
-/// The same of a call that takes a closure, of which the row says which calls it gets.
-pub fn check_noted<V: Debug + Copy, W: Debug + Copy + PartialEq, F: Fn(V, &Calls) -> W + Drop>(
-    alloc: Global,
-    call: &str,
-    rows: &[(V, W, &'static str)],
-    make: F,
-) -> Result<(), Fail>
-    requires { F.IsAlwaysCallable make }
-{
-    let calls = Calls::new(alloc);
-    for row in rows {
-        let (value, want, want_calls) = *row;
-        let answer = make(value, &calls);
-        let made = calls.take();
-        if answer != want || made.as_str() != want_calls {
-            return Err(Fail::new(format_args!(
-                "{call} of {value:?} answers {answer:?} and calls [{made}], not {want:?} and [{want_calls}]"
-            )));
-        }
-    }
-    Ok(())
-}
-
-/// Compares what `change` answers on the value of each row, and what is held then, with what the row says of both. Fails at the
-/// first row that differs.
-pub fn check_changed<V, W, F>(call: &str, rows: &[(V, W, V)], change: F) -> Result<(), Fail>
-where
-    V: Debug + Copy + PartialEq,
-    W: Debug + Copy + PartialEq,
-    F: Fn(&mut V) -> W + Drop,
-    requires { F.IsAlwaysCallable change }
-{
-    for row in rows {
-        let (value, want, after) = *row;
-        let mut changed = value;
-        let answer = change(&mut changed);
-        if answer != want || changed != after {
-            return Err(Fail::new(format_args!(
-                "{call} of {value:?} answers {answer:?} and leaves {changed:?}, not {want:?} and {after:?}"
-            )));
-        }
+        same_text(call, &value, &ask(call, value, &calls)?, want)?;
     }
     Ok(())
 }
