@@ -138,7 +138,7 @@ fn line_is_read(rt: HostRuntime) -> Result<(), Fail> {
 
 /// The whole of it.
 #[test]
-fn rest_is_read(rt: HostRuntime) -> Result<(), Fail> {
+fn whole_is_read(rt: HostRuntime) -> Result<(), Fail> {
     for is_left in SIDES {
         let mut whole = Vec::new(rt.alloc());
         let mut reader = held(is_left, Cursor::new(TEXT));
