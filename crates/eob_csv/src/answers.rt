@@ -21,6 +21,8 @@ pub struct Answer {
     pub status: u8,
 }
 
+type Table = Rows<Cells, Group>;
+
 /// The answer to `diff`.
 ///
 /// # Errors
@@ -34,18 +36,58 @@ pub fn compare<'a, A: Read + Drop, B: Read + Drop>(
     old: &mut Opened<'a, A>,
     new: &mut Opened<'a, B>,
 ) -> Result<Answer, Fault<'a>> {
-    let headers = [old.source.header.as_slice(), new.source.header.as_slice()];
-    let columns = at(old.file, columns_of(alloc, settings, &headers))?;
-    let said = ColumnChanges::new(alloc, &old.source.header, &new.source.header);
-    let said = at(new.file, said)?;
+    let (columns, said) = compare_columns(alloc, settings, old, new)?;
     let mut order = order_of(alloc, settings);
-    let left = old.read_rows(&columns, &mut order, settings.groups)?;
-    let right = new.read_rows(&columns, &mut order, settings.groups)?;
+    let under = (&columns, &columns);
+    let tables = read_two(under, &mut order, settings.groups, old, new)?;
     let form = settings.form;
     at(
         new.file,
-        compared(alloc, form, format, &columns, &said, &order, (left, right)),
+        compared(alloc, form, format, &columns, &said, &order, tables),
     )
+}
+
+/// The columns of two versions of a table, and what became of them.
+///
+/// # Errors
+///
+/// Returns want of memory, as the fault of one of the tables.
+pub fn compare_columns<'a, A, B>(
+    alloc: Global,
+    settings: Settings<'a>,
+    old: &Opened<'a, A>,
+    new: &Opened<'a, B>,
+) -> Result<(Columns, ColumnChanges), Fault<'a>> {
+    let columns = columns_of_two(alloc, settings, old, new)?;
+    let said = ColumnChanges::new(alloc, &old.source.header, &new.source.header);
+    Ok((columns, at(new.file, said)?))
+}
+
+// The columns of two tables, whose first header comes first.
+fn columns_of_two<'a, A, B>(
+    alloc: Global,
+    settings: Settings<'a>,
+    first: &Opened<'a, A>,
+    next: &Opened<'a, B>,
+) -> Result<Columns, Fault<'a>> {
+    let headers = [
+        first.source.header.as_slice(),
+        next.source.header.as_slice(),
+    ];
+    at(first.file, columns_of(alloc, settings, &headers))
+}
+
+// Reads two tables, each under its columns.
+fn read_two<'a, A: Read + Drop, B: Read + Drop>(
+    columns: (&Columns, &Columns),
+    order: &mut Order,
+    repeats: bool,
+    first: &mut Opened<'a, A>,
+    next: &mut Opened<'a, B>,
+) -> Result<(Table, Table), Fault<'a>> {
+    let first_rows = first.read_rows(columns.0, order, repeats)?;
+    let next_rows = next.read_rows(columns.1, order, repeats)?;
+    Ok((first_rows, next_rows))
 }
 
 // The changes between two tables in a format, as CSV of a form.
@@ -56,7 +98,7 @@ fn compared(
     columns: &Columns,
     said: &ColumnChanges,
     order: &Order,
-    tables: (Rows<Cells, Group>, Rows<Cells, Group>),
+    tables: (Table, Table),
 ) -> Result<Answer, Reason> {
     let (old, new) = tables;
     let rows = count_rows(&old.pairs);
@@ -86,11 +128,7 @@ pub fn change<'a, A: Read + Drop, B: Read + Drop>(
     old: &mut Opened<'a, A>,
     changes: &mut Opened<'a, B>,
 ) -> Result<Answer, Fault<'a>> {
-    let headers = [
-        old.source.header.as_slice(),
-        changes.source.header.as_slice(),
-    ];
-    let columns = at(old.file, columns_of(alloc, settings, &headers))?;
+    let columns = columns_of_two(alloc, settings, old, changes)?;
     let mut order = order_of(alloc, settings);
     let rows = old.read_rows(&columns, &mut order, settings.groups)?;
     let changed_rows = changes.read_changes(&columns, &mut order, settings.groups)?;
@@ -105,8 +143,8 @@ fn changed(
     form: Form,
     columns: &Columns,
     order: &Order,
-    old: Rows<Cells, Group>,
-    changes: (Rows<Cells, Group>, Rows<Cells, Group>),
+    old: Table,
+    changes: (Table, Table),
 ) -> Result<Answer, Reason> {
     let changes = paired(alloc, changes.0, changes.1)?;
     let misfits = misfits(alloc, columns, &old, &changes)?;
@@ -125,7 +163,7 @@ fn write_patched(
     form: Form,
     columns: &Columns,
     order: &Order,
-    old: Rows<Cells, Group>,
+    old: Table,
     changes: Rows<Cells, Change<Group>>,
 ) -> Result<Answer, Reason> {
     let rows = order.arrange(patched(alloc, old, changes)?)?;
@@ -163,7 +201,7 @@ pub fn merge<'a, A: Read + Drop, B: Read + Drop, C: Read + Drop>(
 }
 
 // The rows of the base, of ours and of theirs.
-type ThreeVersions = (Rows<Cells, Group>, Rows<Cells, Group>, Rows<Cells, Group>);
+type ThreeVersions = (Table, Table, Table);
 
 // Reads three versions. The base is not written: rows come out in the order of ours, and then in that of theirs.
 fn read_versions<'a, A: Read + Drop, B: Read + Drop, C: Read + Drop>(
@@ -174,8 +212,7 @@ fn read_versions<'a, A: Read + Drop, B: Read + Drop, C: Read + Drop>(
     ours: &mut Opened<'a, B>,
     theirs: &mut Opened<'a, C>,
 ) -> Result<ThreeVersions, Fault<'a>> {
-    let our_rows = ours.read_rows(columns, order, repeats)?;
-    let their_rows = theirs.read_rows(columns, order, repeats)?;
+    let (our_rows, their_rows) = read_two((columns, columns), order, repeats, ours, theirs)?;
     let base_rows = base.read_rows(columns, &mut Order::by_key(), repeats)?;
     Ok((base_rows, our_rows, their_rows))
 }
@@ -216,8 +253,8 @@ pub fn join<'a, A: Read + Drop, B: Read + Drop>(
     let columns = join_columns(alloc, settings, &left.source.header, &right.source.header);
     let columns = at(left.file, columns)?;
     let mut order = order_of(alloc, settings);
-    let left_rows = left.read_rows(&columns.left, &mut order, settings.groups)?;
-    let right_rows = right.read_rows(&columns.right, &mut order, settings.groups)?;
+    let under = (&columns.left, &columns.right);
+    let (left_rows, right_rows) = read_two(under, &mut order, settings.groups, left, right)?;
     let joining = Joining {
         alloc,
         form: settings.form,

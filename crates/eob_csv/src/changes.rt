@@ -43,17 +43,25 @@ fn row_changes<'a>(
     changes: &'a [(Cells, Change<Group>)],
 ) -> Result<Vec<RowChange<'a>>, AllocError> {
     let mut rows = Vec::new(alloc);
-    for change in changes {
-        let (gone, come) = lone_rows(
-            alloc,
-            rows_of(change.1.as_ref().left()),
-            rows_of(change.1.as_ref().right()),
-        )?;
-        for row in EitherOrBoth::Both(gone, come).into_iter_swap() {
-            rows.push((&change.0, row))?;
-        }
+    for (key, groups) in changes {
+        push_changes(alloc, &mut rows, key, groups)?;
     }
     Ok(rows)
+}
+
+// Puts the rows under a key that changed.
+fn push_changes<'a>(
+    alloc: Global,
+    rows: &mut Vec<RowChange<'a>>,
+    key: &'a Cells,
+    groups: &'a Change<Group>,
+) -> Result<(), AllocError> {
+    let (old, new) = groups.as_ref().unzip();
+    let (gone, come) = lone_rows(alloc, rows_of(old), rows_of(new))?;
+    for row in EitherOrBoth::Both(gone, come).into_iter_swap() {
+        rows.push((key, row))?;
+    }
+    Ok(())
 }
 
 fn rows_of(group: Option<&Group>) -> &[Cells] {
@@ -127,21 +135,30 @@ fn render(
     changes: &[RowChange<'_>],
     counts: Counts,
 ) -> Result<String, AllocError> {
-    let mut text = String::new(alloc);
-    if !changes.is_empty() {
-        let mut grid: Grid = Vec::new(alloc);
-        grid.push(heading(alloc, columns)?)?;
-        for row in changes {
-            grid.push(line_of(alloc, has_colour, row)?)?;
-        }
-        text = line_up(alloc, &grid)?;
-    }
+    let mut text = render_rows(alloc, has_colour, columns, changes)?;
     writeln!(
         text,
         "{} added, {} removed, {} changed, {} the same",
         counts.added, counts.removed, counts.changed, counts.same
     )?;
     Ok(text)
+}
+
+// The rows that changed, under the names of the columns. Empty where none did.
+fn render_rows(
+    alloc: Global,
+    has_colour: bool,
+    columns: &Columns,
+    changes: &[RowChange<'_>],
+) -> Result<String, AllocError> {
+    let mut grid: Grid = Vec::new(alloc);
+    if !changes.is_empty() {
+        grid.push(heading(alloc, columns)?)?;
+    }
+    for row in changes {
+        grid.push(line_of(alloc, has_colour, row)?)?;
+    }
+    line_up(alloc, &grid)
 }
 
 /// What became of the columns: a line for each that one version alone has, and for another order of those that both have.

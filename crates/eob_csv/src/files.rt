@@ -45,11 +45,11 @@ pub fn stream_request<'a, R: Files + Input + AllocGlobal, W: Write>(
             new,
             format: Format::Csv,
         } => {
-            let (old, new) = open_two(rt, settings, old, new)?;
+            let (old, new) = open_two(rt, settings, Content::Rows, old, new)?;
             compare_sorted(rt.alloc(), settings, old, new, output)
         }
         Request::Join { left, right, kind } => {
-            let (left, right) = open_two(rt, settings, left, right)?;
+            let (left, right) = open_two(rt, settings, Content::Rows, left, right)?;
             join_sorted(rt.alloc(), settings, kind, left, right, output)
         }
         _ => Err(Fault {
@@ -94,7 +94,7 @@ fn answer_diff<'a, R: Files + Input + AllocGlobal>(
     old: &'a str,
     new: &'a str,
 ) -> Result<Answer, Fault<'a>> {
-    let (mut old, mut new) = open_two(rt, settings, old, new)?;
+    let (mut old, mut new) = open_two(rt, settings, Content::Rows, old, new)?;
     compare(rt.alloc(), settings, format, &mut old, &mut new)
 }
 
@@ -104,9 +104,7 @@ fn answer_apply<'a, R: Files + Input + AllocGlobal>(
     old: &'a str,
     changes: &'a str,
 ) -> Result<Answer, Fault<'a>> {
-    check_stdin(&[old, changes])?;
-    let mut old = open(rt, settings, Content::Rows, old)?;
-    let mut changes = open(rt, settings, Content::Changes, changes)?;
+    let (mut old, mut changes) = open_two(rt, settings, Content::Changes, old, changes)?;
     change(rt.alloc(), settings, &mut old, &mut changes)
 }
 
@@ -118,8 +116,7 @@ fn answer_merge<'a, R: Files + Input + AllocGlobal>(
     theirs: &'a str,
 ) -> Result<Answer, Fault<'a>> {
     check_stdin(&[base, ours, theirs])?;
-    let mut base = open(rt, settings, Content::Rows, base)?;
-    let mut ours = open(rt, settings, Content::Rows, ours)?;
+    let (mut base, mut ours) = open_two(rt, settings, Content::Rows, base, ours)?;
     let mut theirs = open(rt, settings, Content::Rows, theirs)?;
     merge(rt.alloc(), settings, &mut base, &mut ours, &mut theirs)
 }
@@ -131,7 +128,7 @@ fn answer_join<'a, R: Files + Input + AllocGlobal>(
     left: &'a str,
     right: &'a str,
 ) -> Result<Answer, Fault<'a>> {
-    let (mut left, mut right) = open_two(rt, settings, left, right)?;
+    let (mut left, mut right) = open_two(rt, settings, Content::Rows, left, right)?;
     join(rt.alloc(), settings, kind, &mut left, &mut right)
 }
 
@@ -152,16 +149,17 @@ type Stream<R> = Either<<R as Files>::File, <R as Input>::Reader>;
 // A file or the standard input, with its header read.
 type File<'a, R> = Opened<'a, Stream<R>>;
 
-// Two tables, with their headers read.
+// A table, and another or changes, with their headers read.
 fn open_two<'a, R: Files + Input + AllocGlobal>(
     rt: &R,
     settings: Settings<'a>,
+    content: Content,
     first: &'a str,
     second: &'a str,
 ) -> Result<(File<'a, R>, File<'a, R>), Fault<'a>> {
     check_stdin(&[first, second])?;
     let first = open(rt, settings, Content::Rows, first)?;
-    let second = open(rt, settings, Content::Rows, second)?;
+    let second = open(rt, settings, content, second)?;
     Ok((first, second))
 }
 

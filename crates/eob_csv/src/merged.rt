@@ -17,15 +17,24 @@ pub fn render_conflicts(
 ) -> Result<String, AllocError> {
     let mut grid: Grid = Vec::new(alloc);
     grid.push(heading(alloc, columns)?)?;
-    for row in rows {
-        let (base, sides) = row.1.as_ref().unzip();
-        let (ours, theirs) = match sides {
-            Some(sides) => sides.as_ref().unzip(),
-            None => (None, None),
-        };
-        put_version(alloc, &mut grid, "base", &row.0, base)?;
-        put_version(alloc, &mut grid, "ours", &row.0, ours)?;
-        put_version(alloc, &mut grid, "theirs", &row.0, theirs)?;
+    for (key, versions) in rows {
+        put_versions(alloc, &mut grid, key, versions)?;
     }
     line_up(alloc, &grid)
+}
+
+fn put_versions(
+    alloc: Global,
+    grid: &mut Grid,
+    key: &[Vec<u8>],
+    versions: &Versions<Group>,
+) -> Result<(), AllocError> {
+    let (base, sides) = versions.as_ref().unzip();
+    let (ours, theirs) = match sides {
+        Some(sides) => sides.as_ref().unzip(),
+        None => (None, None),
+    };
+    put_version(alloc, grid, "base", key, base)?;
+    put_version(alloc, grid, "ours", key, ours)?;
+    put_version(alloc, grid, "theirs", key, theirs)
 }

@@ -59,12 +59,20 @@ pub fn put_version(
                 put_shown(alloc, &mut line, cells)?;
                 grid.push(line)?;
             }
+            Ok(())
         }
-        None => {
-            let mut line = line_under(alloc, name, key)?;
-            line.cells.push(String::from_str(alloc, "(no row)")?)?;
-            grid.push(line)?;
-        }
+        None => put_no_row(alloc, grid, name, key),
     }
+}
+
+fn put_no_row(
+    alloc: Global,
+    grid: &mut Grid,
+    name: &str,
+    key: &[Vec<u8>],
+) -> Result<(), AllocError> {
+    let mut line = line_under(alloc, name, key)?;
+    line.cells.push(String::from_str(alloc, "(no row)")?)?;
+    grid.push(line)?;
     Ok(())
 }

@@ -74,16 +74,27 @@ impl<R: Read + Drop> Source<R> {
         order: &mut Order,
         repeats: bool,
     ) -> Result<Rows<Cells, Group>, Reason> {
+        let mut rows = Vec::new(self.alloc);
+        self.read_all(columns, order, &mut rows)?;
+        Ok(gathered(self.alloc, rows, repeats)?)
+    }
+
+    // Reads the rows behind those that are there.
+    fn read_all(
+        &mut self,
+        columns: &Columns,
+        order: &mut Order,
+        rows: &mut Vec<ReadRow>,
+    ) -> Result<(), Reason> {
         let places = self.places(columns)?;
         let mut record = ByteRecord::new(self.alloc);
-        let mut rows = Vec::new(self.alloc);
         for _ in 0..u64::MAX {
             match self.read_row(&places, &mut record)? {
-                Some(row) => note_and_push(order, &mut rows, row)?,
+                Some(row) => note_and_push(order, rows, row)?,
                 None => break,
             }
         }
-        Ok(gathered(self.alloc, rows, repeats)?)
+        Ok(())
     }
 
     /// Reads the rows of changes, and gathers them by key: those whose first cell is `-`, which go, and those where it is `+`, which come.
@@ -97,23 +108,35 @@ impl<R: Read + Drop> Source<R> {
         order: &mut Order,
         repeats: bool,
     ) -> Result<(Rows<Cells, Group>, Rows<Cells, Group>), Reason> {
-        let places = self.places(columns)?;
-        let mut record = ByteRecord::new(self.alloc);
         let mut gone = Vec::new(self.alloc);
         let mut come = Vec::new(self.alloc);
+        self.read_signed(columns, order, &mut gone, &mut come)?;
+        let gone = gathered(self.alloc, gone, repeats)?;
+        let come = gathered(self.alloc, come, repeats)?;
+        Ok((gone, come))
+    }
+
+    // Reads the rows that go behind those that are there, and so those that come.
+    fn read_signed(
+        &mut self,
+        columns: &Columns,
+        order: &mut Order,
+        gone: &mut Vec<ReadRow>,
+        come: &mut Vec<ReadRow>,
+    ) -> Result<(), Reason> {
+        let places = self.places(columns)?;
+        let mut record = ByteRecord::new(self.alloc);
         for _ in 0..u64::MAX {
             let Some(row) = self.read_row(&places, &mut record)? else {
                 break;
             };
-            match record.get(0) {
-                Some(b"-") => note_and_push(order, &mut gone, row)?,
-                Some(b"+") => note_and_push(order, &mut come, row)?,
-                _ => return Err(Reason::NoSign(line_of(&record))),
+            match sign_of(&record) {
+                Some(Sign::Gone) => note_and_push(order, gone, row)?,
+                Some(Sign::Come) => note_and_push(order, come, row)?,
+                None => return Err(Reason::NoSign(line_of(&record))),
             }
         }
-        let gone = gathered(self.alloc, gone, repeats)?;
-        let come = gathered(self.alloc, come, repeats)?;
-        Ok((gone, come))
+        Ok(())
     }
 
     /// Where the cells of these columns stand in a row.
@@ -142,6 +165,21 @@ impl<R: Read + Drop> Source<R> {
             }
             None => Ok(self.reader.read_byte_record(record)?),
         }
+    }
+}
+
+// What the first cell of a change says of its row.
+#[derive(Clone, Copy)]
+enum Sign {
+    Gone,
+    Come,
+}
+
+fn sign_of(record: &ByteRecord) -> Option<Sign> {
+    match record.get(0) {
+        Some(b"-") => Some(Sign::Gone),
+        Some(b"+") => Some(Sign::Come),
+        _ => None,
     }
 }
 

@@ -2,9 +2,8 @@
 //!
 //! Where all rows of both tables up to a key are read, their join is the first part of the whole join (`law_cut_join` of `eob_joins`).
 
-use crate::answers::Answer;
-use crate::changes::ColumnChanges;
-use crate::columns::{Columns, JoinColumns, columns_of, join_columns};
+use crate::answers::{Answer, compare_columns};
+use crate::columns::{Columns, JoinColumns, join_columns};
 use crate::fault::{Fault, Reason};
 use crate::joined::Joining;
 use crate::opened::{Opened, at};
@@ -22,7 +21,15 @@ enum Work<'c> {
     Join(Kind, &'c JoinColumns),
 }
 
-impl Work<'_> {
+impl<'c> Work<'c> {
+    // The columns of the left table and of the right one.
+    fn columns(self) -> (&'c Columns, &'c Columns) {
+        match self {
+            Work::Changes(columns) => (columns, columns),
+            Work::Join(_, columns) => (&columns.left, &columns.right),
+        }
+    }
+
     fn answer(
         &self,
         alloc: Global,
@@ -72,14 +79,9 @@ pub fn compare_sorted<'a, A: Read + Drop, B: Read + Drop, W: Write>(
     new: Opened<'a, B>,
     output: &mut W,
 ) -> Result<u8, Fault<'a>> {
-    let headers = [old.source.header.as_slice(), new.source.header.as_slice()];
-    let columns = at(old.file, columns_of(alloc, settings, &headers))?;
-    let said = ColumnChanges::new(alloc, &old.source.header, &new.source.header);
-    let said = at(new.file, said)?;
-    let mut old = Parts::new(alloc, old, &columns)?;
-    let mut new = Parts::new(alloc, new, &columns)?;
+    let (columns, said) = compare_columns(alloc, settings, &old, &new)?;
     let work = Work::Changes(&columns);
-    let status = write_parts(alloc, settings.form, work, &mut old, &mut new, output)?;
+    let status = write_tables(alloc, settings.form, work, old, new, output)?;
     Ok(if said.has_lone { 1 } else { status })
 }
 
@@ -99,10 +101,23 @@ pub fn join_sorted<'a, A: Read + Drop, B: Read + Drop, W: Write>(
 ) -> Result<u8, Fault<'a>> {
     let columns = join_columns(alloc, settings, &left.source.header, &right.source.header);
     let columns = at(left.file, columns)?;
-    let mut left = Parts::new(alloc, left, &columns.left)?;
-    let mut right = Parts::new(alloc, right, &columns.right)?;
     let work = Work::Join(kind, &columns);
-    write_parts(alloc, settings.form, work, &mut left, &mut right, output)
+    write_tables(alloc, settings.form, work, left, right, output)
+}
+
+// Writes what there is to say of two tables while they are read, and returns the status.
+fn write_tables<'a, A: Read + Drop, B: Read + Drop, W: Write>(
+    alloc: Global,
+    form: Form,
+    work: Work<'_>,
+    left: Opened<'a, A>,
+    right: Opened<'a, B>,
+    output: &mut W,
+) -> Result<u8, Fault<'a>> {
+    let (left_columns, right_columns) = work.columns();
+    let mut left = Parts::new(alloc, left, left_columns)?;
+    let mut right = Parts::new(alloc, right, right_columns)?;
+    write_parts(alloc, form, work, &mut left, &mut right, output)
 }
 
 fn write_parts<'a, A: Read + Drop, B: Read + Drop, W: Write>(

@@ -81,6 +81,23 @@ impl Written {
         }
         Ok(())
     }
+
+    // Puts the rows under a key that go, and then those that come.
+    fn put_change(
+        &mut self,
+        columns: &Columns,
+        key: &[Vec<u8>],
+        change: &Change<Group>,
+    ) -> Result<(), Reason> {
+        let (old, new) = change.as_ref().unzip();
+        if let Some(rows) = old {
+            self.put_rows(Some(b"-"), columns, key, rows)?;
+        }
+        if let Some(rows) = new {
+            self.put_rows(Some(b"+"), columns, key, rows)?;
+        }
+        Ok(())
+    }
 }
 
 /// A table: its header, if it has one, and its rows.
@@ -112,14 +129,8 @@ pub fn write_changes(
         written.put_cell(b"change")?;
         written.put_row(columns, &columns.key, &columns.rest)?;
     }
-    for row in changes {
-        let (old, new) = row.1.as_ref().unzip();
-        if let Some(rows) = old {
-            written.put_rows(Some(b"-"), columns, &row.0, rows)?;
-        }
-        if let Some(rows) = new {
-            written.put_rows(Some(b"+"), columns, &row.0, rows)?;
-        }
+    for (key, change) in changes {
+        written.put_change(columns, key, change)?;
     }
     written.finish()
 }
