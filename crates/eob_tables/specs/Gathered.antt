@@ -1,6 +1,6 @@
 -- What a table has that was gathered from rows.
-use Rattle.std.specs.Prelude.{List, [], ◌∷◌, Vec, map}
-use Rattle.std.specs.List.Sorted.{IsPermutation}
+use Rattle.std.specs.Prelude.{All, List, [], ◌∷◌, Vec, map}
+use Rattle.std.specs.List.Sorted.{IsPermutation, IsSorted}
 use Rattle.std.specs.declared.cmp.Ordering.{Ordering}
 use Rattle.either_or_both.specs.Join.{Rising}
 use Rattle.eob_joins.specs.Groups.{AreGroups, shown_group}
@@ -8,6 +8,10 @@ use Rattle.eob_joins.specs.Groups.{AreGroups, shown_group}
 -- gs are the groups by key of the rows ps, put into some order: each row is there once, under its key, and nothing else is
 abbrev pub HoldsRows : {K V M : Type 0} → (K → K → Ordering) → List (K × V) → List (K × Vec V M) → Type 0
 HoldsRows {K} {V} cmp ps gs = (sorted : List (K × V)) × IsPermutation ps sorted × AreGroups cmp sorted (map shown_group gs)
+
+-- the values of each group stand in order
+pub record AreInOrder {K V : Type 0} (cmp : V → V → Ordering) (gs : List (K × List V)) : Type 0 where
+  pub values : All (λ g. IsSorted cmp g.1) gs
 
 -- a row as a group of its own
 abbrev pub alone : {K V : Type 0} → K × V → K × List V

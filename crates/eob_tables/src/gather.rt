@@ -1,7 +1,7 @@
 //! From the rows of a file to a table.
 ghost use Rattle.std.specs.Prelude.{◌≡◌, IfOk, IsPermutation, map};
-ghost use Rattle.eob_joins.specs.Groups.{Ordered, shown_group};
-ghost use Rattle.eob_tables.specs.Gathered.{AloneLaw, HoldsRows, alone};
+ghost use Rattle.eob_joins.specs.Groups.{HasGroupsOf, Ordered, shown_group};
+ghost use Rattle.eob_tables.specs.Gathered.{AloneLaw, AreInOrder, HoldsRows, alone};
 
 use crate::table::{Cells, Group, Rows};
 use either_or_both::join::is_rising;
@@ -73,7 +73,8 @@ impl<T: Drop> From<AllocFailed<T>> for Ungathered {
     }
 }
 
-/// The rows by key: each row once, under its key. Where keys may not repeat, no two rows have the same.
+/// The rows by key: each row once, under its key, and those under the same key in the order of their cells. Where keys may not repeat, no
+/// two rows have the same.
 ///
 /// # Errors
 ///
@@ -83,8 +84,10 @@ pub fn gathered(
     mut rows: Vec<ReadRow>,
     repeats: bool,
 ) -> Result<Rows<Cells, Group>, Ungathered>
-    ensures { IfOk result (λ table. HoldsRows ⟦<Cells as Ord>⟧.cmp
+    ensures rows { IfOk result (λ table. HoldsRows ⟦<Cells as Ord>⟧.cmp
         (map (λ row. (row.key, row.cells)) rows.items) table.pairs.items) }
+    ensures order { IfOk result (λ table.
+        AreInOrder ⟦<Cells as Ord>⟧.cmp (map shown_group table.pairs.items)) }
 {
     if repeats {
         let pairs = key_rows(alloc, rows)?;
@@ -135,7 +138,8 @@ fn grouped<K: Ord + Drop, V: Ord + Drop>(
     alloc: Global,
     mut rows: Vec<(K, V)>,
 ) -> Result<Rows<K, Vec<V>>, AllocError>
-    ensures { IfOk result (λ table. HoldsRows K.cmp rows.items table.pairs.items) }
+    ensures rows { IfOk result (λ table. HoldsRows K.cmp rows.items table.pairs.items) }
+    ensures order { IfOk result (λ table. AreInOrder V.cmp (map shown_group table.pairs.items)) }
 {
     rows.sort_by(|row, next| row.1.cmp(&next.1))?;
     let rows = in_order(rows)?;
@@ -147,6 +151,7 @@ fn grouped<K: Ord + Drop, V: Ord + Drop>(
 fn in_order<K: Ord + Drop, V: Drop>(mut rows: Vec<(K, V)>) -> Result<Vec<(K, V)>, AllocError>
     ensures ordered { IfOk result (λ sorted. Ordered K.cmp sorted.items) }
     ensures same { IfOk result (λ sorted. IsPermutation rows.items sorted.items) }
+    ensures groups { IfOk result (λ sorted. HasGroupsOf K.cmp rows.items sorted.items) }
 {
     rows.sort_by(|row, next| row.0.cmp(&next.0))?;
     Ok(rows)
