@@ -10,7 +10,7 @@ use crate::patch::misfits;
 use crate::request::{Form, Format, Kind, Settings};
 use crate::written::{write_changes, write_table};
 use eob_joins::{Change, Merged};
-use eob_tables::{Cells, Group, Order, Rows, changes_of, merge_of, paired, patched};
+use eob_tables::{Cells, Group, Order, Rows, changes_of, merge_of, patched};
 use std::alloc::Global;
 use std::io::Read;
 
@@ -130,12 +130,26 @@ pub fn change<'a, A: Read + Drop, B: Read + Drop>(
 ) -> Result<Answer, Fault<'a>> {
     let columns = columns_of_two(alloc, settings, old, changes)?;
     let mut order = order_of(alloc, settings);
-    let rows = old.read_rows(&columns, &mut order, settings.groups)?;
-    let changed_rows = changes.read_changes(&columns, &mut order, settings.groups)?;
+    let tables = read_to_change(&columns, &mut order, settings.groups, old, changes)?;
     at(
         changes.file,
-        changed(alloc, settings.form, &columns, &order, rows, changed_rows),
+        changed(alloc, settings.form, &columns, &order, tables),
     )
+}
+
+// A table, and the changes to be made to it.
+type ToChange = (Table, Rows<Cells, Change<Group>>);
+
+fn read_to_change<'a, A: Read + Drop, B: Read + Drop>(
+    columns: &Columns,
+    order: &mut Order,
+    repeats: bool,
+    old: &mut Opened<'a, A>,
+    changes: &mut Opened<'a, B>,
+) -> Result<ToChange, Fault<'a>> {
+    let rows = old.read_rows(columns, order, repeats)?;
+    let changes = changes.read_changes(columns, order, repeats)?;
+    Ok((rows, changes))
 }
 
 fn changed(
@@ -143,18 +157,17 @@ fn changed(
     form: Form,
     columns: &Columns,
     order: &Order,
-    old: Table,
-    changes: (Table, Table),
+    tables: ToChange,
 ) -> Result<Answer, Reason> {
-    let changes = paired(alloc, changes.0, changes.1)?;
-    let misfits = misfits(alloc, columns, &old, &changes)?;
-    if !misfits.is_empty() {
-        return Ok(Answer {
+    let misfits = misfits(alloc, columns, &tables.0, &tables.1)?;
+    if misfits.is_empty() {
+        write_patched(alloc, form, columns, order, tables)
+    } else {
+        Ok(Answer {
             bytes: misfits.into_bytes(),
             status: 1,
-        });
+        })
     }
-    write_patched(alloc, form, columns, order, old, changes)
 }
 
 // The table with changes made to it that fit, as CSV.
@@ -163,9 +176,9 @@ fn write_patched(
     form: Form,
     columns: &Columns,
     order: &Order,
-    old: Table,
-    changes: Rows<Cells, Change<Group>>,
+    tables: ToChange,
 ) -> Result<Answer, Reason> {
+    let (old, changes) = tables;
     let rows = order.arrange(patched(alloc, old, changes)?)?;
     Ok(Answer {
         bytes: write_table(alloc, form, columns, &rows)?,

@@ -60,15 +60,6 @@ pub fn place_of(names: &[Vec<u8>], name: &[u8]) -> Option<usize> {
     names.iter().position(|other| other.as_slice() == name)
 }
 
-/// A copy of cells.
-pub fn copy_cells(alloc: Global, cells: &[Vec<u8>]) -> Result<Cells, AllocError> {
-    let mut copy = Vec::new(alloc);
-    for cell in cells {
-        copy.push(cell.clone()?)?;
-    }
-    Ok(copy)
-}
-
 // Puts a copy of each name that is not there yet behind the names.
 fn add_names(names: &mut Cells, header: &[Vec<u8>]) -> Result<(), AllocError> {
     for name in header {
@@ -127,7 +118,6 @@ pub fn join_columns(
     right: &[Vec<u8>],
 ) -> Result<JoinColumns, AllocError> {
     let left = columns_of(alloc, settings, &[left])?;
-    let key = copy_cells(alloc, &left.key)?;
-    let right = Columns::new(alloc, key, &[right])?;
+    let right = Columns::new(alloc, left.key.clone()?, &[right])?;
     Ok(JoinColumns { left, right })
 }

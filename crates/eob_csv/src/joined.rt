@@ -21,68 +21,78 @@ pub struct Joining<'a> {
 
 type Table = Rows<Cells, Group>;
 
+// What a row of a join has on its two sides.
+trait Sides {
+    fn sides(&self) -> (Option<&Group>, Option<&Group>);
+
+    // Which of the tables have the row, where the join tells them apart.
+    fn word(&self) -> Option<&'static [u8]> {
+        None
+    }
+}
+
+impl Sides for EitherOrBoth<Group, Group> {
+    fn sides(&self) -> (Option<&Group>, Option<&Group>) {
+        self.as_ref().unzip()
+    }
+
+    fn word(&self) -> Option<&'static [u8]> {
+        Some(match self {
+            EitherOrBoth::Left(_) => b"left",
+            EitherOrBoth::Both(..) => b"both",
+            EitherOrBoth::Right(_) => b"right",
+        })
+    }
+}
+
+impl Sides for (Group, Group) {
+    fn sides(&self) -> (Option<&Group>, Option<&Group>) {
+        (Some(&self.0), Some(&self.1))
+    }
+}
+
+impl Sides for (Group, Option<Group>) {
+    fn sides(&self) -> (Option<&Group>, Option<&Group>) {
+        (Some(&self.0), self.1.as_ref())
+    }
+}
+
+impl Sides for (Option<Group>, Group) {
+    fn sides(&self) -> (Option<&Group>, Option<&Group>) {
+        (self.0.as_ref(), Some(&self.1))
+    }
+}
+
 impl Joining<'_> {
     /// The join as CSV.
     pub fn write(self, kind: Kind, left: Table, right: Table) -> Result<Vec<u8>, Reason> {
+        let alloc = self.alloc;
         match kind {
-            Kind::Outer => self.outer(left, right),
-            Kind::Inner => self.inner(left, right),
-            Kind::Left => self.left(left, right),
-            Kind::Right => self.right(left, right),
-            Kind::Semi => self.semi(left, right),
-            Kind::Anti => self.anti(left, right),
+            Kind::Outer => self.write_joined(outer_join(alloc, left.pairs, right.pairs)?, true),
+            Kind::Inner => self.write_joined(inner_join(alloc, left.pairs, right.pairs)?, false),
+            Kind::Left => self.write_joined(left_join(alloc, left.pairs, right.pairs)?, false),
+            Kind::Right => self.write_joined(right_join(alloc, left.pairs, right.pairs)?, false),
+            Kind::Semi => self.write_left(semi_join(alloc, left.pairs, right.pairs)?),
+            Kind::Anti => self.write_left(anti_join(alloc, left.pairs, right.pairs)?),
         }
     }
 
-    fn outer(self, left: Table, right: Table) -> Result<Vec<u8>, Reason> {
-        let rows = outer_join(self.alloc, left.pairs, right.pairs)?;
+    // Rows of two sides, with a column that tells which of the tables have a row, or without it.
+    fn write_joined<T: Sides + Drop>(
+        self,
+        rows: Vec<(Cells, T)>,
+        has_side: bool,
+    ) -> Result<Vec<u8>, Reason> {
         let rows = self.order.arrange(rows)?;
-        let mut written = self.begin(true)?;
-        for (key, cells) in &rows {
-            let (a, b) = cells.as_ref().unzip();
-            put_rows(&mut written, self.columns, Some(side(cells)), key, (a, b))?;
-        }
-        written.finish()
-    }
-
-    fn inner(self, left: Table, right: Table) -> Result<Vec<u8>, Reason> {
-        let rows = inner_join(self.alloc, left.pairs, right.pairs)?;
-        let rows = self.order.arrange(rows)?;
-        let mut written = self.begin(false)?;
-        for (key, (a, b)) in &rows {
-            put_rows(&mut written, self.columns, None, key, (Some(a), Some(b)))?;
+        let mut written = self.begin(has_side)?;
+        for (key, row) in &rows {
+            put_rows(&mut written, self.columns, row.word(), key, row.sides())?;
         }
         written.finish()
     }
 
-    fn left(self, left: Table, right: Table) -> Result<Vec<u8>, Reason> {
-        let rows = left_join(self.alloc, left.pairs, right.pairs)?;
-        let rows = self.order.arrange(rows)?;
-        let mut written = self.begin(false)?;
-        for (key, (a, b)) in &rows {
-            put_rows(&mut written, self.columns, None, key, (Some(a), b.as_ref()))?;
-        }
-        written.finish()
-    }
-
-    fn right(self, left: Table, right: Table) -> Result<Vec<u8>, Reason> {
-        let rows = right_join(self.alloc, left.pairs, right.pairs)?;
-        let rows = self.order.arrange(rows)?;
-        let mut written = self.begin(false)?;
-        for (key, (a, b)) in &rows {
-            put_rows(&mut written, self.columns, None, key, (a.as_ref(), Some(b)))?;
-        }
-        written.finish()
-    }
-
-    fn semi(self, left: Table, right: Table) -> Result<Vec<u8>, Reason> {
-        let rows = semi_join(self.alloc, left.pairs, right.pairs)?;
-        let rows = self.order.arrange(rows)?;
-        write_table(self.alloc, self.form, &self.columns.left, &rows)
-    }
-
-    fn anti(self, left: Table, right: Table) -> Result<Vec<u8>, Reason> {
-        let rows = anti_join(self.alloc, left.pairs, right.pairs)?;
+    // Rows of the left table.
+    fn write_left(self, rows: Vec<(Cells, Group)>) -> Result<Vec<u8>, Reason> {
         let rows = self.order.arrange(rows)?;
         write_table(self.alloc, self.form, &self.columns.left, &rows)
     }
@@ -106,15 +116,6 @@ impl Joining<'_> {
         put_names(self.alloc, written, b"left.", &left.rest, &right.rest)?;
         put_names(self.alloc, written, b"right.", &right.rest, &left.rest)?;
         written.end_row()
-    }
-}
-
-// Which of the tables have a row.
-fn side(cells: &EitherOrBoth<Group, Group>) -> &'static [u8] {
-    match cells {
-        EitherOrBoth::Left(_) => b"left",
-        EitherOrBoth::Both(..) => b"both",
-        EitherOrBoth::Right(_) => b"right",
     }
 }
 

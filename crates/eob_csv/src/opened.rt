@@ -4,6 +4,7 @@ use crate::columns::Columns;
 use crate::fault::{Fault, Reason};
 use crate::read::{Content, Source};
 use crate::request::Settings;
+use eob_joins::Change;
 use eob_tables::{Cells, Group, Order, Rows};
 use std::alloc::Global;
 use std::io::Read;
@@ -64,7 +65,7 @@ impl<'a, R: Read + Drop> Opened<'a, R> {
         at(self.file, self.source.read_rows(columns, order, repeats))
     }
 
-    /// Reads the rows of changes (`Source::read_changes`).
+    /// Reads changes (`Source::read_changes`).
     ///
     /// # Errors
     ///
@@ -74,7 +75,7 @@ impl<'a, R: Read + Drop> Opened<'a, R> {
         columns: &Columns,
         order: &mut Order,
         repeats: bool,
-    ) -> Result<(Rows<Cells, Group>, Rows<Cells, Group>), Fault<'a>> {
+    ) -> Result<Rows<Cells, Change<Group>>, Fault<'a>> {
         at(self.file, self.source.read_changes(columns, order, repeats))
     }
 }

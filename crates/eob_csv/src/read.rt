@@ -4,7 +4,8 @@ use crate::columns::{Columns, place_of};
 use crate::fault::Reason;
 use crate::request::Form;
 use csv::{ByteRecord, Reader, ReaderBuilder};
-use eob_tables::{Cells, Group, Order, ReadRow, Rows, gathered};
+use eob_joins::Change;
+use eob_tables::{Cells, Group, Order, ReadRow, Rows, gathered, paired};
 use std::alloc::{AllocError, Global};
 use std::io::Read;
 
@@ -97,7 +98,7 @@ impl<R: Read + Drop> Source<R> {
         Ok(())
     }
 
-    /// Reads the rows of changes, and gathers them by key: those whose first cell is `-`, which go, and those where it is `+`, which come.
+    /// Reads the rows of changes, and pairs them by key: those whose first cell is `-`, which go, with those where it is `+`, which come.
     ///
     /// # Errors
     ///
@@ -107,13 +108,13 @@ impl<R: Read + Drop> Source<R> {
         columns: &Columns,
         order: &mut Order,
         repeats: bool,
-    ) -> Result<(Rows<Cells, Group>, Rows<Cells, Group>), Reason> {
+    ) -> Result<Rows<Cells, Change<Group>>, Reason> {
         let mut gone = Vec::new(self.alloc);
         let mut come = Vec::new(self.alloc);
         self.read_signed(columns, order, &mut gone, &mut come)?;
         let gone = gathered(self.alloc, gone, repeats)?;
         let come = gathered(self.alloc, come, repeats)?;
-        Ok((gone, come))
+        Ok(paired(self.alloc, gone, come)?)
     }
 
     // Reads the rows that go behind those that are there, and so those that come.
