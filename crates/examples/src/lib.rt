@@ -1,0 +1,26 @@
+//! `examples`: what a program does with both enums. Each recipe is a file of a few lines under a contract that says what is wanted
+//! of it; none has a proof of its own. `eob_test_examples` has an answer of each, and `eob_report` is a program made of two.
+#![tactic(auto)]
+
+pub mod accounts;
+pub mod changes;
+pub mod closures;
+pub mod grouped;
+pub mod keys;
+pub mod layers;
+pub mod ledger;
+pub mod lined_up;
+pub mod matched;
+pub mod merged;
+pub mod own_join;
+pub mod patched;
+pub mod readers;
+pub mod readme;
+pub mod report;
+pub mod serialized;
+pub mod settings;
+pub mod stock;
+pub mod three_tables;
+pub mod upsert;
+pub mod verdicts;
+pub mod writing;
