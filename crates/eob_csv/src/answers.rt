@@ -1,12 +1,13 @@
-//! The answer to each request, from tables whose headers are read.
+//! The answer to each request, of streams.
 
 use crate::changes::{ColumnChanges, count_rows, report};
-use crate::columns::{Columns, columns_of, join_columns};
+use crate::columns::{Columns, JoinColumns, columns_of, join_columns};
 use crate::fault::{Fault, Reason};
 use crate::joined::Joining;
 use crate::merged::render_conflicts;
-use crate::opened::{Opened, at};
+use crate::opened::{Opened, Stream, Table, Two, at};
 use crate::patch::misfits;
+use crate::read::Content;
 use crate::request::{Form, Format, Kind, Settings};
 use crate::written::{write_changes, write_table};
 use eob_joins::{Change, Merged};
@@ -21,28 +22,35 @@ pub struct Answer {
     pub status: u8,
 }
 
-type Table = Rows<Cells, Group>;
-
 /// The answer to `diff`.
 ///
 /// # Errors
 ///
-/// Returns the fault of a table whose rows can't be read, that lacks a column of the key, or in which a key stands twice where keys may
+/// Returns the fault of a table that can't be opened or read, that lacks a column of the key, or in which a key stands twice where keys may
 /// not repeat; also want of memory, as the fault of one of them.
-pub fn compare<'a, A: Read + Drop, B: Read + Drop>(
+pub fn compare<'a, R: Read + Drop>(
     alloc: Global,
     settings: Settings<'a>,
     format: Format,
-    old: &mut Opened<'a, A>,
-    new: &mut Opened<'a, B>,
+    old: Stream<'a, R>,
+    new: Stream<'a, R>,
 ) -> Result<Answer, Fault<'a>> {
-    let (columns, said) = compare_columns(alloc, settings, old, new)?;
+    let mut versions = Two::new(alloc, settings, Content::Rows, old, new)?;
+    compare_versions(alloc, settings, format, &mut versions)
+}
+
+fn compare_versions<'a, R: Read + Drop>(
+    alloc: Global,
+    settings: Settings<'a>,
+    format: Format,
+    versions: &mut Two<'a, R>,
+) -> Result<Answer, Fault<'a>> {
+    let (columns, said) = compare_columns(alloc, settings, versions)?;
     let mut order = order_of(alloc, settings);
-    let under = (&columns, &columns);
-    let tables = read_two(under, &mut order, settings.groups, old, new)?;
+    let tables = versions.read_rows((&columns, &columns), &mut order, settings.groups)?;
     let form = settings.form;
     at(
-        new.file,
+        versions.next.file,
         compared(alloc, form, format, &columns, &said, &order, tables),
     )
 }
@@ -52,42 +60,15 @@ pub fn compare<'a, A: Read + Drop, B: Read + Drop>(
 /// # Errors
 ///
 /// Returns want of memory, as the fault of one of the tables.
-pub fn compare_columns<'a, A, B>(
+pub fn compare_columns<'a, R>(
     alloc: Global,
     settings: Settings<'a>,
-    old: &Opened<'a, A>,
-    new: &Opened<'a, B>,
+    versions: &Two<'a, R>,
 ) -> Result<(Columns, ColumnChanges), Fault<'a>> {
-    let columns = columns_of_two(alloc, settings, old, new)?;
-    let said = ColumnChanges::new(alloc, &old.source.header, &new.source.header);
-    Ok((columns, at(new.file, said)?))
-}
-
-// The columns of two tables, whose first header comes first.
-fn columns_of_two<'a, A, B>(
-    alloc: Global,
-    settings: Settings<'a>,
-    first: &Opened<'a, A>,
-    next: &Opened<'a, B>,
-) -> Result<Columns, Fault<'a>> {
-    let headers = [
-        first.source.header.as_slice(),
-        next.source.header.as_slice(),
-    ];
-    at(first.file, columns_of(alloc, settings, &headers))
-}
-
-// Reads two tables, each under its columns.
-fn read_two<'a, A: Read + Drop, B: Read + Drop>(
-    columns: (&Columns, &Columns),
-    order: &mut Order,
-    repeats: bool,
-    first: &mut Opened<'a, A>,
-    next: &mut Opened<'a, B>,
-) -> Result<(Table, Table), Fault<'a>> {
-    let first_rows = first.read_rows(columns.0, order, repeats)?;
-    let next_rows = next.read_rows(columns.1, order, repeats)?;
-    Ok((first_rows, next_rows))
+    let columns = versions.columns(alloc, settings)?;
+    let (old, new) = (&versions.first.source, &versions.next.source);
+    let said = ColumnChanges::new(alloc, &old.header, &new.header);
+    Ok((columns, at(versions.next.file, said)?))
 }
 
 // The changes between two tables in a format, as CSV of a form.
@@ -120,37 +101,34 @@ fn compared(
 ///
 /// # Errors
 ///
-/// Returns the fault of a table whose rows can't be read, that lacks a column of the key, or in which a key stands twice where keys may
+/// Returns the fault of a table that can't be opened or read, that lacks a column of the key, or in which a key stands twice where keys may
 /// not repeat; of changes in which a row begins with no sign; also want of memory, as the fault of one of them.
-pub fn change<'a, A: Read + Drop, B: Read + Drop>(
+pub fn change<'a, R: Read + Drop>(
     alloc: Global,
     settings: Settings<'a>,
-    old: &mut Opened<'a, A>,
-    changes: &mut Opened<'a, B>,
+    old: Stream<'a, R>,
+    changes: Stream<'a, R>,
 ) -> Result<Answer, Fault<'a>> {
-    let columns = columns_of_two(alloc, settings, old, changes)?;
+    let mut inputs = Two::new(alloc, settings, Content::Changes, old, changes)?;
+    change_table(alloc, settings, &mut inputs)
+}
+
+fn change_table<'a, R: Read + Drop>(
+    alloc: Global,
+    settings: Settings<'a>,
+    inputs: &mut Two<'a, R>,
+) -> Result<Answer, Fault<'a>> {
+    let columns = inputs.columns(alloc, settings)?;
     let mut order = order_of(alloc, settings);
-    let tables = read_to_change(&columns, &mut order, settings.groups, old, changes)?;
+    let tables = inputs.read_to_change(&columns, &mut order, settings.groups)?;
     at(
-        changes.file,
+        inputs.next.file,
         changed(alloc, settings.form, &columns, &order, tables),
     )
 }
 
 // A table, and the changes to be made to it.
 type ToChange = (Table, Rows<Cells, Change<Group>>);
-
-fn read_to_change<'a, A: Read + Drop, B: Read + Drop>(
-    columns: &Columns,
-    order: &mut Order,
-    repeats: bool,
-    old: &mut Opened<'a, A>,
-    changes: &mut Opened<'a, B>,
-) -> Result<ToChange, Fault<'a>> {
-    let rows = old.read_rows(columns, order, repeats)?;
-    let changes = changes.read_changes(columns, order, repeats)?;
-    Ok((rows, changes))
-}
 
 fn changed(
     alloc: Global,
@@ -190,44 +168,54 @@ fn write_patched(
 ///
 /// # Errors
 ///
-/// Returns the fault of a table whose rows can't be read, that lacks a column of the key, or in which a key stands twice where keys may
+/// Returns the fault of a table that can't be opened or read, that lacks a column of the key, or in which a key stands twice where keys may
 /// not repeat; also want of memory, as the fault of one of them.
-pub fn merge<'a, A: Read + Drop, B: Read + Drop, C: Read + Drop>(
+pub fn merge<'a, R: Read + Drop>(
     alloc: Global,
     settings: Settings<'a>,
-    base: &mut Opened<'a, A>,
-    ours: &mut Opened<'a, B>,
-    theirs: &mut Opened<'a, C>,
+    base: Stream<'a, R>,
+    ours: Stream<'a, R>,
+    theirs: Stream<'a, R>,
+) -> Result<Answer, Fault<'a>> {
+    let mut base = Opened::new(alloc, settings, Content::Rows, base)?;
+    let mut sides = Two::new(alloc, settings, Content::Rows, ours, theirs)?;
+    merge_versions(alloc, settings, &mut base, &mut sides)
+}
+
+fn merge_versions<'a, R: Read + Drop>(
+    alloc: Global,
+    settings: Settings<'a>,
+    base: &mut Opened<'a, R>,
+    sides: &mut Two<'a, R>,
 ) -> Result<Answer, Fault<'a>> {
     let headers = [
         base.source.header.as_slice(),
-        ours.source.header.as_slice(),
-        theirs.source.header.as_slice(),
+        sides.first.source.header.as_slice(),
+        sides.next.source.header.as_slice(),
     ];
     let columns = at(base.file, columns_of(alloc, settings, &headers))?;
     let mut order = order_of(alloc, settings);
-    let versions = read_versions(&columns, &mut order, settings.groups, base, ours, theirs)?;
+    let versions = read_versions(&columns, &mut order, settings.groups, base, sides)?;
     at(
-        theirs.file,
+        sides.next.file,
         merged(alloc, settings.form, &columns, &order, versions),
     )
 }
 
-// The rows of the base, of ours and of theirs.
-type ThreeVersions = (Table, Table, Table);
+// The rows of the base, and those of ours and of theirs.
+type ThreeVersions = (Table, (Table, Table));
 
 // Reads three versions. The base is not written: rows come out in the order of ours, and then in that of theirs.
-fn read_versions<'a, A: Read + Drop, B: Read + Drop, C: Read + Drop>(
+fn read_versions<'a, R: Read + Drop>(
     columns: &Columns,
     order: &mut Order,
     repeats: bool,
-    base: &mut Opened<'a, A>,
-    ours: &mut Opened<'a, B>,
-    theirs: &mut Opened<'a, C>,
+    base: &mut Opened<'a, R>,
+    sides: &mut Two<'a, R>,
 ) -> Result<ThreeVersions, Fault<'a>> {
-    let (our_rows, their_rows) = read_two((columns, columns), order, repeats, ours, theirs)?;
+    let side_rows = sides.read_rows((columns, columns), order, repeats)?;
     let base_rows = base.read_rows(columns, &mut Order::by_key(), repeats)?;
-    Ok((base_rows, our_rows, their_rows))
+    Ok((base_rows, side_rows))
 }
 
 fn merged(
@@ -237,7 +225,7 @@ fn merged(
     order: &Order,
     versions: ThreeVersions,
 ) -> Result<Answer, Reason> {
-    let (base, ours, theirs) = versions;
+    let (base, (ours, theirs)) = versions;
     match merge_of(alloc, base, ours, theirs)? {
         Merged::Whole(rows) => Ok(Answer {
             bytes: write_table(alloc, form, columns, &order.arrange(rows)?)?,
@@ -254,28 +242,52 @@ fn merged(
 ///
 /// # Errors
 ///
-/// Returns the fault of a table whose rows can't be read, that lacks a column of the key, or in which a key stands twice where keys may
+/// Returns the fault of a table that can't be opened or read, that lacks a column of the key, or in which a key stands twice where keys may
 /// not repeat; also want of memory, as the fault of one of them.
-pub fn join<'a, A: Read + Drop, B: Read + Drop>(
+pub fn join<'a, R: Read + Drop>(
     alloc: Global,
     settings: Settings<'a>,
     kind: Kind,
-    left: &mut Opened<'a, A>,
-    right: &mut Opened<'a, B>,
+    left: Stream<'a, R>,
+    right: Stream<'a, R>,
 ) -> Result<Answer, Fault<'a>> {
-    let columns = join_columns(alloc, settings, &left.source.header, &right.source.header);
-    let columns = at(left.file, columns)?;
+    let mut sides = Two::new(alloc, settings, Content::Rows, left, right)?;
+    join_sides(alloc, settings, kind, &mut sides)
+}
+
+fn join_sides<'a, R: Read + Drop>(
+    alloc: Global,
+    settings: Settings<'a>,
+    kind: Kind,
+    sides: &mut Two<'a, R>,
+) -> Result<Answer, Fault<'a>> {
+    let columns = columns_of_join(alloc, settings, sides)?;
     let mut order = order_of(alloc, settings);
     let under = (&columns.left, &columns.right);
-    let (left_rows, right_rows) = read_two(under, &mut order, settings.groups, left, right)?;
+    let (left, right) = sides.read_rows(under, &mut order, settings.groups)?;
     let joining = Joining {
         alloc,
         form: settings.form,
         columns: &columns,
         order: &order,
     };
-    let bytes = at(right.file, joining.write(kind, left_rows, right_rows))?;
+    let bytes = at(sides.next.file, joining.write(kind, left, right))?;
     Ok(Answer { bytes, status: 0 })
+}
+
+/// The columns of a join of two tables.
+///
+/// # Errors
+///
+/// Returns want of memory, as the fault of the left table.
+pub fn columns_of_join<'a, R>(
+    alloc: Global,
+    settings: Settings<'a>,
+    sides: &Two<'a, R>,
+) -> Result<JoinColumns, Fault<'a>> {
+    let (left, right) = (&sides.first.source, &sides.next.source);
+    let columns = join_columns(alloc, settings, &left.header, &right.header);
+    at(sides.first.file, columns)
 }
 
 fn order_of(alloc: Global, settings: Settings<'_>) -> Order {

@@ -81,29 +81,16 @@ fn lone_rows<'a>(
     let mut come = Vec::new(alloc);
     for (row, marks) in group_join_unordered(alloc, marked(alloc, old)?, marked(alloc, new)?)? {
         let (before, after) = marks.unzip();
-        let (before, after) = (count_marks(&before), count_marks(&after));
-        push_times(&mut gone, row, before.saturating_sub(after))?;
-        push_times(&mut come, row, after.saturating_sub(before))?;
+        let before = before.map_or(0, |marks| marks.len());
+        let after = after.map_or(0, |marks| marks.len());
+        for _ in after..before {
+            gone.push(row)?;
+        }
+        for _ in before..after {
+            come.push(row)?;
+        }
     }
     Ok((gone, come))
-}
-
-fn count_marks(marks: &Option<Vec<()>>) -> usize {
-    match marks {
-        Some(marks) => marks.len(),
-        None => 0,
-    }
-}
-
-fn push_times<'a>(
-    rows: &mut Vec<&'a Cells>,
-    row: &'a Cells,
-    times: usize,
-) -> Result<(), AllocError> {
-    for _ in 0..times {
-        rows.push(row)?;
-    }
-    Ok(())
 }
 
 fn marked<'a>(alloc: Global, rows: &'a [Cells]) -> Result<Vec<(&'a Cells, ())>, AllocError> {

@@ -124,10 +124,10 @@ impl fmt::Display for ShownKey<'_> {
 impl fmt::Display for Reason {
     fn fmt<W: fmt::Write>(&self, f: &mut fmt::Formatter<W>) -> fmt::Result {
         match self {
-            Reason::NoMemory => write!(f, "out of memory"),
+            Reason::NoMemory => f.write_str("out of memory"),
             Reason::Io(error) => write!(f, "{error}"),
-            Reason::BadDelimiter => write!(f, "not one byte that may stand between cells"),
-            Reason::NoHeader => write!(f, "line 1: no header"),
+            Reason::BadDelimiter => f.write_str("not one byte that may stand between cells"),
+            Reason::NoHeader => f.write_str("line 1: no header"),
             Reason::NoColumn(name) => write!(f, "line 1: no column {}", Shown(name)),
             Reason::RepeatedColumn(name) => { write!(f, "line 1: two columns {}", Shown(name)) }
             Reason::NoSign(line) => write!(f, "line {line}: the first cell is neither - nor +"),
@@ -137,8 +137,8 @@ impl fmt::Display for Reason {
                     "line {line}: the key is not greater than the one before it"
                 )
             }
-            Reason::NeedsCsv => write!(f, "the changes come with --format csv alone"),
-            Reason::TwiceStdin => write!(f, "the standard input is one table only"),
+            Reason::NeedsCsv => f.write_str("the changes come with --format csv alone"),
+            Reason::TwiceStdin => f.write_str("the standard input is one table only"),
             Reason::CellCount {
                 line,
                 expected,

@@ -2,9 +2,8 @@
 
 use crate::answers::{Answer, change, compare, join, merge};
 use crate::fault::{Fault, Reason};
-use crate::opened::{Opened, at};
-use crate::read::Content;
-use crate::request::{Format, Kind, Request, Settings};
+use crate::opened::{Stream, at};
+use crate::request::{Format, Request, Settings};
 use crate::sorted::{compare_sorted, join_sorted};
 use either_or_both::Either;
 use std::io::Write;
@@ -39,18 +38,26 @@ pub fn stream_request<'a, R: Files + Input + AllocGlobal, W: Write>(
     request: Request<'a>,
     output: &mut W,
 ) -> Result<u8, Fault<'a>> {
+    let alloc = rt.alloc();
     match request {
         Request::Diff {
             old,
             new,
             format: Format::Csv,
         } => {
-            let (old, new) = open_two(rt, settings, Content::Rows, old, new)?;
-            compare_sorted(rt.alloc(), settings, old, new, output)
+            check_stdin(&[old, new])?;
+            compare_sorted(
+                alloc,
+                settings,
+                stream_of(rt, old),
+                stream_of(rt, new),
+                output,
+            )
         }
         Request::Join { left, right, kind } => {
-            let (left, right) = open_two(rt, settings, Content::Rows, left, right)?;
-            join_sorted(rt.alloc(), settings, kind, left, right, output)
+            check_stdin(&[left, right])?;
+            let left = stream_of(rt, left);
+            join_sorted(alloc, settings, kind, left, stream_of(rt, right), output)
         }
         _ => Err(Fault {
             file: "--sorted",
@@ -79,57 +86,44 @@ pub fn answer_request<'a, R: Files + Input + AllocGlobal>(
     settings: Settings<'a>,
     request: Request<'a>,
 ) -> Result<Answer, Fault<'a>> {
+    let alloc = rt.alloc();
     match request {
-        Request::Diff { old, new, format } => answer_diff(rt, settings, format, old, new),
-        Request::Apply { old, changes } => answer_apply(rt, settings, old, changes),
-        Request::Merge { base, ours, theirs } => answer_merge(rt, settings, base, ours, theirs),
-        Request::Join { left, right, kind } => answer_join(rt, settings, kind, left, right),
+        Request::Diff { old, new, format } => {
+            check_stdin(&[old, new])?;
+            compare(
+                alloc,
+                settings,
+                format,
+                stream_of(rt, old),
+                stream_of(rt, new),
+            )
+        }
+        Request::Apply { old, changes } => {
+            check_stdin(&[old, changes])?;
+            change(alloc, settings, stream_of(rt, old), stream_of(rt, changes))
+        }
+        Request::Merge { base, ours, theirs } => {
+            check_stdin(&[base, ours, theirs])?;
+            let base = stream_of(rt, base);
+            merge(
+                alloc,
+                settings,
+                base,
+                stream_of(rt, ours),
+                stream_of(rt, theirs),
+            )
+        }
+        Request::Join { left, right, kind } => {
+            check_stdin(&[left, right])?;
+            join(
+                alloc,
+                settings,
+                kind,
+                stream_of(rt, left),
+                stream_of(rt, right),
+            )
+        }
     }
-}
-
-fn answer_diff<'a, R: Files + Input + AllocGlobal>(
-    rt: &R,
-    settings: Settings<'a>,
-    format: Format,
-    old: &'a str,
-    new: &'a str,
-) -> Result<Answer, Fault<'a>> {
-    let (mut old, mut new) = open_two(rt, settings, Content::Rows, old, new)?;
-    compare(rt.alloc(), settings, format, &mut old, &mut new)
-}
-
-fn answer_apply<'a, R: Files + Input + AllocGlobal>(
-    rt: &R,
-    settings: Settings<'a>,
-    old: &'a str,
-    changes: &'a str,
-) -> Result<Answer, Fault<'a>> {
-    let (mut old, mut changes) = open_two(rt, settings, Content::Changes, old, changes)?;
-    change(rt.alloc(), settings, &mut old, &mut changes)
-}
-
-fn answer_merge<'a, R: Files + Input + AllocGlobal>(
-    rt: &R,
-    settings: Settings<'a>,
-    base: &'a str,
-    ours: &'a str,
-    theirs: &'a str,
-) -> Result<Answer, Fault<'a>> {
-    check_stdin(&[base, ours, theirs])?;
-    let (mut base, mut ours) = open_two(rt, settings, Content::Rows, base, ours)?;
-    let mut theirs = open(rt, settings, Content::Rows, theirs)?;
-    merge(rt.alloc(), settings, &mut base, &mut ours, &mut theirs)
-}
-
-fn answer_join<'a, R: Files + Input + AllocGlobal>(
-    rt: &R,
-    settings: Settings<'a>,
-    kind: Kind,
-    left: &'a str,
-    right: &'a str,
-) -> Result<Answer, Fault<'a>> {
-    let (mut left, mut right) = open_two(rt, settings, Content::Rows, left, right)?;
-    join(rt.alloc(), settings, kind, &mut left, &mut right)
 }
 
 // One of the files at most is the standard input.
@@ -144,43 +138,18 @@ fn check_stdin<'a>(files: &[&'a str]) -> Result<(), Fault<'a>> {
     }
 }
 
-type Stream<R> = Either<<R as Files>::File, <R as Input>::Reader>;
-
-// A file or the standard input, with its header read.
-type File<'a, R> = Opened<'a, Stream<R>>;
-
-// A table, and another or changes, with their headers read.
-fn open_two<'a, R: Files + Input + AllocGlobal>(
-    rt: &R,
-    settings: Settings<'a>,
-    content: Content,
-    first: &'a str,
-    second: &'a str,
-) -> Result<(File<'a, R>, File<'a, R>), Fault<'a>> {
-    check_stdin(&[first, second])?;
-    let first = open(rt, settings, Content::Rows, first)?;
-    let second = open(rt, settings, content, second)?;
-    Ok((first, second))
-}
-
-// A table or changes, with the header read.
-fn open<'a, R: Files + Input + AllocGlobal>(
-    rt: &R,
-    settings: Settings<'a>,
-    content: Content,
-    file: &'a str,
-) -> Result<File<'a, R>, Fault<'a>> {
-    let stream = at(file, stream_of(rt, file))?;
-    Opened::new(rt.alloc(), settings, content, file, stream)
-}
+// A file or the standard input.
+type Reader<R> = Either<<R as Files>::File, <R as Input>::Reader>;
 
 // The file, or the standard input where its name is `-`.
-fn stream_of<R: Files + Input>(rt: &R, file: &str) -> Result<Stream<R>, Reason> {
-    if file == "-" {
-        return Ok(Either::Right(rt.reader()));
-    }
-    match fs::open(rt, file) {
-        Ok(opened) => Ok(Either::Left(opened)),
-        Err(error) => Err(Reason::Io(error)),
-    }
+fn stream_of<'a, R: Files + Input>(rt: &R, file: &'a str) -> Stream<'a, Reader<R>> {
+    let reader = if file == "-" {
+        Ok(Either::Right(rt.reader()))
+    } else {
+        match fs::open(rt, file) {
+            Ok(opened) => Ok(Either::Left(opened)),
+            Err(error) => Err(Reason::Io(error)),
+        }
+    };
+    Stream { file, reader }
 }

@@ -2,12 +2,13 @@
 
 use crate::columns::{JoinColumns, place_of};
 use crate::fault::Reason;
+use crate::opened::Table;
 use crate::request::{Form, Kind};
 use crate::written::{Written, write_table};
 use either_or_both::EitherOrBoth;
 use either_or_both::join::outer_join;
 use eob_joins::{anti_join, inner_join, left_join, right_join, semi_join};
-use eob_tables::{Cells, Group, Order, Rows};
+use eob_tables::{Cells, Group, Order};
 use std::alloc::Global;
 
 /// How a join is written: in which form, under which columns, and in which order.
@@ -19,29 +20,19 @@ pub struct Joining<'a> {
     pub order: &'a Order,
 }
 
-type Table = Rows<Cells, Group>;
-
 // What a row of a join has on its two sides.
 trait Sides {
-    fn sides(&self) -> (Option<&Group>, Option<&Group>);
+    // Whether a column tells which of the tables have the row.
+    const TELLS_SIDE: bool = false;
 
-    // Which of the tables have the row, where the join tells them apart.
-    fn word(&self) -> Option<&'static [u8]> {
-        None
-    }
+    fn sides(&self) -> (Option<&Group>, Option<&Group>);
 }
 
 impl Sides for EitherOrBoth<Group, Group> {
+    const TELLS_SIDE: bool = true;
+
     fn sides(&self) -> (Option<&Group>, Option<&Group>) {
         self.as_ref().unzip()
-    }
-
-    fn word(&self) -> Option<&'static [u8]> {
-        Some(match self {
-            EitherOrBoth::Left(_) => b"left",
-            EitherOrBoth::Both(..) => b"both",
-            EitherOrBoth::Right(_) => b"right",
-        })
     }
 }
 
@@ -68,25 +59,21 @@ impl Joining<'_> {
     pub fn write(self, kind: Kind, left: Table, right: Table) -> Result<Vec<u8>, Reason> {
         let alloc = self.alloc;
         match kind {
-            Kind::Outer => self.write_joined(outer_join(alloc, left.pairs, right.pairs)?, true),
-            Kind::Inner => self.write_joined(inner_join(alloc, left.pairs, right.pairs)?, false),
-            Kind::Left => self.write_joined(left_join(alloc, left.pairs, right.pairs)?, false),
-            Kind::Right => self.write_joined(right_join(alloc, left.pairs, right.pairs)?, false),
+            Kind::Outer => self.write_joined(outer_join(alloc, left.pairs, right.pairs)?),
+            Kind::Inner => self.write_joined(inner_join(alloc, left.pairs, right.pairs)?),
+            Kind::Left => self.write_joined(left_join(alloc, left.pairs, right.pairs)?),
+            Kind::Right => self.write_joined(right_join(alloc, left.pairs, right.pairs)?),
             Kind::Semi => self.write_left(semi_join(alloc, left.pairs, right.pairs)?),
             Kind::Anti => self.write_left(anti_join(alloc, left.pairs, right.pairs)?),
         }
     }
 
     // Rows of two sides, with a column that tells which of the tables have a row, or without it.
-    fn write_joined<T: Sides + Drop>(
-        self,
-        rows: Vec<(Cells, T)>,
-        has_side: bool,
-    ) -> Result<Vec<u8>, Reason> {
+    fn write_joined<T: Sides + Drop>(self, rows: Vec<(Cells, T)>) -> Result<Vec<u8>, Reason> {
         let rows = self.order.arrange(rows)?;
-        let mut written = self.begin(has_side)?;
+        let mut written = self.begin(T::TELLS_SIDE)?;
         for (key, row) in &rows {
-            put_rows(&mut written, self.columns, row.word(), key, row.sides())?;
+            put_rows(&mut written, self.columns, T::TELLS_SIDE, key, row.sides())?;
         }
         written.finish()
     }
@@ -141,15 +128,15 @@ fn put_names(
 fn put_rows(
     written: &mut Written,
     columns: &JoinColumns,
-    word: Option<&[u8]>,
+    tells_side: bool,
     key: &[Vec<u8>],
     sides: (Option<&Group>, Option<&Group>),
 ) -> Result<(), Reason> {
     let (left, right) = sides;
     for a in 0..left.map_or(1, |rows| rows.len()) {
         for b in 0..right.map_or(1, |rows| rows.len()) {
-            if let Some(word) = word {
-                written.put_cell(word)?;
+            if tells_side {
+                written.put_cell(side_of(left, right))?;
             }
             written.put(key)?;
             put_side(written, left, a, columns.left.rest.len())?;
@@ -158,6 +145,17 @@ fn put_rows(
         }
     }
     Ok(())
+}
+
+// Which of the tables have a row.
+fn side_of(left: Option<&Group>, right: Option<&Group>) -> &'static [u8] {
+    if right.is_none() {
+        b"left"
+    } else if left.is_none() {
+        b"right"
+    } else {
+        b"both"
+    }
 }
 
 fn put_side(

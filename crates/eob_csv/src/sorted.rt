@@ -2,15 +2,16 @@
 //!
 //! Where all rows of both tables up to a key are read, their join is the first part of the whole join (`law_cut_join` of `eob_joins`).
 
-use crate::answers::{Answer, compare_columns};
-use crate::columns::{Columns, JoinColumns, join_columns};
+use crate::answers::{Answer, columns_of_join, compare_columns};
+use crate::columns::{Columns, JoinColumns};
 use crate::fault::{Fault, Reason};
 use crate::joined::Joining;
-use crate::opened::{Opened, at};
+use crate::opened::{Stream, Table, Two, at};
 use crate::parts::Parts;
+use crate::read::Content;
 use crate::request::{Form, Kind, Settings};
 use crate::written::write_changes;
-use eob_tables::{Cells, Group, Order, Rows, changes_of};
+use eob_tables::{Cells, Order, changes_of};
 use std::alloc::{AllocError, Global};
 use std::io::{Read, Write};
 
@@ -34,8 +35,8 @@ impl<'c> Work<'c> {
         &self,
         alloc: Global,
         form: Form,
-        left: Rows<Cells, Group>,
-        right: Rows<Cells, Group>,
+        left: Table,
+        right: Table,
     ) -> Result<Answer, Reason> {
         match self {
             Work::Changes(columns) => changes_as_csv(alloc, form, columns, left, right),
@@ -57,8 +58,8 @@ fn changes_as_csv(
     alloc: Global,
     form: Form,
     columns: &Columns,
-    old: Rows<Cells, Group>,
-    new: Rows<Cells, Group>,
+    old: Table,
+    new: Table,
 ) -> Result<Answer, Reason> {
     let changes = changes_of(alloc, old, new)?;
     let bytes = write_changes(alloc, form, columns, &changes)?;
@@ -70,18 +71,19 @@ fn changes_as_csv(
 ///
 /// # Errors
 ///
-/// Returns the fault of a table whose rows can't be read, that lacks a column of the key, or in which a key is not greater than the one
+/// Returns the fault of a table that can't be opened or read, that lacks a column of the key, or in which a key is not greater than the one
 /// before it, and that of the output; also want of memory. Whole rows may be written by then.
-pub fn compare_sorted<'a, A: Read + Drop, B: Read + Drop, W: Write>(
+pub fn compare_sorted<'a, R: Read + Drop, W: Write>(
     alloc: Global,
     settings: Settings<'a>,
-    old: Opened<'a, A>,
-    new: Opened<'a, B>,
+    old: Stream<'a, R>,
+    new: Stream<'a, R>,
     output: &mut W,
 ) -> Result<u8, Fault<'a>> {
-    let (columns, said) = compare_columns(alloc, settings, &old, &new)?;
+    let versions = Two::new(alloc, settings, Content::Rows, old, new)?;
+    let (columns, said) = compare_columns(alloc, settings, &versions)?;
     let work = Work::Changes(&columns);
-    let status = write_tables(alloc, settings.form, work, old, new, output)?;
+    let status = write_tables(alloc, settings.form, work, versions, output)?;
     Ok(if said.has_lone { 1 } else { status })
 }
 
@@ -89,43 +91,42 @@ pub fn compare_sorted<'a, A: Read + Drop, B: Read + Drop, W: Write>(
 ///
 /// # Errors
 ///
-/// Returns the fault of a table whose rows can't be read, that lacks a column of the key, or in which a key is not greater than the one
+/// Returns the fault of a table that can't be opened or read, that lacks a column of the key, or in which a key is not greater than the one
 /// before it, and that of the output; also want of memory. Whole rows may be written by then.
-pub fn join_sorted<'a, A: Read + Drop, B: Read + Drop, W: Write>(
+pub fn join_sorted<'a, R: Read + Drop, W: Write>(
     alloc: Global,
     settings: Settings<'a>,
     kind: Kind,
-    left: Opened<'a, A>,
-    right: Opened<'a, B>,
+    left: Stream<'a, R>,
+    right: Stream<'a, R>,
     output: &mut W,
 ) -> Result<u8, Fault<'a>> {
-    let columns = join_columns(alloc, settings, &left.source.header, &right.source.header);
-    let columns = at(left.file, columns)?;
+    let sides = Two::new(alloc, settings, Content::Rows, left, right)?;
+    let columns = columns_of_join(alloc, settings, &sides)?;
     let work = Work::Join(kind, &columns);
-    write_tables(alloc, settings.form, work, left, right, output)
+    write_tables(alloc, settings.form, work, sides, output)
 }
 
 // Writes what there is to say of two tables while they are read, and returns the status.
-fn write_tables<'a, A: Read + Drop, B: Read + Drop, W: Write>(
+fn write_tables<'a, R: Read + Drop, W: Write>(
     alloc: Global,
     form: Form,
     work: Work<'_>,
-    left: Opened<'a, A>,
-    right: Opened<'a, B>,
+    tables: Two<'a, R>,
     output: &mut W,
 ) -> Result<u8, Fault<'a>> {
     let (left_columns, right_columns) = work.columns();
-    let mut left = Parts::new(alloc, left, left_columns)?;
-    let mut right = Parts::new(alloc, right, right_columns)?;
+    let mut left = Parts::new(alloc, tables.first, left_columns)?;
+    let mut right = Parts::new(alloc, tables.next, right_columns)?;
     write_parts(alloc, form, work, &mut left, &mut right, output)
 }
 
-fn write_parts<'a, A: Read + Drop, B: Read + Drop, W: Write>(
+fn write_parts<'a, R: Read + Drop, W: Write>(
     alloc: Global,
     mut form: Form,
     work: Work<'_>,
-    left: &mut Parts<'a, A>,
-    right: &mut Parts<'a, B>,
+    left: &mut Parts<'a, R>,
+    right: &mut Parts<'a, R>,
     output: &mut W,
 ) -> Result<u8, Fault<'a>> {
     let mut status = 0;
@@ -143,12 +144,12 @@ fn write_parts<'a, A: Read + Drop, B: Read + Drop, W: Write>(
 }
 
 // Writes what there is to say of the next part, and returns its status, and whether it is the last.
-fn write_part<'a, A: Read + Drop, B: Read + Drop, W: Write>(
+fn write_part<'a, R: Read + Drop, W: Write>(
     alloc: Global,
     form: Form,
     work: Work<'_>,
-    left: &mut Parts<'a, A>,
-    right: &mut Parts<'a, B>,
+    left: &mut Parts<'a, R>,
+    right: &mut Parts<'a, R>,
     output: &mut W,
 ) -> Result<(u8, bool), Fault<'a>> {
     let (left_rows, right_rows, is_last) = next_part(left, right)?;
@@ -158,11 +159,11 @@ fn write_part<'a, A: Read + Drop, B: Read + Drop, W: Write>(
 }
 
 // The rows of both tables up to a key, and whether they are the last.
-type Part = (Rows<Cells, Group>, Rows<Cells, Group>, bool);
+type Part = (Table, Table, bool);
 
-fn next_part<'a, A: Read + Drop, B: Read + Drop>(
-    left: &mut Parts<'a, A>,
-    right: &mut Parts<'a, B>,
+fn next_part<'a, R: Read + Drop>(
+    left: &mut Parts<'a, R>,
+    right: &mut Parts<'a, R>,
 ) -> Result<Part, Fault<'a>> {
     left.fill()?;
     right.fill()?;

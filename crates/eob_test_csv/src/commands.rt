@@ -1,8 +1,6 @@
 //! Each command on tables that are texts.
 
-use eob_csv::{
-    Answer, Content, Fault, Form, Format, Kind, Opened, Settings, change, compare, join, merge,
-};
+use eob_csv::{Answer, Fault, Form, Format, Kind, Settings, Stream, change, compare, join, merge};
 use std::alloc::Global;
 use std::test::Fail;
 
@@ -22,6 +20,14 @@ pub const PLAIN: Settings<'static> = Settings {
 /// A table that a person reads, with no colour.
 pub const TEXT: Format = Format::Table { has_colour: false };
 
+/// A text as what a file of this name has.
+pub fn text<'a, 'b>(file: &'a str, bytes: &'b [u8]) -> Stream<'a, &'b [u8]> {
+    Stream {
+        file,
+        reader: Ok(bytes),
+    }
+}
+
 /// The answer to `diff`.
 pub fn compared<'a>(
     alloc: Global,
@@ -30,9 +36,7 @@ pub fn compared<'a>(
     old: &[u8],
     new: &[u8],
 ) -> Result<Answer, Fault<'a>> {
-    let mut old = Opened::new(alloc, settings, Content::Rows, "old", old)?;
-    let mut new = Opened::new(alloc, settings, Content::Rows, "new", new)?;
-    compare(alloc, settings, format, &mut old, &mut new)
+    compare(alloc, settings, format, text("old", old), text("new", new))
 }
 
 /// The answer to `apply`.
@@ -42,9 +46,7 @@ pub fn applied<'a>(
     old: &[u8],
     changes: &[u8],
 ) -> Result<Answer, Fault<'a>> {
-    let mut old = Opened::new(alloc, settings, Content::Rows, "old", old)?;
-    let mut changes = Opened::new(alloc, settings, Content::Changes, "changes", changes)?;
-    change(alloc, settings, &mut old, &mut changes)
+    change(alloc, settings, text("old", old), text("changes", changes))
 }
 
 /// The answer to `merge`.
@@ -55,10 +57,14 @@ pub fn merged<'a>(
     ours: &[u8],
     theirs: &[u8],
 ) -> Result<Answer, Fault<'a>> {
-    let mut base = Opened::new(alloc, settings, Content::Rows, "base", base)?;
-    let mut ours = Opened::new(alloc, settings, Content::Rows, "ours", ours)?;
-    let mut theirs = Opened::new(alloc, settings, Content::Rows, "theirs", theirs)?;
-    merge(alloc, settings, &mut base, &mut ours, &mut theirs)
+    let base = text("base", base);
+    merge(
+        alloc,
+        settings,
+        base,
+        text("ours", ours),
+        text("theirs", theirs),
+    )
 }
 
 /// The answer to `join`.
@@ -69,9 +75,13 @@ pub fn joined<'a>(
     left: &[u8],
     right: &[u8],
 ) -> Result<Answer, Fault<'a>> {
-    let mut left = Opened::new(alloc, settings, Content::Rows, "left", left)?;
-    let mut right = Opened::new(alloc, settings, Content::Rows, "right", right)?;
-    join(alloc, settings, kind, &mut left, &mut right)
+    join(
+        alloc,
+        settings,
+        kind,
+        text("left", left),
+        text("right", right),
+    )
 }
 
 /// The answer of a command whose inputs are good.
@@ -79,6 +89,17 @@ pub fn answered(outcome: Result<Answer, Fault<'_>>) -> Result<Answer, Fail> {
     match outcome {
         Ok(answer) => Ok(answer),
         Err(fault) => Err(Fail::new(fault)),
+    }
+}
+
+/// Fails unless the answer has this status and these bytes.
+pub fn expect(outcome: Result<Answer, Fault<'_>>, status: u8, bytes: &[u8]) -> Result<(), Fail> {
+    let answer = answered(outcome)?;
+    if answer.status == status && answer.bytes.as_slice() == bytes {
+        Ok(())
+    } else {
+        let text = str::from_utf8(&answer.bytes);
+        Err(Fail::new(format_args!("status {}: {text:?}", answer.status)))
     }
 }
 

@@ -1,9 +1,8 @@
 //! Tests: streams that fail, and files that are none.
 
 use crate::commands::{PLAIN, TEXT, merged, said};
-use eob_csv::{
-    Answer, Content, Fault, Format, Opened, Request, answer_request, compare, write_whole,
-};
+use either_or_both::Either;
+use eob_csv::{Answer, Fault, Format, Request, Stream, answer_request, compare, write_whole};
 use std::alloc::Global;
 use std::io;
 use std::io::{ErrorKind, Read, Write};
@@ -56,9 +55,15 @@ const TABLE: &[u8] = b"id,a\n1,\"x\ny\"\n2,z\n";
 
 // The answer to `diff` where the input of the new table fails behind these bytes.
 fn broken_off<'a>(alloc: Global, new: &[u8]) -> Result<Answer, Fault<'a>> {
-    let mut old = Opened::new(alloc, PLAIN, Content::Rows, "old", TABLE)?;
-    let mut new = Opened::new(alloc, PLAIN, Content::Rows, "new", Broken { rest: new })?;
-    compare(alloc, PLAIN, Format::Csv, &mut old, &mut new)
+    let old = Stream {
+        file: "old",
+        reader: Ok(Either::Left(TABLE)),
+    };
+    let new = Stream {
+        file: "new",
+        reader: Ok(Either::Right(Broken { rest: new })),
+    };
+    compare(alloc, PLAIN, Format::Csv, old, new)
 }
 
 /// An input that fails at any byte is the fault of its file, and gives no answer.

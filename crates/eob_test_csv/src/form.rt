@@ -1,6 +1,6 @@
 //! Tests: tables with no header, and rows in the order of the files.
 
-use crate::commands::{COMMAS, PLAIN, answered, applied, compared, joined, merged};
+use crate::commands::{COMMAS, PLAIN, answered, applied, compared, expect, joined, merged};
 use eob_csv::{Form, Format, Kind, Settings};
 use std::alloc::{AllocError, Global};
 use std::test::Fail;
@@ -43,12 +43,8 @@ const CHANGED: [Changed; 3] = [
 fn columns_with_no_header_have_numbers(rt: HostRuntime) -> Result<(), Fail> {
     let alloc = rt.alloc();
     for (old, new, changes, made) in CHANGED {
-        let answer = answered(compared(alloc, NUMBERED, Format::Csv, old, new))?;
-        assert_eq!(rt; answer.status, 1);
-        assert!(rt; answer.bytes.as_slice() == changes);
-        let answer = answered(applied(alloc, NUMBERED, old, changes))?;
-        assert_eq!(rt; answer.status, 0);
-        assert!(rt; answer.bytes.as_slice() == made);
+        expect(compared(alloc, NUMBERED, Format::Csv, old, new), 1, changes)?;
+        expect(applied(alloc, NUMBERED, old, changes), 0, made)?;
     }
     Ok(())
 }
@@ -63,12 +59,9 @@ fn columns_keep_their_names_and_order(rt: HostRuntime) -> Result<(), Fail> {
     };
     let old: &[u8] = b"change,id\nx,1\n";
     let new: &[u8] = b"change,id,more\ny,1,z\n";
-    let answer = answered(compared(alloc, settings, Format::Csv, old, new))?;
     let changes: &[u8] = b"change,change,id,more\n-,x,1,\n+,y,1,z\n";
-    assert!(rt; answer.bytes.as_slice() == changes);
-    let answer = answered(applied(alloc, settings, old, changes))?;
-    assert!(rt; answer.bytes.as_slice() == new);
-    Ok(())
+    expect(compared(alloc, settings, Format::Csv, old, new), 1, changes)?;
+    expect(applied(alloc, settings, old, changes), 0, new)
 }
 
 // Cells as CSV writes them: plain, empty, with a comma, quotes, line ends and spaces, and bytes that are no UTF-8.
@@ -103,10 +96,7 @@ fn cells_of_every_shape_pass_unchanged(rt: HostRuntime) -> Result<(), Fail> {
     let old = shapes(alloc, false)?;
     let new = shapes(alloc, true)?;
     let changes = answered(compared(alloc, PLAIN, Format::Csv, &old, &new))?;
-    let made = answered(applied(alloc, PLAIN, &old, &changes.bytes))?;
-    assert_eq!(rt; made.status, 0);
-    assert!(rt; made.bytes == new);
-    Ok(())
+    expect(applied(alloc, PLAIN, &old, &changes.bytes), 0, &new)
 }
 
 // Two tables in no order, and what each command makes of them in the order of the files.
@@ -125,15 +115,14 @@ const JOINED: &[u8] = b"id,left.a,right.a\n5,p,q\n3,p,q\n4,,p\n2,,p\n";
 fn rows_keep_the_order_of_the_files(rt: HostRuntime) -> Result<(), Fail> {
     let alloc = rt.alloc();
     let base = b"id,a\n1,p\n3,p\n5,p\n";
-    for (outcome, wanted) in [
-        (compared(alloc, IN_ORDER, Format::Csv, FIRST, NEXT), CHANGES),
-        (applied(alloc, IN_ORDER, FIRST, CHANGES), MADE),
-        (joined(alloc, IN_ORDER, Kind::Right, FIRST, NEXT), JOINED),
-        (merged(alloc, IN_ORDER, base, FIRST, NEXT), MADE),
-    ] {
-        assert!(rt; answered(outcome)?.bytes.as_slice() == wanted);
-    }
-    Ok(())
+    expect(
+        compared(alloc, IN_ORDER, Format::Csv, FIRST, NEXT),
+        1,
+        CHANGES,
+    )?;
+    expect(applied(alloc, IN_ORDER, FIRST, CHANGES), 0, MADE)?;
+    expect(joined(alloc, IN_ORDER, Kind::Right, FIRST, NEXT), 0, JOINED)?;
+    expect(merged(alloc, IN_ORDER, base, FIRST, NEXT), 0, MADE)
 }
 
 // Keys in the order of their bytes, and the other way about: some share their first eight bytes, and some end before them.
@@ -146,7 +135,9 @@ const FALLING: &[u8] =
 /// Rows come out in the order of their keys' bytes, of whatever length the keys are.
 #[test]
 fn rows_rise_by_the_bytes_of_their_keys(rt: HostRuntime) -> Result<(), Fail> {
-    let answer = answered(joined(rt.alloc(), PLAIN, Kind::Semi, FALLING, RISING))?;
-    assert!(rt; answer.bytes.as_slice() == RISING);
-    Ok(())
+    expect(
+        joined(rt.alloc(), PLAIN, Kind::Semi, FALLING, RISING),
+        0,
+        RISING,
+    )
 }

@@ -1,6 +1,6 @@
 //! Tests: tables whose keys repeat.
 
-use crate::commands::{PLAIN, TEXT, answered, applied, compared, joined, merged};
+use crate::commands::{PLAIN, TEXT, answered, applied, compared, expect, joined, merged};
 use eob_csv::{Format, Kind, Settings};
 use std::alloc::{AllocError, Global};
 use std::fmt::Write;
@@ -19,8 +19,6 @@ const NEW: &[u8] = b"id,a\n1,q\n3,s\n1,p\n2,z\n2,x\n1,r\n1,r\n";
 #[test]
 fn rows_of_groups_that_changed_are_shown(rt: HostRuntime) -> Result<(), Fail> {
     let alloc = rt.alloc();
-    let answer = answered(compared(alloc, GROUPS, TEXT, OLD, NEW))?;
-    assert_eq!(rt; answer.status, 1);
     let wanted = "         id  a
 changed  1   p -> r
 added    1   r
@@ -28,11 +26,19 @@ changed  2   y -> z
 added    3   s
 2 added, 0 removed, 2 changed, 3 the same
 ";
-    assert_eq!(rt; str::from_utf8(&answer.bytes)?, wanted);
+    expect(
+        compared(alloc, GROUPS, TEXT, OLD, NEW),
+        1,
+        wanted.as_bytes(),
+    )
+}
+
+/// Groups with the same rows in another order are the same.
+#[test]
+fn groups_of_the_same_rows_are_the_same(rt: HostRuntime) -> Result<(), Fail> {
     let same = b"id,a\n1,p\n1,p\n1,q\n2,y\n2,x\n";
-    let answer = answered(compared(alloc, GROUPS, TEXT, OLD, same))?;
-    assert_eq!(rt; answer.status, 0);
-    Ok(())
+    let wanted = b"0 added, 0 removed, 0 changed, 5 the same\n";
+    expect(compared(rt.alloc(), GROUPS, TEXT, OLD, same), 0, wanted)
 }
 
 // A table of groups by a rule: under each of two hundred keys up to four rows.
@@ -50,7 +56,6 @@ fn table(alloc: Global, shift: usize) -> Result<String, AllocError> {
 #[test]
 fn changes_of_groups_are_whole(rt: HostRuntime) -> Result<(), Fail> {
     let alloc = rt.alloc();
-    let changes = answered(compared(alloc, GROUPS, Format::Csv, OLD, NEW))?;
     let wanted = "change,id,a
 -,1,p
 -,1,p
@@ -65,8 +70,11 @@ fn changes_of_groups_are_whole(rt: HostRuntime) -> Result<(), Fail> {
 +,2,z
 +,3,s
 ";
-    assert_eq!(rt; str::from_utf8(&changes.bytes)?, wanted);
-    Ok(())
+    expect(
+        compared(alloc, GROUPS, Format::Csv, OLD, NEW),
+        1,
+        wanted.as_bytes(),
+    )
 }
 
 /// The changes from a table of groups to another, made to the first, give the second, and do not fit the second.
@@ -78,8 +86,8 @@ fn changes_of_groups_made_again_give_the_new_table(rt: HostRuntime) -> Result<()
     let changes = answered(compared(alloc, GROUPS, Format::Csv, old.as_bytes(), new.as_bytes()))?;
     let made = answered(applied(alloc, GROUPS, old.as_bytes(), &changes.bytes))?;
     assert_eq!(rt; made.status, 0);
-    let left = answered(compared(alloc, GROUPS, Format::Csv, &made.bytes, new.as_bytes()))?;
-    assert_eq!(rt; left.status, 0);
+    let none = compared(alloc, GROUPS, Format::Csv, &made.bytes, new.as_bytes());
+    expect(none, 0, b"change,key,cell\n")?;
     let refused = answered(applied(alloc, GROUPS, new.as_bytes(), &changes.bytes))?;
     assert_eq!(rt; refused.status, 1);
     Ok(())
@@ -91,7 +99,6 @@ fn groups_are_joined(rt: HostRuntime) -> Result<(), Fail> {
     let alloc = rt.alloc();
     let left = b"id,a\n1,p\n1,q\n2,x\n";
     let right = b"id,b\n3,z\n1,t\n1,s\n";
-    let answer = answered(joined(alloc, GROUPS, Kind::Outer, left, right))?;
     let wanted = "side,id,a,b
 both,1,p,s
 both,1,p,t
@@ -100,8 +107,11 @@ both,1,q,t
 left,2,x,
 right,3,,z
 ";
-    assert_eq!(rt; str::from_utf8(&answer.bytes)?, wanted);
-    Ok(())
+    expect(
+        joined(alloc, GROUPS, Kind::Outer, left, right),
+        0,
+        wanted.as_bytes(),
+    )
 }
 
 /// A merge takes whole groups.
@@ -111,7 +121,9 @@ fn groups_are_merged(rt: HostRuntime) -> Result<(), Fail> {
     let base = b"id,a\n1,p\n1,q\n2,x\n";
     let ours = b"id,a\n1,q\n2,x\n1,p\n1,r\n";
     let theirs = b"id,a\n1,q\n1,p\n";
-    let answer = answered(merged(alloc, GROUPS, base, ours, theirs))?;
-    assert_eq!(rt; str::from_utf8(&answer.bytes)?, "id,a\n1,p\n1,q\n1,r\n");
-    Ok(())
+    expect(
+        merged(alloc, GROUPS, base, ours, theirs),
+        0,
+        b"id,a\n1,p\n1,q\n1,r\n",
+    )
 }

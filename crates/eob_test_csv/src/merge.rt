@@ -1,6 +1,6 @@
 //! Tests: three versions of a table merged, of hundreds of rows made by a rule.
 
-use crate::commands::{PLAIN, answered, merged};
+use crate::commands::{PLAIN, expect, merged};
 use std::alloc::{AllocError, Global};
 use std::fmt::Write;
 use std::test::Fail;
@@ -48,10 +48,7 @@ fn versions_made_by_a_rule_are_merged(rt: HostRuntime) -> Result<(), Fail> {
         ours.as_bytes(),
         theirs.as_bytes(),
     );
-    let answer = answered(merge)?;
-    assert_eq!(rt; answer.status, 0);
-    assert!(rt; answer.bytes.as_slice() == wanted.as_bytes());
-    Ok(())
+    expect(merge, 0, wanted.as_bytes())
 }
 
 /// Rows in conflict alone are printed, each with its three versions, and the status is 1.
@@ -61,8 +58,6 @@ fn rows_in_conflict_are_shown(rt: HostRuntime) -> Result<(), Fail> {
     let base = b"id,a\n1,x\n2,x\n3,x\n5,x\n";
     let ours = b"id,a\n1,y\n2,y\n4,p\n5,y\n";
     let theirs = b"id,a\n1,x\n2,z\n3,w\n4,q\n";
-    let answer = answered(merged(alloc, PLAIN, base, ours, theirs))?;
-    assert_eq!(rt; answer.status, 1);
     let wanted = "        id  a
 base    2   x
 ours    2   y
@@ -77,6 +72,9 @@ base    5   x
 ours    5   y
 theirs  5   (no row)
 ";
-    assert_eq!(rt; str::from_utf8(&answer.bytes)?, wanted);
-    Ok(())
+    expect(
+        merged(alloc, PLAIN, base, ours, theirs),
+        1,
+        wanted.as_bytes(),
+    )
 }

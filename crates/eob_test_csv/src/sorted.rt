@@ -1,7 +1,7 @@
 //! Tests: tables of hundreds of rows whose keys rise, compared and joined as they are read.
 
-use crate::commands::{PLAIN, answered, compared, joined, said};
-use eob_csv::{Answer, Content, Fault, Format, Kind, Opened, compare_sorted, join_sorted};
+use crate::commands::{PLAIN, answered, compared, expect, joined, said, text};
+use eob_csv::{Answer, Fault, Format, Kind, compare_sorted, join_sorted};
 use std::alloc::{AllocError, Global};
 use std::fmt::Write;
 use std::test::Fail;
@@ -20,9 +20,7 @@ fn table(alloc: Global, step: usize, limit: usize) -> Result<String, AllocError>
 // What `diff` writes as it reads, and its status.
 fn compared_in_parts<'a>(alloc: Global, old: &[u8], new: &[u8]) -> Result<Answer, Fault<'a>> {
     let mut bytes = Vec::new(alloc);
-    let old = Opened::new(alloc, PLAIN, Content::Rows, "old", old)?;
-    let new = Opened::new(alloc, PLAIN, Content::Rows, "new", new)?;
-    let status = compare_sorted(alloc, PLAIN, old, new, &mut bytes)?;
+    let status = compare_sorted(alloc, PLAIN, text("old", old), text("new", new), &mut bytes)?;
     Ok(Answer { bytes, status })
 }
 
@@ -34,8 +32,7 @@ fn joined_in_parts<'a>(
     right: &[u8],
 ) -> Result<Answer, Fault<'a>> {
     let mut bytes = Vec::new(alloc);
-    let left = Opened::new(alloc, PLAIN, Content::Rows, "left", left)?;
-    let right = Opened::new(alloc, PLAIN, Content::Rows, "right", right)?;
+    let (left, right) = (text("left", left), text("right", right));
     let status = join_sorted(alloc, PLAIN, kind, left, right, &mut bytes)?;
     Ok(Answer { bytes, status })
 }
@@ -65,9 +62,8 @@ fn parts_give_the_changes(rt: HostRuntime) -> Result<(), Fail> {
         let old = table(alloc, step, limit)?;
         let new = table(alloc, other_step, other_limit)?;
         let whole = answered(compared(alloc, PLAIN, Format::Csv, old.as_bytes(), new.as_bytes()))?;
-        let parts = answered(compared_in_parts(alloc, old.as_bytes(), new.as_bytes()))?;
-        assert_eq!(rt; parts.status, whole.status);
-        assert!(rt; parts.bytes == whole.bytes);
+        let parts = compared_in_parts(alloc, old.as_bytes(), new.as_bytes());
+        expect(parts, whole.status, &whole.bytes)?;
     }
     Ok(())
 }
@@ -80,9 +76,9 @@ fn parts_give_the_joins(rt: HostRuntime) -> Result<(), Fail> {
         let left = table(alloc, step, limit)?;
         let right = table(alloc, other_step, other_limit)?;
         for kind in KINDS {
-            let whole = joined(alloc, PLAIN, kind, left.as_bytes(), right.as_bytes());
+            let whole = answered(joined(alloc, PLAIN, kind, left.as_bytes(), right.as_bytes()))?;
             let parts = joined_in_parts(alloc, kind, left.as_bytes(), right.as_bytes());
-            assert!(rt; answered(parts)?.bytes == answered(whole)?.bytes);
+            expect(parts, 0, &whole.bytes)?;
         }
     }
     Ok(())

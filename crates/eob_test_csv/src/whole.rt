@@ -1,6 +1,6 @@
 //! Tests: tables of hundreds of rows made by a rule, changes made again, and what is said of inputs that are bad.
 
-use crate::commands::{PLAIN, TEXT, answered, applied, compared, joined, said};
+use crate::commands::{PLAIN, TEXT, answered, applied, compared, expect, joined, said};
 use eob_csv::{Format, Kind};
 use std::alloc::{AllocError, Global};
 use std::fmt::Write;
@@ -41,9 +41,8 @@ fn changes_made_again_give_the_new_table(rt: HostRuntime) -> Result<(), Fail> {
     let new = table(alloc, 3, 2)?;
     let changes = answered(compared(alloc, PLAIN, Format::Csv, old.as_bytes(), new.as_bytes()))?;
     assert_eq!(rt; changes.status, 1);
-    let made = answered(applied(alloc, PLAIN, old.as_bytes(), &changes.bytes))?;
-    assert_eq!(rt; made.status, 0);
-    assert!(rt; made.bytes.as_slice() == new.as_bytes());
+    let made = applied(alloc, PLAIN, old.as_bytes(), &changes.bytes);
+    expect(made, 0, new.as_bytes())?;
     let refused = answered(applied(alloc, PLAIN, new.as_bytes(), &changes.bytes))?;
     assert_eq!(rt; refused.status, 1);
     Ok(())
@@ -93,9 +92,11 @@ changed  2   y  z ->    -> w
 fn changes_are_shown(rt: HostRuntime) -> Result<(), Fail> {
     let alloc = rt.alloc();
     for (old, new, format, status, wanted) in COMPARISONS {
-        let answer = answered(compared(alloc, PLAIN, format, old, new))?;
-        assert_eq!(rt; str::from_utf8(&answer.bytes)?, wanted);
-        assert_eq!(rt; answer.status, status, "{wanted}");
+        expect(
+            compared(alloc, PLAIN, format, old, new),
+            status,
+            wanted.as_bytes(),
+        )?;
     }
     Ok(())
 }
@@ -127,8 +128,11 @@ fn rows_have_the_colour_of_their_change(rt: HostRuntime) -> Result<(), Fail> {
     let alloc = rt.alloc();
     for (has_colour, wanted) in [(false, SHOWN), (true, COLOURED)] {
         let format = Format::Table { has_colour };
-        let answer = answered(compared(alloc, PLAIN, format, THREE, OTHER_THREE))?;
-        assert!(rt; answer.bytes.as_slice() == wanted);
+        expect(
+            compared(alloc, PLAIN, format, THREE, OTHER_THREE),
+            1,
+            wanted,
+        )?;
     }
     Ok(())
 }
@@ -172,9 +176,11 @@ fn joins_of_each_kind(rt: HostRuntime) -> Result<(), Fail> {
     let left = b"id,a\n3,x\n1,y\n";
     let right = b"a,id,b\np,2,q\nr,3,s\n";
     for (kind, wanted) in JOINS {
-        let answer = answered(joined(alloc, PLAIN, kind, left, right))?;
-        assert_eq!(rt; answer.status, 0);
-        assert_eq!(rt; str::from_utf8(&answer.bytes)?, wanted);
+        expect(
+            joined(alloc, PLAIN, kind, left, right),
+            0,
+            wanted.as_bytes(),
+        )?;
     }
     Ok(())
 }
