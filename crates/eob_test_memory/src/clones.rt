@@ -4,7 +4,7 @@ use crate::same::same;
 use crate::token::{Token, counted};
 use either_or_both::EitherOrBoth::{Both, Left, Right};
 use either_or_both::{Either, EitherOrBoth};
-use eob_testkit::memory::{RUNS, Refusing, Tokens};
+use eob_testkit::memory::{RUNS, Refusing, Runs, Tokens};
 use std::alloc::{AllocError, Global};
 use std::fmt::Debug;
 use std::process::Abort;
@@ -28,23 +28,11 @@ fn check<V: Clone + Debug + Drop>(
     value: V,
 ) -> Result<(), Fail> {
     let want = shown(alloc, &value)?;
-    let alive = tokens.alive();
+    let runs = Runs::new(alloc, memory, tokens);
     for number in 1..RUNS {
         memory.refuse(number);
-        let ended: Result<V, AllocError> = value.clone();
-        let judged = memory.judge(ended)?;
+        let is_whole = runs.is_whole(value.clone(), &want)?;
         same(rt, "the value", &number, &shown(alloc, &value)?, &want);
-        let is_whole = judged.is_some();
-        if let Some(whole) = judged {
-            same(rt, "clone", &number, &shown(alloc, &whole)?, &want);
-        }
-        same(
-            rt,
-            "values alive",
-            &(&want, number),
-            &tokens.alive(),
-            &alive,
-        );
         if is_whole {
             same(rt, "refused runs", &want, &(1 < number), &true);
             return Ok(());
@@ -71,25 +59,36 @@ fn lists<'a>(
     Ok(Both(list(memory, tokens)?, list(memory, tokens)?))
 }
 
-// The same of a pair of lists, and of one list, each proved once for all variants.
-fn check_pair(
-    rt: &impl Abort,
-    alloc: Global,
-    memory: Memory,
+// Each variant of `EitherOrBoth`.
+const PAIRS: [EitherOrBoth<()>; 3] = [Left(()), Both((), ()), Right(())];
+
+// Each variant of `Either`.
+const ONES: [Either<()>; 2] = [Either::Left(()), Either::Right(())];
+
+// Lists in the places of this variant.
+fn pair<'a>(
+    memory: Memory<'a>,
     tokens: &Tokens,
-    pair: EitherOrBoth<List, List>,
-) -> Result<(), Fail> {
-    check(rt, alloc, memory, tokens, pair)
+    variant: EitherOrBoth<()>,
+) -> Result<EitherOrBoth<List<'a>>, AllocError> {
+    match variant {
+        Left(()) => Ok(Left(list(memory, tokens)?)),
+        Both((), ()) => lists(memory, tokens),
+        Right(()) => Ok(Right(list(memory, tokens)?)),
+    }
 }
 
-fn check_one(
-    rt: &impl Abort,
-    alloc: Global,
-    memory: Memory,
+// A list in the place of this variant.
+fn one<'a>(
+    memory: Memory<'a>,
     tokens: &Tokens,
-    one: Either<List, List>,
-) -> Result<(), Fail> {
-    check(rt, alloc, memory, tokens, one)
+    variant: Either<()>,
+) -> Result<Either<List<'a>>, AllocError> {
+    let list = list(memory, tokens)?;
+    match variant {
+        Either::Left(()) => Ok(Either::Left(list)),
+        Either::Right(()) => Ok(Either::Right(list)),
+    }
 }
 
 /// Each variant of both enums: a clone is made whole, or where memory is refused is dropped.
@@ -98,27 +97,37 @@ fn values_are_cloned(rt: HostRuntime) -> Result<(), Fail> {
     let alloc = rt.alloc();
     let m = &Refusing::new(alloc);
     let t = &Tokens::new(alloc)?;
-    check_pair(&rt, alloc, m, t, Left(list(m, t)?))?;
-    check_pair(&rt, alloc, m, t, lists(m, t)?)?;
-    check_pair(&rt, alloc, m, t, Right(list(m, t)?))?;
-    check_one(&rt, alloc, m, t, Either::Left(list(m, t)?))?;
-    check_one(&rt, alloc, m, t, Either::Right(list(m, t)?))
+    for variant in PAIRS {
+        check(&rt, alloc, m, t, pair(m, t, variant)?)?;
+    }
+    for variant in ONES {
+        check(&rt, alloc, m, t, one(m, t, variant)?)?;
+    }
+    Ok(())
 }
 
-/// The same of the walks over both enums.
+/// The same of the walks over `EitherOrBoth`.
 #[test]
-fn walks_are_cloned(rt: HostRuntime) -> Result<(), Fail> {
+fn walks_over_either_or_both_are_cloned(rt: HostRuntime) -> Result<(), Fail> {
     let alloc = rt.alloc();
     let m = &Refusing::new(alloc);
     let t = &Tokens::new(alloc)?;
     check(&rt, alloc, m, t, lists(m, t)?.into_iter())?;
     check(&rt, alloc, m, t, lists(m, t)?.into_iter_chain())?;
-    check(&rt, alloc, m, t, lists(m, t)?.into_iter_swap())?;
-    let left = Either::<List>::Left(list(m, t)?);
+    check(&rt, alloc, m, t, lists(m, t)?.into_iter_swap())
+}
+
+/// The same of the walks over `Either`.
+#[test]
+fn walks_over_either_are_cloned(rt: HostRuntime) -> Result<(), Fail> {
+    let alloc = rt.alloc();
+    let m = &Refusing::new(alloc);
+    let t = &Tokens::new(alloc)?;
+    let left = one(m, t, Either::Left(()))?;
     check(&rt, alloc, m, t, left.into_iter())?;
-    let right = Either::<List>::Right(list(m, t)?);
+    let right = one(m, t, Either::Right(()))?;
     check(&rt, alloc, m, t, right.into_iter_inner())?;
-    let left = Either::<List>::Left(list(m, t)?);
+    let left = one(m, t, Either::Left(()))?;
     check(&rt, alloc, m, t, left.into_iter_swap())
 }
 
@@ -158,34 +167,14 @@ fn check_cloned<V: ClonedPlaces>(
     mut value: V,
 ) -> Result<(), Fail> {
     let want = shown(alloc, &value)?;
-    let alive = tokens.alive();
+    let runs = Runs::new(alloc, memory, tokens);
     for number in 1..RUNS {
         memory.refuse(number);
-        let shared = memory.judge(value.cloned_places())?;
+        let is_whole = runs.is_whole(value.cloned_places(), &want)?;
         memory.refuse(number);
-        let lent = memory.judge(value.cloned_places_mut())?;
+        let is_lent_whole = runs.is_whole(value.cloned_places_mut(), &want)?;
+        same(rt, "cloned on &mut", &number, &is_lent_whole, &is_whole);
         same(rt, "the value", &number, &shown(alloc, &value)?, &want);
-        let is_whole = shared.is_some();
-        same(
-            rt,
-            "cloned on &mut",
-            &(&want, number),
-            &lent.is_some(),
-            &is_whole,
-        );
-        if let Some(shared) = shared {
-            same(rt, "cloned on &", &number, &shown(alloc, &shared)?, &want);
-        }
-        if let Some(lent) = lent {
-            same(rt, "cloned on &mut", &number, &shown(alloc, &lent)?, &want);
-        }
-        same(
-            rt,
-            "values alive",
-            &(&want, number),
-            &tokens.alive(),
-            &alive,
-        );
         if is_whole {
             same(rt, "refused runs", &want, &(1 < number), &true);
             return Ok(());
@@ -201,11 +190,13 @@ fn places_are_cloned_through_references(rt: HostRuntime) -> Result<(), Fail> {
     let alloc = rt.alloc();
     let m = &Refusing::new(alloc);
     let t = &Tokens::new(alloc)?;
-    check_cloned(&rt, alloc, m, t, Left(list(m, t)?))?;
-    check_cloned(&rt, alloc, m, t, lists(m, t)?)?;
-    check_cloned(&rt, alloc, m, t, Right(list(m, t)?))?;
-    check_cloned(&rt, alloc, m, t, Either::Left(list(m, t)?))?;
-    check_cloned(&rt, alloc, m, t, Either::Right(list(m, t)?))
+    for variant in PAIRS {
+        check_cloned(&rt, alloc, m, t, pair(m, t, variant)?)?;
+    }
+    for variant in ONES {
+        check_cloned(&rt, alloc, m, t, one(m, t, variant)?)?;
+    }
+    Ok(())
 }
 
 /// A value whose clone refuses by itself.

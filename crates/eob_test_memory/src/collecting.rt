@@ -1,39 +1,13 @@
 //! Pairs of containers of each shape, collected from values of either enum.
 
 use crate::shapes::Given::{Eithers, Values};
-use crate::shapes::{
-    Entry, Memory, btree_maps, btree_sets, hash_maps, hash_sets, index_maps, index_sets,
-    vec_deques, vecs,
-};
-use crate::token::{Token, counted};
+use crate::shapes::{Memory, Wanted, lists_and_sets, maps};
+use crate::token::Numbers;
 use either_or_both::EitherOrBoth::{Both, Left, Right};
 use either_or_both::{Either, EitherOrBoth};
 use eob_testkit::memory::{Refusing, Source, Tokens, Watch};
 use std::alloc::{AllocError, Global};
 use std::test::Fail;
-
-// Numbers of which values are made.
-trait Numbers: Copy {
-    type Values: Drop;
-
-    fn values(self, tokens: &Tokens) -> Result<Self::Values, AllocError>;
-}
-
-impl Numbers for u8 {
-    type Values = Token;
-
-    fn values(self, tokens: &Tokens) -> Result<Token, AllocError> {
-        counted(tokens, self)
-    }
-}
-
-impl Numbers for (u8, u8) {
-    type Values = Entry;
-
-    fn values(self, tokens: &Tokens) -> Result<Entry, AllocError> {
-        Ok((counted(tokens, self.0)?, counted(tokens, self.1)?))
-    }
-}
 
 // The values of these numbers, in their places.
 fn values<N: Numbers>(
@@ -70,20 +44,21 @@ fn eithers<N: Numbers>(
     Ok(values)
 }
 
-/// Lists and sets, from values of `EitherOrBoth`. A hashed set has one value a side here, since its order is not told.
+/// Lists and sets, from values of `EitherOrBoth`.
 #[test]
 fn lists_and_sets_are_collected(rt: HostRuntime) -> Result<(), Fail> {
     let alloc = rt.alloc();
     let m = &Refusing::new(alloc);
     let t = &Tokens::new(alloc)?;
-    let items = values(alloc, t, &[Left(3), Both(1, 2), Right(1), Left(3)])?;
-    let alike = values(alloc, t, &[Left(3), Both(3, 2)])?;
+    let items = &values(alloc, t, &[Left(3), Both(1, 2), Right(1), Left(3)])?;
+    let alike = &values(alloc, t, &[Left(3), Both(3, 2)])?;
     let lists = "Both([3, 1, 3], [2, 1])";
-    vecs(&rt, alloc, m, t, Values(&items), lists)?;
-    vec_deques(&rt, alloc, m, t, Values(&items), lists)?;
-    hash_sets(&rt, alloc, m, t, Values(&alike), "Both({3}, {2})")?;
-    index_sets(&rt, alloc, m, t, Values(&items), "Both({3, 1}, {2, 1})")?;
-    btree_sets(&rt, alloc, m, t, Values(&items), "Both({1, 3}, {1, 2})")
+    let sets = Wanted {
+        hashed: "Both({3}, {2})",
+        inserted: "Both({3, 1}, {2, 1})",
+        ordered: "Both({1, 3}, {1, 2})",
+    };
+    lists_and_sets(&rt, alloc, m, t, Values(items), Values(alike), lists, sets)
 }
 
 /// Lists and sets, from values of `Either`.
@@ -93,13 +68,24 @@ fn lists_and_sets_are_collected_from_either(rt: HostRuntime) -> Result<(), Fail>
     let m = &Refusing::new(alloc);
     let t = &Tokens::new(alloc)?;
     let numbers = [Either::Right(3), Either::Left(2), Either::Right(1)];
-    let items = eithers(alloc, t, &numbers)?;
-    let alike = eithers(alloc, t, &[Either::Right(3), Either::Right(3)])?;
-    vecs(&rt, alloc, m, t, Eithers(&items), "Both([2], [3, 1])")?;
-    vec_deques(&rt, alloc, m, t, Eithers(&items), "Both([2], [3, 1])")?;
-    hash_sets(&rt, alloc, m, t, Eithers(&alike), "Right({3})")?;
-    index_sets(&rt, alloc, m, t, Eithers(&items), "Both({2}, {3, 1})")?;
-    btree_sets(&rt, alloc, m, t, Eithers(&items), "Both({2}, {1, 3})")
+    let items = &eithers(alloc, t, &numbers)?;
+    let alike = &eithers(alloc, t, &[Either::Right(3), Either::Right(3)])?;
+    let lists = "Both([2], [3, 1])";
+    let sets = Wanted {
+        hashed: "Right({3})",
+        inserted: "Both({2}, {3, 1})",
+        ordered: "Both({2}, {1, 3})",
+    };
+    lists_and_sets(
+        &rt,
+        alloc,
+        m,
+        t,
+        Eithers(items),
+        Eithers(alike),
+        lists,
+        sets,
+    )
 }
 
 /// Maps, from values of `EitherOrBoth`.
@@ -108,17 +94,15 @@ fn maps_are_collected(rt: HostRuntime) -> Result<(), Fail> {
     let alloc = rt.alloc();
     let m = &Refusing::new(alloc);
     let t = &Tokens::new(alloc)?;
-    let items = values(
-        alloc,
-        t,
-        &[Left((3, 1)), Both((1, 1), (2, 2)), Left((3, 2))],
-    )?;
-    let alike = values(alloc, t, &[Left((3, 1)), Both((3, 2), (2, 2))])?;
-    let inserted = "Both({3: 2, 1: 1}, {2: 2})";
-    let ordered = "Both({1: 1, 3: 2}, {2: 2})";
-    hash_maps(&rt, alloc, m, t, Values(&alike), "Both({3: 2}, {2: 2})")?;
-    index_maps(&rt, alloc, m, t, Values(&items), inserted)?;
-    btree_maps(&rt, alloc, m, t, Values(&items), ordered)
+    let numbers = [Left((3, 1)), Both((1, 1), (2, 2)), Left((3, 2))];
+    let items = &values(alloc, t, &numbers)?;
+    let alike = &values(alloc, t, &[Left((3, 1)), Both((3, 2), (2, 2))])?;
+    let want = Wanted {
+        hashed: "Both({3: 2}, {2: 2})",
+        inserted: "Both({3: 2, 1: 1}, {2: 2})",
+        ordered: "Both({1: 1, 3: 2}, {2: 2})",
+    };
+    maps(&rt, alloc, m, t, Values(items), Values(alike), want)
 }
 
 /// Maps, from values of `Either`.
@@ -132,11 +116,14 @@ fn maps_are_collected_from_either(rt: HostRuntime) -> Result<(), Fail> {
         Either::Left((1, 2)),
         Either::Left((3, 3)),
     ];
-    let items = eithers(alloc, t, &numbers)?;
-    let alike = eithers(alloc, t, &[Either::Left((3, 1)), Either::Right((3, 2))])?;
-    hash_maps(&rt, alloc, m, t, Eithers(&alike), "Both({3: 1}, {3: 2})")?;
-    index_maps(&rt, alloc, m, t, Eithers(&items), "Left({3: 3, 1: 2})")?;
-    btree_maps(&rt, alloc, m, t, Eithers(&items), "Left({1: 2, 3: 3})")
+    let items = &eithers(alloc, t, &numbers)?;
+    let alike = &eithers(alloc, t, &[Either::Left((3, 1)), Either::Right((3, 2))])?;
+    let want = Wanted {
+        hashed: "Both({3: 1}, {3: 2})",
+        inserted: "Left({3: 3, 1: 2})",
+        ordered: "Left({1: 2, 3: 3})",
+    };
+    maps(&rt, alloc, m, t, Eithers(items), Eithers(alike), want)
 }
 
 /// Where the first request is refused the source was asked for one value alone.

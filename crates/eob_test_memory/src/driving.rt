@@ -7,6 +7,7 @@ use either_or_both::EitherOrBoth::{Both, Left};
 use either_or_both::laws::{End, drive_swap_in};
 use eob_testkit::memory::{RUNS, Refusing, Tokens};
 use std::alloc::{AllocError, Global};
+use std::process::Abort;
 use std::rc::Rc;
 use std::test::Fail;
 
@@ -78,27 +79,50 @@ fn calls(alloc: Global, tokens: &Tokens) -> Result<(Vec<End>, Wanted), AllocErro
     Ok((ends, want))
 }
 
+// Sides of three hundred and of two hundred values, made with nothing refused.
+fn sides<'a>(
+    memory: Memory<'a>,
+    tokens: &Tokens,
+) -> Result<EitherOrBoth<Side<'a>, Side<'a>>, AllocError> {
+    memory.refuse(0);
+    let left = side(memory, tokens, 300, 0)?;
+    Ok(Both(left, side(memory, tokens, 200, 1)?))
+}
+
+// Drives such sides with each request refused in turn. A run that is refused has dropped what it took.
+fn check(
+    rt: &impl Abort,
+    memory: Memory,
+    tokens: &Tokens,
+    ends: &[End],
+    want: &[Option<EitherOrBoth<Rc<u8>>>],
+) -> Result<(), Fail> {
+    let alive = tokens.alive();
+    for number in 1..RUNS {
+        let pair = sides(memory, tokens)?;
+        memory.refuse(number);
+        if let Some((answers, rest)) = memory.judge(drive(memory, pair, ends))? {
+            same(
+                rt,
+                "drive_swap",
+                &number,
+                &(answers.as_slice(), rest),
+                &(want, 0),
+            );
+            return Ok(());
+        }
+        same(rt, "values alive", &number, &tokens.alive(), &alive);
+    }
+    Err("each run was refused")?;
+    Ok(())
+}
+
 /// Sides of three hundred and of two hundred values are driven past their end, from the front and the back in turn. Where memory is
 /// refused, the pair, what it still has to give and what it has given are dropped.
 #[test]
 fn walk_is_driven_past_its_end(rt: HostRuntime) -> Result<(), Fail> {
-    let memory = Refusing::new(rt.alloc());
-    let tokens = Tokens::new(rt.alloc())?;
-    let (ends, want) = calls(rt.alloc(), &tokens)?;
-    let alive = tokens.alive();
-    for number in 1..RUNS {
-        memory.refuse(0);
-        let left = side(&memory, &tokens, 300, 0)?;
-        let right = side(&memory, &tokens, 200, 1)?;
-        memory.refuse(number);
-        let ended = drive(&memory, Both(left, right), &ends);
-        if let Some((answers, rest)) = memory.judge(ended)? {
-            let came = (answers.as_slice(), rest);
-            same(&rt, "drive_swap", &number, &came, &(want.as_slice(), 0));
-            return Ok(());
-        }
-        same(&rt, "values alive", &number, &tokens.alive(), &alive);
-    }
-    Err("each run was refused")?;
-    Ok(())
+    let alloc = rt.alloc();
+    let tokens = Tokens::new(alloc)?;
+    let (ends, want) = calls(alloc, &tokens)?;
+    check(&rt, &Refusing::new(alloc), &tokens, &ends, &want)
 }

@@ -11,8 +11,10 @@ use std::test::Fail;
 // How many calls are made at most, and in how many orders.
 const CALLS: [(usize, usize); 6] = [(0, 1), (1, 2), (2, 4), (3, 8), (4, 16), (5, 32)];
 
+type Side = Vec<Rc<u8>>;
+
 // So many values that are counted.
-fn values(alloc: Global, tokens: &Tokens, length: usize) -> Result<Vec<Rc<u8>>, AllocError> {
+fn values(alloc: Global, tokens: &Tokens, length: usize) -> Result<Side, AllocError> {
     let mut made = Vec::new(alloc);
     for _ in 0..length {
         made.push(tokens.one()?)?;
@@ -20,81 +22,81 @@ fn values(alloc: Global, tokens: &Tokens, length: usize) -> Result<Vec<Rc<u8>>, 
     Ok(made)
 }
 
+// Calls an end of a walk.
+fn call<I: DoubleEndedIterator>(walk: &mut I, at_front: bool)
+where
+    I::Item: Drop,
+    requires front { I.can_next walk.old }
+    requires back { I.can_next_back walk.old }
+{
+    let _item = if at_front {
+        walk.next()
+    } else {
+        walk.next_back()
+    };
+}
+
 // Calls the ends of a walk in an order that a number stands for, a bit for each call, and gives it up.
-macro_rules! give_up {
-    ($walk:expr, $calls:expr, $order:expr) => {{
-        let mut walk = $walk;
-        let mut order: usize = $order;
-        for _ in 0..$calls {
-            let _item = if order % 2 == 0 {
-                walk.next()
-            } else {
-                walk.next_back()
-            };
-            order /= 2;
-        }
-    }};
+fn give_up<I: DoubleEndedIterator + Drop>(mut walk: I, calls: (usize, usize))
+where
+    I::Item: Drop,
+    requires front { (walk : I) → I.can_next walk }
+    requires back { (walk : I) → I.can_next_back walk }
+{
+    let (count, mut order) = calls;
+    for _ in 0..count {
+        call(&mut walk, order % 2 == 0);
+        order /= 2;
+    }
 }
 
-// Two sides walked at once, and given up after these calls; and in turn.
-fn give_up_pairs(
+// Two sides with so many values.
+fn sides(
+    alloc: Global,
+    tokens: &Tokens,
+    lengths: (usize, usize),
+) -> Result<EitherOrBoth<Side>, AllocError> {
+    let left = values(alloc, tokens, lengths.0)?;
+    Ok(Both(left, values(alloc, tokens, lengths.1)?))
+}
+
+// Two sides walked at once and in turn, and given up after these calls.
+fn give_up_sides(
     alloc: Global,
     tokens: &Tokens,
     lengths: (usize, usize),
     calls: (usize, usize),
-) -> Result<(), Fail> {
-    let pair = Both(
-        values(alloc, tokens, lengths.0)?,
-        values(alloc, tokens, lengths.1)?,
-    );
-    give_up!(pair.into_iter_swap(), calls.0, calls.1);
+) -> Result<(), AllocError> {
+    give_up(sides(alloc, tokens, lengths)?.into_iter_swap(), calls);
+    give_up(sides(alloc, tokens, lengths)?.into_iter_chain(), calls);
     Ok(())
 }
 
-fn give_up_chain(
-    alloc: Global,
-    tokens: &Tokens,
-    lengths: (usize, usize),
-    calls: (usize, usize),
-) -> Result<(), Fail> {
-    let pair = Both(
-        values(alloc, tokens, lengths.0)?,
-        values(alloc, tokens, lengths.1)?,
-    );
-    give_up!(pair.into_iter_chain(), calls.0, calls.1);
-    Ok(())
-}
-
-// The held side of an `Either`, alone and in its variant.
-fn give_up_inner(
-    alloc: Global,
-    tokens: &Tokens,
-    length: usize,
-    calls: (usize, usize),
-) -> Result<(), Fail> {
-    let held: Either<Vec<Rc<u8>>> = Either::Right(values(alloc, tokens, length)?);
-    give_up!(held.into_iter_inner(), calls.0, calls.1);
-    Ok(())
-}
-
+// The held side of an `Either` with so many values walked alone and in its variant, and given up after these calls.
 fn give_up_held(
     alloc: Global,
     tokens: &Tokens,
     length: usize,
     calls: (usize, usize),
-) -> Result<(), Fail> {
-    let held: Either<Vec<Rc<u8>>> = Either::Left(values(alloc, tokens, length)?);
-    give_up!(held.into_iter_swap(), calls.0, calls.1);
+) -> Result<(), AllocError> {
+    let right: Either<Side> = Either::Right(values(alloc, tokens, length)?);
+    give_up(right.into_iter_inner(), calls);
+    let left: Either<Side> = Either::Left(values(alloc, tokens, length)?);
+    give_up(left.into_iter_swap(), calls);
     Ok(())
 }
 
-// The values of both places, and the value of an `Either`.
-fn give_up_values(value: EitherOrBoth<Rc<u8>>, calls: (usize, usize)) {
-    give_up!(value.into_iter(), calls.0, calls.1);
-}
-
-fn give_up_value(value: Either<Rc<u8>>, calls: (usize, usize)) {
-    give_up!(value.into_iter(), calls.0, calls.1);
+// The values of both places and of one walked, and given up after these calls.
+fn give_up_values(tokens: &Tokens, calls: (usize, usize)) -> Result<(), AllocError> {
+    let left: EitherOrBoth<Rc<u8>> = Left(tokens.one()?);
+    give_up(left.into_iter(), calls);
+    let right: EitherOrBoth<Rc<u8>> = Right(tokens.two()?);
+    give_up(right.into_iter(), calls);
+    let first = tokens.one()?;
+    give_up(Both(first, tokens.two()?).into_iter(), calls);
+    let held: Either<Rc<u8>> = Either::Left(tokens.one()?);
+    give_up(held.into_iter(), calls);
+    Ok(())
 }
 
 /// Whatever ends were called, and however often, the values that are alive are those from before the walk was made.
@@ -105,33 +107,16 @@ fn walks_that_are_given_up_drop_what_they_have(rt: HostRuntime) -> Result<(), Fa
     let alive = tokens.alive();
     for (count, orders) in CALLS {
         for order in 0..orders {
+            let calls = (count, order);
             for l in 0..4usize {
-                give_up_inner(alloc, &tokens, l, (count, order))?;
-                give_up_held(alloc, &tokens, l, (count, order))?;
+                give_up_held(alloc, &tokens, l, calls)?;
                 for r in 0..4usize {
-                    give_up_pairs(alloc, &tokens, (l, r), (count, order))?;
-                    give_up_chain(alloc, &tokens, (l, r), (count, order))?;
-                    same(
-                        &rt,
-                        "values alive",
-                        &(l, r, count, order),
-                        &tokens.alive(),
-                        &alive,
-                    );
+                    give_up_sides(alloc, &tokens, (l, r), calls)?;
+                    same(&rt, "values alive", &(l, r, calls), &tokens.alive(), &alive);
                 }
             }
-            let calls = (count, order);
-            give_up_values(Left(tokens.one()?), calls);
-            give_up_values(Both(tokens.one()?, tokens.two()?), calls);
-            give_up_values(Right(tokens.two()?), calls);
-            give_up_value(Either::Left(tokens.one()?), calls);
-            same(
-                &rt,
-                "values alive",
-                &(count, order),
-                &tokens.alive(),
-                &alive,
-            );
+            give_up_values(&tokens, calls)?;
+            same(&rt, "values alive", &calls, &tokens.alive(), &alive);
         }
     }
     Ok(())

@@ -3,10 +3,36 @@
 use crate::same::same;
 use either_or_both::Either;
 use eob_testkit::memory::{RUNS, Refusing, Source, Tokens, Watch};
-use std::alloc::Global;
+use std::alloc::{AllocError, Global};
 use std::process::Abort;
 use std::rc::Rc;
 use std::test::Fail;
+
+type List<'a> = Vec<Rc<u8>, &'a Refusing<Global>>;
+
+// A vector of one value on a side, made with nothing refused.
+fn held<'a>(
+    memory: &'a Refusing<Global>,
+    tokens: &Tokens,
+    is_left: bool,
+) -> Result<Either<List<'a>>, AllocError> {
+    memory.refuse(0);
+    let mut list = Vec::new(memory);
+    list.push(tokens.one()?)?;
+    if is_left {
+        Ok(Either::Left(list))
+    } else {
+        Ok(Either::Right(list))
+    }
+}
+
+// Whether the list has all of the items after the value that it held. It has a beginning of them.
+fn is_whole(rt: &impl Abort, number: u64, list: List, items: &[Rc<u8>]) -> Result<bool, Fail> {
+    let (first, rest) = list.split_first().ok_or("it lost what it held")?;
+    let begins = items.starts_with(rest);
+    same(rt, "the list", &number, &(**first, begins), &(1, true));
+    Ok(rest.len() == items.len())
+}
 
 // Extends a vector on one side with each request and all after it refused in turn. The side is kept and holds what it held, and a
 // beginning of the items.
@@ -19,27 +45,16 @@ fn check(
 ) -> Result<(), Fail> {
     let alive = tokens.alive();
     for number in 1..RUNS {
-        memory.refuse(0);
         let watch = Watch::new(memory);
-        let mut held = Vec::new(memory);
-        held.push(tokens.one()?)?;
-        let mut pair: Either<_> = if is_left {
-            Either::Left(held)
-        } else {
-            Either::Right(held)
-        };
+        let mut pair = held(memory, tokens, is_left)?;
         memory.refuse_from(number);
-        let judged = memory.judge(pair.extend(Source::new(items, &watch)))?;
+        let ended = pair.extend(Source::new(items, &watch));
+        let is_extended = memory.judge(ended)?.is_some();
         same(rt, "a late call", &number, &watch.is_late(), &false);
         same(rt, "is_left", &number, &pair.is_left(), &is_left);
-        let list = pair.reduce();
-        let (first, rest) = list.split_first().ok_or("it lost what it held")?;
-        let begins = items.starts_with(rest);
-        same(rt, "the list", &number, &(**first, begins), &(1, true));
-        let is_whole = rest.len() == items.len();
-        drop(list);
+        let is_whole = is_whole(rt, number, pair.reduce(), items)?;
         same(rt, "values alive", &number, &tokens.alive(), &alive);
-        same(rt, "extend", &number, &judged.is_some(), &is_whole);
+        same(rt, "extend", &number, &is_extended, &is_whole);
         if is_whole {
             same(rt, "refused runs", &is_left, &(1 < number), &true);
             return Ok(());

@@ -5,11 +5,12 @@ ghost use Rattle.eob_both.specs.declared.either_or_both.EitherOrBoth as enum;
 ghost use Rattle.either_or_both.specs.declared.either.Either as one;
 
 use crate::same::same;
+use crate::shapes::{Memory, pair};
 use either_or_both::EitherOrBoth::{Both, Left, Right};
 use either_or_both::join::{is_rising, outer_join_in};
 use either_or_both::laws::{Walked, recollect_in, regroup_in};
 use either_or_both::{Either, EitherOrBoth};
-use eob_testkit::memory::{RUNS, Refusing, Source, Watch};
+use eob_testkit::memory::{RUNS, Refusing, Source, Watch, Wrong};
 use indexmap::{IndexMap, IndexSet};
 use std::alloc::{AllocError, Global};
 use std::collections::{BTreeMap, BTreeSet, HashMap, HashSet, VecDeque};
@@ -17,8 +18,6 @@ use std::hash::{BuildHasherDefault, FoldHasher};
 use std::process::Abort;
 use std::rc::Rc;
 use std::test::Fail;
-
-type Memory<'a> = &'a Refusing<Global>;
 
 type Hasher = BuildHasherDefault<FoldHasher>;
 
@@ -68,8 +67,7 @@ fn alive(numbers: Numbers) -> usize {
 // Values that bring each item to its side, some alone and some at once.
 fn values<T: Clone + Drop>(
     alloc: Global,
-    left: &[T],
-    right: &[T],
+    (left, right): (&[T], &[T]),
 ) -> Result<Vec<EitherOrBoth<T>>, AllocError> {
     let mut values = Vec::new(alloc);
     for (i, (l, r)) in left.iter().zip(right).enumerate() {
@@ -86,8 +84,7 @@ fn values<T: Clone + Drop>(
 // The same of `Either`.
 fn eithers<T: Clone + Drop>(
     alloc: Global,
-    left: &[T],
-    right: &[T],
+    (left, right): (&[T], &[T]),
 ) -> Result<Vec<Either<T>>, AllocError> {
     let mut values = Vec::new(alloc);
     for (l, r) in left.iter().zip(right) {
@@ -95,6 +92,24 @@ fn eithers<T: Clone + Drop>(
         values.push(Either::Right(r.clone()?))?;
     }
     Ok(values)
+}
+
+// Whether a run of a call was whole that ended like this, and not refused. Its answer is the wanted one.
+fn is_whole<P: PartialEq + Drop>(
+    rt: &impl Abort,
+    memory: Memory,
+    call: &str,
+    number: u64,
+    ended: Result<P, AllocError>,
+    want: &P,
+) -> Result<bool, Wrong> {
+    match memory.judge(ended)? {
+        Some(whole) => {
+            same(rt, call, &number, &(whole == *want), &true);
+            Ok(true)
+        }
+        None => Ok(false),
+    }
 }
 
 // Collects the items with each request refused in turn: for few requests, they make what is wanted.
@@ -113,19 +128,44 @@ fn check_collected<'a, I: Clone + Drop, P: FromIterator<I, Alloc = Memory<'a>> +
         memory.refuse(number);
         let ended: Result<P, AllocError> = Source::new(items, &watch).collect(memory);
         same(rt, "a late call", &number, &watch.is_late(), &false);
-        let judged = memory.judge(ended)?;
-        let is_whole = judged.is_some();
-        if let Some(whole) = judged {
-            same(
-                rt,
-                "collect",
-                &number,
-                &(whole == *want, 1 < number),
-                &(true, true),
-            );
-        }
+        let is_whole = is_whole(rt, memory, "collect", number, ended, want)?;
         same(rt, "values alive", &number, &alive(numbers), &count);
         if is_whole {
+            same(rt, "refused runs", &number, &(1 < number), &true);
+            return Ok(());
+        }
+    }
+    Err("it asks too often")?;
+    Ok(())
+}
+
+// Clones the pair and collects it again with each request refused in turn.
+fn check_again<'a, C: Walked + Clone + PartialEq + Drop>(
+    rt: &impl Abort,
+    memory: Memory<'a>,
+    numbers: Numbers,
+    want: &EitherOrBoth<C>,
+) -> Result<(), Fail>
+where
+    C::Item: Drop,
+    EitherOrBoth<C, C>: FromIterator<EitherOrBoth<C::Item, C::Item>, Alloc = Memory<'a>>,
+    requires any { (xs : List (enum.EitherOrBoth C.Item C.Item))
+        → ⟦<EitherOrBoth<C, C> as FromIterator<EitherOrBoth<C::Item, C::Item>>>⟧.can_from_iter xs }
+    requires whole { (v : enum.EitherOrBoth C C)
+        → ⟦<EitherOrBoth<C, C> as FromIterator<EitherOrBoth<C::Item, C::Item>>>⟧.is_complete v }
+{
+    let count = alive(numbers);
+    for number in 1..FEW {
+        memory.refuse(number);
+        let is_cloned = is_whole(rt, memory, "clone", number, want.clone(), want)?;
+        memory.refuse(0);
+        let pair = want.clone()?;
+        memory.refuse(number);
+        let ended = recollect_in(memory, pair);
+        let is_collected = is_whole(rt, memory, "recollect", number, ended, want)?;
+        same(rt, "values alive", &number, &alive(numbers), &count);
+        if is_cloned && is_collected {
+            same(rt, "refused runs", &number, &(1 < number), &true);
             return Ok(());
         }
     }
@@ -153,39 +193,10 @@ where
     requires any_one { (xs : List (one.Either C.Item C.Item))
         → ⟦<EitherOrBoth<C, C> as FromIterator<Either<C::Item, C::Item>>>⟧.can_from_iter xs }
 {
-    let (left, right) = sides;
-    memory.refuse(0);
-    let watch = Watch::new(memory);
-    let values = values(alloc, left, right)?;
-    let eithers = eithers(alloc, left, right)?;
-    let left: C = Source::new(left, &watch).collect(memory)?;
-    let right: C = Source::new(right, &watch).collect(memory)?;
-    let want = Both(left, right);
-    check_collected(rt, memory, numbers, &values, &want)?;
-    check_collected(rt, memory, numbers, &eithers, &want)?;
-    let count = alive(numbers);
-    for number in 1..FEW {
-        memory.refuse(number);
-        let cloned = memory.judge(want.clone())?;
-        memory.refuse(0);
-        let pair = want.clone()?;
-        memory.refuse(number);
-        let again = memory.judge(recollect_in(memory, pair))?;
-        let are_whole = (cloned.is_some(), again.is_some());
-        if let Some(cloned) = cloned {
-            same(rt, "clone", &number, &(cloned == want), &true);
-        }
-        if let Some(again) = again {
-            same(rt, "recollect", &number, &(again == want), &true);
-        }
-        same(rt, "values alive", &number, &alive(numbers), &count);
-        if are_whole == (true, true) {
-            same(rt, "refused runs", &number, &(1 < number), &true);
-            return Ok(());
-        }
-    }
-    Err("it asks too often")?;
-    Ok(())
+    let want: EitherOrBoth<C> = pair(memory, sides)?;
+    check_collected(rt, memory, numbers, &values(alloc, sides)?, &want)?;
+    check_collected(rt, memory, numbers, &eithers(alloc, sides)?, &want)?;
+    check_again(rt, memory, numbers, &want)
 }
 
 /// Lists and sets are collected from both enums, cloned and collected again, for few requests.
@@ -220,13 +231,17 @@ fn maps_are_collected_and_cloned(rt: HostRuntime) -> Result<(), Fail> {
 }
 
 // The numbers side by side, as regrouping them gives them: a value has both while the right ones last.
-fn side_by_side(alloc: Global, numbers: Numbers) -> Result<Vec<EitherOrBoth<One>>, AllocError> {
-    let mut list = Vec::new(alloc);
+fn side_by_side<'a>(
+    memory: Memory<'a>,
+    numbers: Numbers,
+) -> Result<Vec<EitherOrBoth<One>, Memory<'a>>, AllocError> {
+    let mut list = Vec::new(memory);
     for (i, l) in numbers.0.iter().enumerate() {
-        match numbers.1.get(i) {
-            Some(r) => list.push(Both(l.clone()?, r.clone()?))?,
-            None => list.push(Left(l.clone()?))?,
-        }
+        let value = match numbers.1.get(i) {
+            Some(r) => Both(l, r),
+            None => Left(l),
+        };
+        list.push(value.cloned()?)?;
     }
     Ok(list)
 }
@@ -247,19 +262,15 @@ fn in_turn<'a>(
 }
 
 // Regroups the numbers with each request refused in turn.
-fn check_regrouped(
-    rt: &impl Abort,
-    memory: Memory,
-    numbers: Numbers,
-    want: &[EitherOrBoth<One>],
-) -> Result<(), Fail> {
+fn check_regrouped(rt: &impl Abort, memory: Memory, numbers: Numbers) -> Result<(), Fail> {
+    let want = side_by_side(memory, numbers)?;
     let count = alive(numbers);
     for number in 1..RUNS {
         memory.refuse(0);
         let list = in_turn(memory, numbers)?;
         memory.refuse(number);
-        if let Some(whole) = memory.judge(regroup_in(memory, list))? {
-            same(rt, "regroup", &number, &whole.as_slice(), &want);
+        let ended = regroup_in(memory, list);
+        if is_whole(rt, memory, "regroup", number, ended, &want)? {
             return Ok(());
         }
         same(rt, "values alive", &number, &alive(numbers), &count);
@@ -276,8 +287,7 @@ fn lists_are_regrouped(rt: HostRuntime) -> Result<(), Fail> {
     let mut right = numbers(alloc, 200)?;
     right.truncate(200);
     let sides = (left.as_slice(), right.as_slice());
-    let want = side_by_side(alloc, sides)?;
-    check_regrouped(&rt, &Refusing::new(alloc), sides, &want)
+    check_regrouped(&rt, &Refusing::new(alloc), sides)
 }
 
 type Rows<A> = Vec<(u16, One), A>;
@@ -293,29 +303,26 @@ fn rows<'a>(memory: Memory<'a>, one: &One, step: u16) -> Result<Rows<Memory<'a>>
     Ok(rows)
 }
 
-type Joined = Vec<(u16, EitherOrBoth<One>)>;
+type Joined<A> = Vec<(u16, EitherOrBoth<One>), A>;
 
 // The join of three hundred even keys with three hundred keys that three divides.
-fn joined(alloc: Global, one: &One) -> Result<Joined, AllocError> {
-    let mut joined = Vec::new(alloc);
+fn joined<'a>(memory: Memory<'a>, one: &One) -> Result<Joined<Memory<'a>>, AllocError> {
+    let mut joined = Vec::new(memory);
     for key in 0..900u16 {
-        match (key % 2 == 0 && key < 600, key % 3 == 0) {
-            (true, false) => joined.push((key, Left(one.clone()?)))?,
-            (true, true) => joined.push((key, Both(one.clone()?, one.clone()?)))?,
-            (false, true) => joined.push((key, Right(one.clone()?)))?,
-            (false, false) => {}
-        }
+        let value = match (key % 2 == 0 && key < 600, key % 3 == 0) {
+            (true, false) => Left(one),
+            (true, true) => Both(one, one),
+            (false, true) => Right(one),
+            (false, false) => continue,
+        };
+        joined.push((key, value.cloned()?))?;
     }
     Ok(joined)
 }
 
 // Joins such rows with each request refused in turn.
-fn check_joined(
-    rt: &impl Abort,
-    memory: Memory,
-    one: &One,
-    want: &[(u16, EitherOrBoth<One>)],
-) -> Result<(), Fail> {
+fn check_joined(rt: &impl Abort, memory: Memory, one: &One) -> Result<(), Fail> {
+    let want = joined(memory, one)?;
     let count = Rc::strong_count(&one.0);
     for number in 1..RUNS {
         memory.refuse(0);
@@ -323,17 +330,12 @@ fn check_joined(
         let right = rows(memory, one, 3)?;
         assert!(rt; is_rising(&left) && is_rising(&right));
         memory.refuse(number);
-        if let Some(joined) = memory.judge(outer_join_in(memory, left, right))? {
-            same(rt, "outer_join", &number, &joined.as_slice(), &want);
+        let ended = outer_join_in(memory, left, right);
+        if is_whole(rt, memory, "outer_join", number, ended, &want)? {
             return Ok(());
         }
-        same(
-            rt,
-            "values alive",
-            &number,
-            &Rc::strong_count(&one.0),
-            &count,
-        );
+        let alive = Rc::strong_count(&one.0);
+        same(rt, "values alive", &number, &alive, &count);
     }
     Err("each run was refused")?;
     Ok(())
@@ -344,6 +346,5 @@ fn check_joined(
 fn lists_are_joined(rt: HostRuntime) -> Result<(), Fail> {
     let alloc = rt.alloc();
     let one = One(Rc::new(alloc, 1u16)?);
-    let want = joined(alloc, &one)?;
-    check_joined(&rt, &Refusing::new(alloc), &one, &want)
+    check_joined(&rt, &Refusing::new(alloc), &one)
 }

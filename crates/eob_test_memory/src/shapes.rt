@@ -5,7 +5,7 @@ ghost use Rattle.eob_both.specs.declared.either_or_both.EitherOrBoth as enum;
 ghost use Rattle.either_or_both.specs.declared.either.Either as one;
 
 use crate::same::same;
-use crate::token::Token;
+use crate::token::{Entry, Token};
 use either_or_both::EitherOrBoth::Both;
 use either_or_both::laws::{Walked, recollect_in};
 use either_or_both::{Either, EitherOrBoth};
@@ -22,9 +22,8 @@ pub type Memory<'a> = &'a Refusing<Global>;
 
 type Hasher = BuildHasherDefault<FoldHasher>;
 
-pub type Entry = (Token, Token);
-
 /// What a pair of containers is collected from.
+#[derive_where(Clone, Copy)]
 pub enum Given<'a, T> {
     /// Values of `EitherOrBoth`.
     Values(&'a [EitherOrBoth<T>]),
@@ -46,26 +45,32 @@ fn check_collected<'a, I: Clone + Drop, P: FromIterator<I, Alloc = Memory<'a>> +
 ) -> Result<(), Fail>
     requires { (xs : List I) → P.can_from_iter xs }
 {
-    let alive = tokens.alive();
+    let runs = Runs::new(alloc, memory, tokens);
     for number in 1..RUNS {
         let watch = Watch::new(memory);
         memory.refuse(number);
         let ended: Result<P, AllocError> = Source::new(items, &watch).collect(memory);
         same(rt, "a late call", &(want, number), &watch.is_late(), &false);
-        let judged = memory.judge(ended)?;
-        let is_whole = judged.is_some();
-        if let Some(whole) = judged {
-            let shown = format!(in alloc; "{whole:?}")?;
-            same(rt, "collect", &number, &shown.as_str(), &want);
-        }
-        same(rt, "values alive", &(want, number), &tokens.alive(), &alive);
-        if is_whole {
+        if runs.is_whole(ended, want)? {
             same(rt, "refused runs", &want, &(1 < number), &true);
             return Ok(());
         }
     }
     Err("each run was refused")?;
     Ok(())
+}
+
+// A pair of containers with these items, made with nothing refused.
+pub fn pair<'a, C: FromIterator<I, Alloc = Memory<'a>> + Drop, I: Clone>(
+    memory: Memory<'a>,
+    sides: (&[I], &[I]),
+) -> Result<EitherOrBoth<C>, AllocError>
+    requires { (xs : List I) → C.can_from_iter xs }
+{
+    memory.refuse(0);
+    let watch = Watch::new(memory);
+    let left = Source::new(sides.0, &watch).collect(memory)?;
+    Ok(Both(left, Source::new(sides.1, &watch).collect(memory)?))
 }
 
 // Makes a pair of containers with nothing refused, and collects it again with each request refused in turn.
@@ -86,14 +91,10 @@ where
         → ⟦<EitherOrBoth<C, C> as FromIterator<EitherOrBoth<C::Item, C::Item>>>⟧.is_complete v }
 {
     let runs = Runs::new(alloc, memory, tokens);
-    let (left, right) = sides;
     for number in 1..RUNS {
-        memory.refuse(0);
-        let watch = Watch::new(memory);
-        let left: C = Source::new(left, &watch).collect(memory)?;
-        let right: C = Source::new(right, &watch).collect(memory)?;
+        let pair: EitherOrBoth<C> = pair(memory, sides)?;
         memory.refuse(number);
-        let ended = recollect_in(memory, Both(left, right));
+        let ended = recollect_in(memory, pair);
         if runs.is_whole(ended, want)? {
             return Ok(());
         }
@@ -134,7 +135,7 @@ where
     }
 }
 
-pub fn vecs(
+fn vecs(
     rt: &impl Abort,
     alloc: Global,
     memory: Memory,
@@ -145,7 +146,7 @@ pub fn vecs(
     check::<Vec<Token, Memory>>(rt, alloc, memory, tokens, given, want)
 }
 
-pub fn vec_deques(
+fn vec_deques(
     rt: &impl Abort,
     alloc: Global,
     memory: Memory,
@@ -156,7 +157,7 @@ pub fn vec_deques(
     check::<VecDeque<Token, Memory>>(rt, alloc, memory, tokens, given, want)
 }
 
-pub fn hash_sets(
+fn hash_sets(
     rt: &impl Abort,
     alloc: Global,
     memory: Memory,
@@ -167,7 +168,7 @@ pub fn hash_sets(
     check::<HashSet<Token, Hasher, Memory>>(rt, alloc, memory, tokens, given, want)
 }
 
-pub fn index_sets(
+fn index_sets(
     rt: &impl Abort,
     alloc: Global,
     memory: Memory,
@@ -178,7 +179,7 @@ pub fn index_sets(
     check::<IndexSet<Token, Hasher, Memory>>(rt, alloc, memory, tokens, given, want)
 }
 
-pub fn btree_sets(
+fn btree_sets(
     rt: &impl Abort,
     alloc: Global,
     memory: Memory,
@@ -189,7 +190,7 @@ pub fn btree_sets(
     check::<BTreeSet<Token, Memory>>(rt, alloc, memory, tokens, given, want)
 }
 
-pub fn hash_maps(
+fn hash_maps(
     rt: &impl Abort,
     alloc: Global,
     memory: Memory,
@@ -200,7 +201,7 @@ pub fn hash_maps(
     check::<HashMap<Token, Token, Hasher, Memory>>(rt, alloc, memory, tokens, given, want)
 }
 
-pub fn index_maps(
+fn index_maps(
     rt: &impl Abort,
     alloc: Global,
     memory: Memory,
@@ -211,7 +212,7 @@ pub fn index_maps(
     check::<IndexMap<Token, Token, Hasher, Memory>>(rt, alloc, memory, tokens, given, want)
 }
 
-pub fn btree_maps(
+fn btree_maps(
     rt: &impl Abort,
     alloc: Global,
     memory: Memory,
@@ -220,4 +221,48 @@ pub fn btree_maps(
     want: &str,
 ) -> Result<(), Fail> {
     check::<BTreeMap<Token, Token, Memory>>(rt, alloc, memory, tokens, given, want)
+}
+
+/// How a pair of each shape of sets, or of maps, is to show.
+#[derive(Clone, Copy)]
+pub struct Wanted<'a> {
+    /// A hashed one, collected from what is given for it.
+    pub hashed: &'a str,
+    /// One in the order of insertion.
+    pub inserted: &'a str,
+    /// One in the order of its keys.
+    pub ordered: &'a str,
+}
+
+/// Each shape of lists and of sets. A hashed set is collected from `alike`, with one value a side, since its order is not told.
+pub fn lists_and_sets(
+    rt: &impl Abort,
+    alloc: Global,
+    memory: Memory,
+    tokens: &Tokens,
+    given: Given<Token>,
+    alike: Given<Token>,
+    lists: &str,
+    sets: Wanted,
+) -> Result<(), Fail> {
+    vecs(rt, alloc, memory, tokens, given, lists)?;
+    vec_deques(rt, alloc, memory, tokens, given, lists)?;
+    hash_sets(rt, alloc, memory, tokens, alike, sets.hashed)?;
+    index_sets(rt, alloc, memory, tokens, given, sets.inserted)?;
+    btree_sets(rt, alloc, memory, tokens, given, sets.ordered)
+}
+
+/// Each shape of maps. A hashed one is collected from `alike`, with one key a side.
+pub fn maps(
+    rt: &impl Abort,
+    alloc: Global,
+    memory: Memory,
+    tokens: &Tokens,
+    given: Given<Entry>,
+    alike: Given<Entry>,
+    want: Wanted,
+) -> Result<(), Fail> {
+    hash_maps(rt, alloc, memory, tokens, alike, want.hashed)?;
+    index_maps(rt, alloc, memory, tokens, given, want.inserted)?;
+    btree_maps(rt, alloc, memory, tokens, given, want.ordered)
 }
