@@ -3,6 +3,8 @@
 use either_or_both::EitherOrBoth::{Both, Left, Right};
 use either_or_both::{Either, EitherOrBoth};
 use std::alloc::AllocError;
+use std::fmt::Debug;
+use std::process::Abort;
 
 type Pair = EitherOrBoth<Vec<u8>, Vec<char>>;
 
@@ -58,25 +60,22 @@ static COLLECTED_FROM_EITHER: [(&[Either<u8, char>], Sides); 11] = [
     (&[Either::Right('a'), Either::Right('b'), Either::Right('c')], Right(&['a', 'b', 'c'])),
 ];
 
+// The pair that came of these values has these sides.
+fn check<S: Debug + Copy>(rt: &impl Abort, values: S, pair: Pair, want: Sides) {
+    let sides = pair.as_ref().bimap(|l| l.as_slice(), |r| r.as_slice());
+    assert_eq!(rt; sides, want, "{values:?}");
+}
+
 /// The left values go into one vector and the right ones into another, in order. Both are given where both are empty or neither
 /// is, and else the one that is not empty.
 #[test]
 fn values_are_collected_into_vectors(rt: HostRuntime) -> Result<(), AllocError> {
+    let alloc = rt.alloc();
     for (values, want) in COLLECTED.iter().copied() {
-        let pair: Pair = values.iter().copied().collect(rt.alloc())?;
-        assert_eq!(rt;
-            pair.as_ref().bimap(|l| l.as_slice(), |r| r.as_slice()),
-            want,
-            "{values:?}"
-        );
+        check(&rt, values, values.iter().copied().collect(alloc)?, want);
     }
     for (values, want) in COLLECTED_FROM_EITHER.iter().copied() {
-        let pair: Pair = values.iter().copied().collect(rt.alloc())?;
-        assert_eq!(rt;
-            pair.as_ref().bimap(|l| l.as_slice(), |r| r.as_slice()),
-            want,
-            "{values:?}"
-        );
+        check(&rt, values, values.iter().copied().collect(alloc)?, want);
     }
     Ok(())
 }
@@ -108,17 +107,11 @@ impl<'a, T: Copy> Iterator for Vague<'a, T> {
 /// No memory is taken for items that a hint allows and that do not come.
 #[test]
 fn no_memory_is_taken_on_a_hint(rt: HostRuntime) -> Result<(), AllocError> {
+    let alloc = rt.alloc();
+    let want: Sides = Both(&[1], &['c']);
     let values = [Left(1), Right('c')];
-    let pair: Pair = Vague(&values).collect(rt.alloc())?;
-    assert_eq!(rt;
-        pair,
-        Both(vec![in rt.alloc(); 1]?, vec![in rt.alloc(); 'c']?)
-    );
+    check(&rt, &values, Vague(&values).collect(alloc)?, want);
     let values = [Either::Left(1), Either::Right('c')];
-    let pair: Pair = Vague(&values).collect(rt.alloc())?;
-    assert_eq!(rt;
-        pair,
-        Both(vec![in rt.alloc(); 1]?, vec![in rt.alloc(); 'c']?)
-    );
+    check(&rt, &values, Vague(&values).collect(alloc)?, want);
     Ok(())
 }

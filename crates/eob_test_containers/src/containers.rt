@@ -2,6 +2,7 @@
 //!
 //! Every source of values here has a hint that is true and tells next to nothing. A pair of hashed containers is printed in the order
 //! of its keys.
+ghost use Rattle.std.specs.Prelude.{List};
 ghost use Rattle.std.specs.Hash as fed;
 ghost use Rattle.std.specs.Cmp.Rules.{hashing};
 ghost use Rattle.std.proofs.Common.{rules};
@@ -17,7 +18,7 @@ use indexmap::{IndexMap, IndexSet};
 use std::alloc::{AllocError, Global};
 use std::collections::{BTreeMap, BTreeSet, HashMap, HashSet, VecDeque};
 use std::fmt::{self, Debug, Formatter, Write};
-use std::hash::{BuildHasher, BuildHasherDefault, Hash, Hasher};
+use std::hash::{BuildHasher, BuildHasherDefault, FoldHasher, Hash, Hasher};
 use std::process::Abort;
 use std::test::Fail;
 
@@ -44,6 +45,20 @@ impl Hasher for Counting {
 }
 
 type ByCounting = BuildHasherDefault<Counting>;
+
+type FoldState = BuildHasherDefault<FoldHasher>;
+
+type Vecs = EitherOrBoth<Vec<u8>, Vec<char>>;
+
+type VecDeques = EitherOrBoth<VecDeque<u8>, VecDeque<char>>;
+
+type IndexSets<S = FoldState> = EitherOrBoth<IndexSet<u8, S>, IndexSet<char, S>>;
+
+type BTreeSets = EitherOrBoth<BTreeSet<u8>, BTreeSet<char>>;
+
+type IndexMaps<K, S = FoldState> = EitherOrBoth<IndexMap<K, u8, S>, IndexMap<K, char, S>>;
+
+type BTreeMaps<K> = EitherOrBoth<BTreeMap<K, u8>, BTreeMap<K, char>>;
 
 /// A key that feeds every hasher the same, and shows as its number.
 #[derive(Clone, Copy, PartialEq, Eq, PartialOrd, Ord, Drop)]
@@ -89,18 +104,66 @@ fn rising_maps<K: Hash + Ord + Drop, S: BuildHasher + Drop>(
     }
 }
 
-// The pair that comes of a row's source in this shape shows as the row says.
+// What comes of a row's source in this shape is a pair, and shows as the row says.
 fn shows<S: Debug + Copy, P: Debug + Drop>(
     rt: &impl Abort,
     alloc: Global,
     shape: &str,
     source: S,
-    pair: P,
+    ended: Result<P, AllocError>,
     want: &str,
 ) -> Result<(), AllocError> {
+    let pair = ended?;
     let shown = format!(in alloc; "{pair:?}")?;
     assert_eq!(rt; shown.as_str(), want, "{shape} of {source:?}");
     Ok(())
+}
+
+// The items of a row, collected into this shape, show as the row says.
+fn check<P: FromIterator<I, Alloc = Global> + Debug + Drop, I: Debug + Copy>(
+    rt: &impl Abort,
+    alloc: Global,
+    shape: &str,
+    items: &[I],
+    want: &str,
+) -> Result<(), AllocError>
+    requires { (xs : List I) → P.can_from_iter xs }
+{
+    let ended: Result<P, AllocError> = Vague(items).collect(alloc);
+    shows(rt, alloc, shape, items, ended, want)
+}
+
+// The same of hashed sets, which show in the order of their values.
+fn check_hash_sets<
+    L: Hash + Ord + Debug + Drop,
+    R: Hash + Ord + Debug + Drop,
+    S: BuildHasher + Drop,
+    I: Debug + Copy,
+>(rt: &impl Abort, alloc: Global, shape: &str, items: &[I], want: &str) -> Result<(), AllocError>
+where
+    EitherOrBoth<HashSet<L, S>, HashSet<R, S>>: FromIterator<I, Alloc = Global>,
+    requires { (xs : List I)
+        → ⟦<EitherOrBoth<HashSet<L, S>, HashSet<R, S>> as FromIterator<I>>⟧.can_from_iter xs }
+{
+    let pair: EitherOrBoth<HashSet<L, S>, HashSet<R, S>> = Vague(items).collect(alloc)?;
+    shows(rt, alloc, shape, items, rising_sets(alloc, pair), want)
+}
+
+// The same of hashed maps, which show in the order of their keys.
+fn check_hash_maps<K: Hash + Ord + Debug + Drop, S: BuildHasher + Drop, I: Debug + Copy>(
+    rt: &impl Abort,
+    alloc: Global,
+    shape: &str,
+    items: &[I],
+    want: &str,
+) -> Result<(), AllocError>
+where
+    EitherOrBoth<HashMap<K, u8, S>, HashMap<K, char, S>>: FromIterator<I, Alloc = Global>,
+    requires { (xs : List I)
+        → ⟦<EitherOrBoth<HashMap<K, u8, S>, HashMap<K, char, S>> as FromIterator<I>>⟧.can_from_iter xs }
+{
+    let pair: EitherOrBoth<HashMap<K, u8, S>, HashMap<K, char, S>> = Vague(items).collect(alloc)?;
+    shows(rt, alloc, shape, items, rising_maps(alloc, pair), want)
 }
 
 /// Values, and what they are collected into: lists, sets in the order of insertion, and sets in the order of their values.
@@ -129,17 +192,11 @@ static VALUES: [(&[EitherOrBoth<u8, char>], &str, &str, &str); 7] = [
 fn lists_and_sets_hold_what_came(rt: HostRuntime) -> Result<(), Fail> {
     let alloc = rt.alloc();
     for (values, lists, inserted, ordered) in VALUES.iter().copied() {
-        let pair: EitherOrBoth<Vec<u8>, Vec<char>> = Vague(values).collect(alloc)?;
-        shows(&rt, alloc, "Vec", values, pair, lists)?;
-        let pair: EitherOrBoth<VecDeque<u8>, VecDeque<char>> = Vague(values).collect(alloc)?;
-        shows(&rt, alloc, "VecDeque", values, pair, lists)?;
-        let pair: EitherOrBoth<IndexSet<u8>, IndexSet<char>> = Vague(values).collect(alloc)?;
-        shows(&rt, alloc, "IndexSet", values, pair, inserted)?;
-        let pair: EitherOrBoth<BTreeSet<u8>, BTreeSet<char>> = Vague(values).collect(alloc)?;
-        shows(&rt, alloc, "BTreeSet", values, pair, ordered)?;
-        let pair: EitherOrBoth<HashSet<u8>, HashSet<char>> = Vague(values).collect(alloc)?;
-        let pair = rising_sets(alloc, pair)?;
-        shows(&rt, alloc, "HashSet", values, pair, ordered)?;
+        check::<Vecs, _>(&rt, alloc, "Vec", values, lists)?;
+        check::<VecDeques, _>(&rt, alloc, "VecDeque", values, lists)?;
+        check::<IndexSets, _>(&rt, alloc, "IndexSet", values, inserted)?;
+        check::<BTreeSets, _>(&rt, alloc, "BTreeSet", values, ordered)?;
+        check_hash_sets::<u8, char, FoldState, _>(&rt, alloc, "HashSet", values, ordered)?;
     }
     Ok(())
 }
@@ -149,15 +206,8 @@ fn lists_and_sets_hold_what_came(rt: HostRuntime) -> Result<(), Fail> {
 fn sets_with_a_hasher_of_their_own_hold_the_same(rt: HostRuntime) -> Result<(), Fail> {
     let alloc = rt.alloc();
     for (values, _, inserted, ordered) in VALUES.iter().copied() {
-        let pair: EitherOrBoth<IndexSet<u8, ByCounting>, IndexSet<char, ByCounting>> = Vague(
-            values,
-        ).collect(alloc)?;
-        shows(&rt, alloc, "IndexSet", values, pair, inserted)?;
-        let pair: EitherOrBoth<HashSet<u8, ByCounting>, HashSet<char, ByCounting>> = Vague(
-            values,
-        ).collect(alloc)?;
-        let pair = rising_sets(alloc, pair)?;
-        shows(&rt, alloc, "HashSet", values, pair, ordered)?;
+        check::<IndexSets<ByCounting>, _>(&rt, alloc, "IndexSet", values, inserted)?;
+        check_hash_sets::<u8, char, ByCounting, _>(&rt, alloc, "HashSet", values, ordered)?;
     }
     Ok(())
 }
@@ -207,22 +257,11 @@ fn check_entries<K: Hash + Ord + Debug + Copy + Drop>(
     rows: &[(Entries<K>, &str, &str)],
 ) -> Result<(), Fail> {
     for (entries, inserted, ordered) in rows.iter().copied() {
-        let pair: EitherOrBoth<IndexMap<K, u8>, IndexMap<K, char>> = Vague(entries).collect(alloc)?;
-        shows(rt, alloc, "IndexMap", entries, pair, inserted)?;
-        let pair: EitherOrBoth<BTreeMap<K, u8>, BTreeMap<K, char>> = Vague(entries).collect(alloc)?;
-        shows(rt, alloc, "BTreeMap", entries, pair, ordered)?;
-        let pair: EitherOrBoth<HashMap<K, u8>, HashMap<K, char>> = Vague(entries).collect(alloc)?;
-        let pair = rising_maps(alloc, pair)?;
-        shows(rt, alloc, "HashMap", entries, pair, ordered)?;
-        let pair: EitherOrBoth<IndexMap<K, u8, ByCounting>, IndexMap<K, char, ByCounting>> = Vague(
-            entries,
-        ).collect(alloc)?;
-        shows(rt, alloc, "IndexMap by Counting", entries, pair, inserted)?;
-        let pair: EitherOrBoth<HashMap<K, u8, ByCounting>, HashMap<K, char, ByCounting>> = Vague(
-            entries,
-        ).collect(alloc)?;
-        let pair = rising_maps(alloc, pair)?;
-        shows(rt, alloc, "HashMap by Counting", entries, pair, ordered)?;
+        check::<IndexMaps<K>, _>(rt, alloc, "IndexMap", entries, inserted)?;
+        check::<BTreeMaps<K>, _>(rt, alloc, "BTreeMap", entries, ordered)?;
+        check_hash_maps::<K, FoldState, _>(rt, alloc, "HashMap", entries, ordered)?;
+        check::<IndexMaps<K, ByCounting>, _>(rt, alloc, "IndexMap by Counting", entries, inserted)?;
+        check_hash_maps::<K, ByCounting, _>(rt, alloc, "HashMap by Counting", entries, ordered)?;
     }
     Ok(())
 }
@@ -239,13 +278,10 @@ fn keys_that_hash_alike_are_told_apart(rt: HostRuntime) -> Result<(), Fail> {
     let alloc = rt.alloc();
     check_entries(&rt, alloc, &ENTRIES_ALIKE)?;
     let keys = [Both(TWO, TWO), Left(ONE), Left(TWO)];
-    let pair: EitherOrBoth<IndexSet<Alike>> = Vague(&keys).collect(alloc)?;
-    let want = "Both({2, 1}, {2})";
-    shows(&rt, alloc, "IndexSet", &keys, pair, want)?;
-    let pair: EitherOrBoth<HashSet<Alike>> = Vague(&keys).collect(alloc)?;
-    let pair = rising_sets(alloc, pair)?;
-    let want = "Both({1, 2}, {2})";
-    shows(&rt, alloc, "HashSet", &keys, pair, want)?;
+    let inserted = "Both({2, 1}, {2})";
+    check::<EitherOrBoth<IndexSet<Alike>>, _>(&rt, alloc, "IndexSet", &keys, inserted)?;
+    let ordered = "Both({1, 2}, {2})";
+    check_hash_sets::<Alike, Alike, FoldState, _>(&rt, alloc, "HashSet", &keys, ordered)?;
     Ok(())
 }
 
@@ -254,24 +290,10 @@ fn keys_that_hash_alike_are_told_apart(rt: HostRuntime) -> Result<(), Fail> {
 fn entries_keep_their_side_where_both_have_one_type(rt: HostRuntime) -> Result<(), Fail> {
     let alloc = rt.alloc();
     let left = [Left((2, 'a')), Left((1, 'b')), Left((2, 'c'))];
-    let pair: EitherOrBoth<BTreeMap<u8, char>> = Vague(&left).collect(alloc)?;
-    shows(
-        &rt,
-        alloc,
-        "BTreeMap",
-        &left,
-        pair,
-        "Left({1: 'b', 2: 'c'})",
-    )?;
+    let want = "Left({1: 'b', 2: 'c'})";
+    check::<EitherOrBoth<BTreeMap<u8, char>>, _>(&rt, alloc, "BTreeMap", &left, want)?;
     let right = [Right((2, 'a')), Right((1, 'b')), Right((2, 'c'))];
-    let pair: EitherOrBoth<BTreeMap<u8, char>> = Vague(&right).collect(alloc)?;
-    shows(
-        &rt,
-        alloc,
-        "BTreeMap",
-        &right,
-        pair,
-        "Right({1: 'b', 2: 'c'})",
-    )?;
+    let want = "Right({1: 'b', 2: 'c'})";
+    check::<EitherOrBoth<BTreeMap<u8, char>>, _>(&rt, alloc, "BTreeMap", &right, want)?;
     Ok(())
 }

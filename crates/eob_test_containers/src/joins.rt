@@ -1,4 +1,5 @@
 //! The full outer join, at once and item by item, beside a join by definition.
+ghost use Rattle.either_or_both.specs.Join.{Rising};
 
 use either_or_both::EitherOrBoth;
 use either_or_both::EitherOrBoth::{Both, Left, Right};
@@ -9,6 +10,8 @@ use std::alloc::{AllocError, Global};
 use std::cell::Cell;
 use std::cmp::Reverse;
 use std::collections::BTreeMap;
+use std::fmt::Debug;
+use std::process::Abort;
 use std::test::Fail;
 
 type Table<K, V> = &'static [(K, V)];
@@ -34,17 +37,70 @@ static JOINED: [(Table<u8, char>, Table<u8, char>, Joined<u8, char>); 6] = [
         &[(1, Right('x')), (2, Right('y')), (4, Both('a', 'z')), (9, Left('b'))]),
 ];
 
-/// Each key of either list comes once, in order, with what the two lists have under it, at once and item by item.
+// Two lists.
+type Lists<'a, K, V> = (&'a [(K, V)], &'a [(K, V)]);
+
+// The rows of a join, each a key with what is under it.
+type Rows<K, V> = Vec<(K, EitherOrBoth<V, V>)>;
+
+// The two lists, joined item by item.
+fn lazily<K: Ord + Copy + Drop, V: Copy + Drop>(
+    alloc: Global,
+    lists: Lists<K, V>,
+) -> Result<Rows<K, V>, AllocError> {
+    let left = Vec::from_slice(alloc, lists.0)?;
+    let right = Vec::from_slice(alloc, lists.1)?;
+    outer_join_lazily(left, right).collect(alloc)
+}
+
+// The two lists, joined by reference.
+fn by_reference<K: Ord + Copy + Drop, V: Copy + Drop>(
+    alloc: Global,
+    lists: Lists<K, V>,
+) -> Result<Rows<K, V>, AllocError>
+    requires left { Rising K.cmp lists.0.now }
+    requires right { Rising K.cmp lists.1.now }
+{
+    let mut rows = Vec::new(alloc);
+    for (key, value) in outer_join_slices(lists.0, lists.1) {
+        rows.push((*key, value.copied()))?;
+    }
+    Ok(rows)
+}
+
+// Fails unless the rows that came of a call are those wanted.
+fn same<K: PartialEq + Debug + Drop, V: PartialEq + Debug + Drop>(
+    rt: &impl Abort,
+    call: &str,
+    lists: Lists<K, V>,
+    came: Rows<K, V>,
+    want: &[(K, EitherOrBoth<V, V>)],
+) {
+    assert_eq!(rt; came.as_slice(), want, "{call}: {lists:?}");
+}
+
+// Both lists rise, and their join is as wanted, at once, item by item and by reference.
+fn check<K: Ord + Copy + Debug + Drop, V: PartialEq + Copy + Debug + Drop>(
+    rt: &impl Abort,
+    alloc: Global,
+    lists: Lists<K, V>,
+    want: &[(K, EitherOrBoth<V, V>)],
+) -> Result<(), AllocError> {
+    let (left, right) = lists;
+    assert!(rt; is_rising(left) && is_rising(right), "{lists:?}");
+    same(rt, "by reference", lists, by_reference(alloc, lists)?, want);
+    same(rt, "lazily", lists, lazily(alloc, lists)?, want);
+    let left = Vec::from_slice(alloc, left)?;
+    let right = Vec::from_slice(alloc, right)?;
+    same(rt, "at once", lists, outer_join(alloc, left, right)?, want);
+    Ok(())
+}
+
+/// Each key of either list comes once, in order, with what the two lists have under it, at once, item by item, and by reference.
 #[test]
 fn small_lists_are_joined(rt: HostRuntime) -> Result<(), Fail> {
     for (left, right, want) in JOINED.iter().copied() {
-        assert!(rt; is_rising(left) && is_rising(right), "{left:?} {right:?}");
-        let p = Vec::from_slice(rt.alloc(), left)?;
-        let q = Vec::from_slice(rt.alloc(), right)?;
-        let walked = outer_join_lazily(p.clone()?, q.clone()?).collect::<Vec<_>>(rt.alloc())?;
-        assert_eq!(rt; walked.as_slice(), want, "lazily: {left:?} {right:?}");
-        let joined = outer_join(rt.alloc(), p, q)?;
-        assert_eq!(rt; joined.as_slice(), want, "{left:?} {right:?}");
+        check(&rt, rt.alloc(), (left, right), want)?;
     }
     Ok(())
 }
@@ -119,18 +175,7 @@ fn lists_are_joined_as_defined(rt: HostRuntime) -> Result<(), Fail> {
             let left = numbers.list(rt.alloc(), left_len)?;
             let right = numbers.list(rt.alloc(), right_len)?;
             let want = by_definition(rt.alloc(), &left, &right)?;
-            assert!(rt; is_rising(&left) && is_rising(&right));
-            let mut lent = Vec::new(rt.alloc());
-            for (key, value) in outer_join_slices(&left, &right) {
-                lent.push((*key, value.copied()))?;
-            }
-            assert_eq!(rt; lent.as_slice(), want.as_slice(), "{left:?} {right:?}");
-            let walked = outer_join_lazily(left.clone()?, right.clone()?).collect::<Vec<_>>(
-                rt.alloc(),
-            )?;
-            assert_eq!(rt; walked.as_slice(), want.as_slice(), "{left:?} {right:?}");
-            let joined = outer_join(rt.alloc(), left, right)?;
-            assert_eq!(rt; joined.as_slice(), want.as_slice());
+            check(&rt, rt.alloc(), (&left, &right), &want)?;
         }
     }
     Ok(())

@@ -2,6 +2,8 @@
 
 use either_or_both::EitherOrBoth::{self, Both, Left, Right};
 use either_or_both::laws::{is_normal, regroup};
+use std::alloc::{AllocError, Global};
+use std::process::Abort;
 use std::test::Fail;
 
 type List = &'static [EitherOrBoth<u8, char>];
@@ -21,17 +23,27 @@ static LISTS: [(List, List, bool); 9] = [
     (&[Left(1), Left(2), Left(3)],    &[Left(1), Left(2), Left(3)], true),
 ];
 
+// The list, regrouped, which gives what is wanted.
+fn regrouped(
+    rt: &impl Abort,
+    alloc: Global,
+    list: &[EitherOrBoth<u8, char>],
+    want: List,
+) -> Result<Vec<EitherOrBoth<u8, char>>, AllocError> {
+    let regrouped = regroup(alloc, list.to_vec(alloc)?)?;
+    assert_eq!(rt; regrouped.as_slice(), want, "{list:?}");
+    Ok(regrouped)
+}
+
 /// Regrouping puts the left and the right values side by side again, gives a normal list, and leaves a normal one as it is.
 #[test]
 fn regrouping_gives_a_normal_list(rt: HostRuntime) -> Result<(), Fail> {
     let alloc = rt.alloc();
     for (list, want, normal) in LISTS.iter().copied() {
         assert_eq!(rt; is_normal(list), normal, "{list:?}");
-        let once = regroup(alloc, list.to_vec(alloc)?)?;
-        assert_eq!(rt; once.as_slice(), want, "{list:?}");
+        let once = regrouped(&rt, alloc, list, want)?;
         assert!(rt; is_normal(&once), "{list:?}");
-        let twice = regroup(alloc, once)?;
-        assert_eq!(rt; twice.as_slice(), want, "{list:?}");
+        let _twice = regrouped(&rt, alloc, &once, want)?;
     }
     Ok(())
 }

@@ -1,16 +1,17 @@
 //! Tests: pairs of containers of each shape, walked side by side and collected again.
 ghost use Rattle.std.specs.Prelude.{List};
 
-use super::{rising_maps, rising_sets, shows};
+use super::{
+    BTreeMaps, BTreeSets, IndexMaps, IndexSets, VecDeques, Vecs, rising_maps, rising_sets, shows,
+};
 use either_or_both::EitherOrBoth;
 use either_or_both::EitherOrBoth::{Both, Left, Right};
 use either_or_both::laws::{
     recollect_btree_map, recollect_btree_set, recollect_hash_map, recollect_hash_set,
     recollect_index_map, recollect_index_set, recollect_vec, recollect_vec_deque,
 };
-use indexmap::{IndexMap, IndexSet};
 use std::alloc::{AllocError, Global};
-use std::collections::{BTreeMap, BTreeSet, HashMap, HashSet, VecDeque};
+use std::collections::{HashMap, HashSet};
 use std::test::Fail;
 
 /// A pair of containers with these sides.
@@ -54,22 +55,21 @@ static VALUES: [(Lists<u8, char>, &str, &str, &str); 7] = [
 fn lists_and_sets_are_kept(rt: HostRuntime) -> Result<(), Fail> {
     let alloc = rt.alloc();
     for (sides, lists, inserted, ordered) in VALUES.iter().copied() {
-        let pair: EitherOrBoth<Vec<u8>, Vec<char>> = recollect_vec(alloc, build(alloc, sides)?)?;
-        shows(&rt, alloc, "Vec", sides, pair, lists)?;
-        let pair: EitherOrBoth<VecDeque<u8>, VecDeque<char>> = recollect_vec_deque(
-            alloc,
-            build(alloc, sides)?,
-        )?;
-        shows(&rt, alloc, "VecDeque", sides, pair, lists)?;
-        let pair: EitherOrBoth<IndexSet<u8>, IndexSet<char>> = build(alloc, sides)?;
-        let pair = recollect_index_set(alloc, pair)?;
-        shows(&rt, alloc, "IndexSet", sides, pair, inserted)?;
-        let pair: EitherOrBoth<BTreeSet<u8>, BTreeSet<char>> = build(alloc, sides)?;
-        let pair = recollect_btree_set(alloc, pair)?;
-        shows(&rt, alloc, "BTreeSet", sides, pair, ordered)?;
+        let pair: Vecs = build(alloc, sides)?;
+        let again = recollect_vec(alloc, pair);
+        shows(&rt, alloc, "Vec", sides, again, lists)?;
+        let pair: VecDeques = build(alloc, sides)?;
+        let again = recollect_vec_deque(alloc, pair);
+        shows(&rt, alloc, "VecDeque", sides, again, lists)?;
+        let pair: IndexSets = build(alloc, sides)?;
+        let again = recollect_index_set(alloc, pair);
+        shows(&rt, alloc, "IndexSet", sides, again, inserted)?;
+        let pair: BTreeSets = build(alloc, sides)?;
+        let again = recollect_btree_set(alloc, pair);
+        shows(&rt, alloc, "BTreeSet", sides, again, ordered)?;
         let pair: EitherOrBoth<HashSet<u8>, HashSet<char>> = build(alloc, sides)?;
-        let pair = rising_sets(alloc, recollect_hash_set(alloc, pair)?)?;
-        shows(&rt, alloc, "HashSet", sides, pair, ordered)?;
+        let again = rising_sets(alloc, recollect_hash_set(alloc, pair)?);
+        shows(&rt, alloc, "HashSet", sides, again, ordered)?;
     }
     Ok(())
 }
@@ -92,15 +92,15 @@ static ENTRIES: [(Lists<(u8, u8), (u8, char)>, &str, &str); 7] = [
 fn maps_are_kept(rt: HostRuntime) -> Result<(), Fail> {
     let alloc = rt.alloc();
     for (sides, inserted, ordered) in ENTRIES.iter().copied() {
-        let pair: EitherOrBoth<IndexMap<u8, u8>, IndexMap<u8, char>> = build(alloc, sides)?;
-        let pair = recollect_index_map(alloc, pair)?;
-        shows(&rt, alloc, "IndexMap", sides, pair, inserted)?;
-        let pair: EitherOrBoth<BTreeMap<u8, u8>, BTreeMap<u8, char>> = build(alloc, sides)?;
-        let pair = recollect_btree_map(alloc, pair)?;
-        shows(&rt, alloc, "BTreeMap", sides, pair, ordered)?;
+        let pair: IndexMaps<u8> = build(alloc, sides)?;
+        let again = recollect_index_map(alloc, pair);
+        shows(&rt, alloc, "IndexMap", sides, again, inserted)?;
+        let pair: BTreeMaps<u8> = build(alloc, sides)?;
+        let again = recollect_btree_map(alloc, pair);
+        shows(&rt, alloc, "BTreeMap", sides, again, ordered)?;
         let pair: EitherOrBoth<HashMap<u8, u8>, HashMap<u8, char>> = build(alloc, sides)?;
-        let pair = rising_maps(alloc, recollect_hash_map(alloc, pair)?)?;
-        shows(&rt, alloc, "HashMap", sides, pair, ordered)?;
+        let again = rising_maps(alloc, recollect_hash_map(alloc, pair)?);
+        shows(&rt, alloc, "HashMap", sides, again, ordered)?;
     }
     Ok(())
 }

@@ -1,11 +1,12 @@
 //! Tests: pairs of containers of each shape, collected from values of `Either`.
 
-use super::{rising_maps, rising_sets, shows};
-use crate::collecting::Vague;
+use super::{
+    BTreeMaps, BTreeSets, FoldState, IndexMaps, IndexSets, VecDeques, Vecs, check, check_hash_maps,
+    check_hash_sets,
+};
 use either_or_both::Either::{Left, Right};
 use either_or_both::{Either, EitherOrBoth};
-use indexmap::{IndexMap, IndexSet};
-use std::collections::{BTreeMap, BTreeSet, HashMap, HashSet, VecDeque};
+use std::collections::BTreeSet;
 use std::test::Fail;
 
 /// Values, and what they are collected into: lists, sets in the order of insertion, and sets in the order of their values.
@@ -30,17 +31,11 @@ static VALUES: [(&[Either<u8, char>], &str, &str, &str); 5] = [
 fn lists_and_sets_hold_what_came(rt: HostRuntime) -> Result<(), Fail> {
     let alloc = rt.alloc();
     for (values, lists, inserted, ordered) in VALUES.iter().copied() {
-        let pair: EitherOrBoth<Vec<u8>, Vec<char>> = Vague(values).collect(alloc)?;
-        shows(&rt, alloc, "Vec", values, pair, lists)?;
-        let pair: EitherOrBoth<VecDeque<u8>, VecDeque<char>> = Vague(values).collect(alloc)?;
-        shows(&rt, alloc, "VecDeque", values, pair, lists)?;
-        let pair: EitherOrBoth<IndexSet<u8>, IndexSet<char>> = Vague(values).collect(alloc)?;
-        shows(&rt, alloc, "IndexSet", values, pair, inserted)?;
-        let pair: EitherOrBoth<BTreeSet<u8>, BTreeSet<char>> = Vague(values).collect(alloc)?;
-        shows(&rt, alloc, "BTreeSet", values, pair, ordered)?;
-        let pair: EitherOrBoth<HashSet<u8>, HashSet<char>> = Vague(values).collect(alloc)?;
-        let pair = rising_sets(alloc, pair)?;
-        shows(&rt, alloc, "HashSet", values, pair, ordered)?;
+        check::<Vecs, _>(&rt, alloc, "Vec", values, lists)?;
+        check::<VecDeques, _>(&rt, alloc, "VecDeque", values, lists)?;
+        check::<IndexSets, _>(&rt, alloc, "IndexSet", values, inserted)?;
+        check::<BTreeSets, _>(&rt, alloc, "BTreeSet", values, ordered)?;
+        check_hash_sets::<u8, char, FoldState, _>(&rt, alloc, "HashSet", values, ordered)?;
     }
     Ok(())
 }
@@ -67,17 +62,9 @@ static ENTRIES: [(&[Either<(u8, u8), (u8, char)>], &str, &str); 5] = [
 fn keys_have_the_value_of_their_last_place(rt: HostRuntime) -> Result<(), Fail> {
     let alloc = rt.alloc();
     for (entries, inserted, ordered) in ENTRIES.iter().copied() {
-        let pair: EitherOrBoth<IndexMap<u8, u8>, IndexMap<u8, char>> = Vague(entries).collect(
-            alloc,
-        )?;
-        shows(&rt, alloc, "IndexMap", entries, pair, inserted)?;
-        let pair: EitherOrBoth<BTreeMap<u8, u8>, BTreeMap<u8, char>> = Vague(entries).collect(
-            alloc,
-        )?;
-        shows(&rt, alloc, "BTreeMap", entries, pair, ordered)?;
-        let pair: EitherOrBoth<HashMap<u8, u8>, HashMap<u8, char>> = Vague(entries).collect(alloc)?;
-        let pair = rising_maps(alloc, pair)?;
-        shows(&rt, alloc, "HashMap", entries, pair, ordered)?;
+        check::<IndexMaps<u8>, _>(&rt, alloc, "IndexMap", entries, inserted)?;
+        check::<BTreeMaps<u8>, _>(&rt, alloc, "BTreeMap", entries, ordered)?;
+        check_hash_maps::<u8, FoldState, _>(&rt, alloc, "HashMap", entries, ordered)?;
     }
     Ok(())
 }
@@ -87,10 +74,8 @@ fn keys_have_the_value_of_their_last_place(rt: HostRuntime) -> Result<(), Fail> 
 fn values_keep_their_side_where_both_have_one_type(rt: HostRuntime) -> Result<(), Fail> {
     let alloc = rt.alloc();
     let left = [Left(3), Left(1), Left(3)];
-    let pair: EitherOrBoth<BTreeSet<u8>> = Vague(&left).collect(alloc)?;
-    shows(&rt, alloc, "BTreeSet", &left, pair, "Left({1, 3})")?;
+    check::<EitherOrBoth<BTreeSet<u8>>, _>(&rt, alloc, "BTreeSet", &left, "Left({1, 3})")?;
     let right = [Right(3), Right(1), Right(3)];
-    let pair: EitherOrBoth<BTreeSet<u8>> = Vague(&right).collect(alloc)?;
-    shows(&rt, alloc, "BTreeSet", &right, pair, "Right({1, 3})")?;
+    check::<EitherOrBoth<BTreeSet<u8>>, _>(&rt, alloc, "BTreeSet", &right, "Right({1, 3})")?;
     Ok(())
 }

@@ -1,13 +1,13 @@
 //! Tests: pairs of ordered containers whose keys have an order of their own: reversed, or by a part of the key alone.
 
-use super::{Entries, shows};
+use super::{BTreeMaps, Entries, check, shows};
 use crate::collecting::Vague;
 use either_or_both::EitherOrBoth;
 use either_or_both::EitherOrBoth::{Both, Left, Right};
 use either_or_both::laws::recollect_btree_map;
 use std::alloc::Global;
 use std::cmp::Reverse;
-use std::collections::{BTreeMap, BTreeSet};
+use std::collections::BTreeSet;
 use std::fmt::{self, Debug, Formatter, Write};
 use std::process::Abort;
 use std::test::Fail;
@@ -86,9 +86,9 @@ fn check_maps<K: Ord + Debug + Copy + Drop>(
     rows: &[(Entries<K>, &str)],
 ) -> Result<(), Fail> {
     for (entries, want) in rows.iter().copied() {
-        let pair: EitherOrBoth<BTreeMap<K, u8>, BTreeMap<K, char>> = Vague(entries).collect(alloc)?;
-        let again = recollect_btree_map(alloc, pair.clone()?)?;
-        shows(rt, alloc, "BTreeMap", entries, pair, want)?;
+        let pair: BTreeMaps<K> = Vague(entries).collect(alloc)?;
+        let again = recollect_btree_map(alloc, pair.clone()?);
+        shows(rt, alloc, "BTreeMap", entries, Ok(pair), want)?;
         shows(rt, alloc, "BTreeMap again", entries, again, want)?;
     }
     Ok(())
@@ -101,8 +101,7 @@ fn check_sets<K: Ord + Debug + Copy + Drop>(
     rows: &[(&[EitherOrBoth<K>], &str)],
 ) -> Result<(), Fail> {
     for (values, want) in rows.iter().copied() {
-        let pair: EitherOrBoth<BTreeSet<K>> = Vague(values).collect(alloc)?;
-        shows(rt, alloc, "BTreeSet", values, pair, want)?;
+        check::<EitherOrBoth<BTreeSet<K>>, _>(rt, alloc, "BTreeSet", values, want)?;
     }
     Ok(())
 }
