@@ -3,8 +3,9 @@
 use crate::tables::{KEYS, found, multiples};
 use either_or_both::EitherOrBoth;
 use either_or_both::join::is_rising;
-use eob_joins::{apply, diff};
+use eob_joins::{Change, apply, diff};
 use std::alloc::{AllocError, Global};
+use std::process::Abort;
 use std::test::Fail;
 
 // Two versions of a table: some keys went, some came, and of those that stayed every second value is another one.
@@ -17,6 +18,13 @@ fn versions(alloc: Global) -> Result<(Vec<(u32, u32)>, Vec<(u32, u32)>), AllocEr
         }
     }
     Ok((old, new))
+}
+
+// What changed from the one version to the other.
+fn changes(rt: &impl Abort, alloc: Global) -> Result<Vec<(u32, Change<u32>)>, Fail> {
+    let (old, new) = versions(alloc)?;
+    assert!(rt; is_rising(&old) && is_rising(&new));
+    Ok(diff(alloc, old, new)?)
 }
 
 /// A difference has each key whose value is not the same in both versions, with its values.
@@ -34,8 +42,7 @@ fn changes_are_the_values_that_differ(rt: HostRuntime) -> Result<(), Fail> {
             }
         }
     }
-    assert!(rt; is_rising(&old) && is_rising(&new));
-    assert_eq!(rt; diff(alloc, old, new)?, want);
+    assert_eq!(rt; changes(&rt, alloc)?, want);
     Ok(())
 }
 
@@ -43,9 +50,7 @@ fn changes_are_the_values_that_differ(rt: HostRuntime) -> Result<(), Fail> {
 #[test]
 fn changes_made_give_the_new_version(rt: HostRuntime) -> Result<(), Fail> {
     let alloc = rt.alloc();
-    let (old, new) = versions(alloc)?;
-    assert!(rt; is_rising(&old) && is_rising(&new));
-    let changes = diff(alloc, old, new)?;
+    let changes = changes(&rt, alloc)?;
     let (old, new) = versions(alloc)?;
     assert!(rt; is_rising(&old) && is_rising(&changes));
     assert_eq!(rt; apply(alloc, old, changes)?, new);

@@ -95,7 +95,6 @@ fn comparisons(rt: &impl Abort, alloc: Global, call: &str) -> Result<u32, Fail> 
     count.set(0);
     match call {
         "outer_join" => drop(outer_join(alloc, left, right)?),
-        "outer_join_lazily" => for _row in outer_join_lazily(left, right) {},
         "inner_join" => drop(inner_join(alloc, left, right)?),
         "left_join" => drop(left_join(alloc, left, right)?),
         "right_join" => drop(right_join(alloc, left, right)?),
@@ -112,7 +111,6 @@ fn joins_compare_once_for_each_key(rt: HostRuntime) -> Result<(), Fail> {
     let alloc = rt.alloc();
     for call in [
         "outer_join",
-        "outer_join_lazily",
         "inner_join",
         "left_join",
         "right_join",
@@ -126,23 +124,51 @@ fn joins_compare_once_for_each_key(rt: HostRuntime) -> Result<(), Fail> {
     Ok(())
 }
 
-/// The tests of a table's order, and its groups, compare each pair once at most.
+/// So does a join that is walked.
+#[test]
+fn walked_join_compares_once_for_each_key(rt: HostRuntime) -> Result<(), Fail> {
+    let alloc = rt.alloc();
+    let count = Cell::new(0);
+    let left = multiples(alloc, 2, &count)?;
+    let right = multiples(alloc, 3, &count)?;
+    assert!(rt; is_rising(&left) && is_rising(&right));
+    count.set(0);
+    for _row in outer_join_lazily(left, right) {}
+    assert!(rt; 0 < count.get() && count.get() <= JOINED);
+    Ok(())
+}
+
+// Each key number four times, in order.
+fn repeated<'a>(alloc: Global, count: &'a Cell<u32>) -> Result<Vec<(Key<'a>, u32)>, AllocError> {
+    let mut table = multiples(alloc, 1, count)?;
+    for pair in &mut table {
+        pair.0.number /= 4;
+    }
+    Ok(table)
+}
+
+/// The tests of a table's order compare each pair once.
+#[test]
+fn tests_of_order_compare_once_for_each_pair(rt: HostRuntime) -> Result<(), Fail> {
+    let alloc = rt.alloc();
+    let count = Cell::new(0);
+    assert!(rt; is_rising(&multiples(alloc, 1, &count)?));
+    assert_eq!(rt; count.get(), KEYS - 1);
+    count.set(0);
+    assert!(rt; is_ordered(&repeated(alloc, &count)?));
+    assert_eq!(rt; count.get(), KEYS - 1);
+    Ok(())
+}
+
+/// The groups of a table compare each pair once at most.
 #[test]
 fn groups_compare_once_for_each_pair(rt: HostRuntime) -> Result<(), Fail> {
     let alloc = rt.alloc();
     let count = Cell::new(0);
-    let mut table = multiples(alloc, 1, &count)?;
-    assert!(rt; is_rising(&table));
-    assert_eq!(rt; count.get(), KEYS - 1);
-    for pair in &mut table {
-        pair.0.number /= 4;
-    }
-    count.set(0);
+    let table = repeated(alloc, &count)?;
     assert!(rt; is_ordered(&table));
-    assert_eq!(rt; count.get(), KEYS - 1);
     count.set(0);
-    let groups = group_by_key(alloc, table)?;
-    assert_eq!(rt; groups.len(), 100);
+    assert_eq!(rt; group_by_key(alloc, table)?.len(), 100);
     assert!(rt; 0 < count.get() && count.get() <= KEYS);
     Ok(())
 }
@@ -153,11 +179,7 @@ fn index_map<'a>(
     step: u32,
     count: &'a Cell<u32>,
 ) -> Result<IndexMap<Key<'a>, u32>, AllocError> {
-    let mut map = IndexMap::new(alloc);
-    for (key, value) in multiples(alloc, step, count)? {
-        map.insert(key, value)?;
-    }
-    Ok(map)
+    multiples(alloc, step, count)?.into_iter().collect(alloc)
 }
 
 fn hash_map<'a>(
@@ -165,11 +187,7 @@ fn hash_map<'a>(
     step: u32,
     count: &'a Cell<u32>,
 ) -> Result<HashMap<Key<'a>, u32>, AllocError> {
-    let mut map = HashMap::new(alloc);
-    for (key, value) in multiples(alloc, step, count)? {
-        map.insert(key, value)?;
-    }
-    Ok(map)
+    multiples(alloc, step, count)?.into_iter().collect(alloc)
 }
 
 /// A join of maps hashes each key of the left map once, and each of the right map once or, where the left map lacks it, twice.
@@ -182,6 +200,14 @@ fn joins_of_maps_hash_keys_once_or_twice(rt: HostRuntime) -> Result<(), Fail> {
     count.set(0);
     drop(outer_join_index_maps(alloc, left, right)?);
     assert_eq!(rt; count.get(), 200 + 67 + 2 * 67);
+    Ok(())
+}
+
+/// The same of hashed maps.
+#[test]
+fn joins_of_hash_maps_hash_keys_once_or_twice(rt: HostRuntime) -> Result<(), Fail> {
+    let alloc = rt.alloc();
+    let count = Cell::new(0);
     let left = hash_map(alloc, 2, &count)?;
     let right = hash_map(alloc, 3, &count)?;
     count.set(0);

@@ -9,9 +9,12 @@ use eob_joins::{
 use eob_testkit::memory::{RUNS, Refusing, Runs, Tokens};
 use std::alloc::{AllocError, Global};
 use std::collections::BTreeMap;
+use std::rc::Rc;
 use std::test::Fail;
 
 type Table = Vec<(u32, u32)>;
+
+type Memory = Refusing<Global>;
 
 // So many rows: the keys come in no order, each of them several times, and the values are the rows' numbers.
 fn table(alloc: Global, rows: u32, step: u32, low: u32) -> Result<Table, AllocError> {
@@ -31,6 +34,13 @@ fn under(alloc: Global, table: &[(u32, u32)], key: u32) -> Result<Vec<u32>, Allo
         }
     }
     Ok(values)
+}
+
+// So many rows in the order of their keys, and under each key the first row first.
+fn sorted(alloc: Global, rows: u32, step: u32, low: u32) -> Result<Table, AllocError> {
+    let mut table = table(alloc, rows, step, low)?;
+    table.sort()?;
+    Ok(table)
 }
 
 // So many rows in the order of their keys, and under each key the last row first.
@@ -120,14 +130,13 @@ fn unordered_tables_are_joined_key_by_key(rt: HostRuntime) -> Result<(), Fail> {
 #[test]
 fn ordered_tables_are_joined_key_by_key(rt: HostRuntime) -> Result<(), Fail> {
     let alloc = rt.alloc();
-    let mut left = table(alloc, 400, 35, 0)?;
-    let mut right = table(alloc, 300, 11, 40)?;
-    left.sort()?;
-    right.sort()?;
-    let was = (left.clone()?, right.clone()?);
+    let left = sorted(alloc, 400, 35, 0)?;
+    let right = sorted(alloc, 300, 11, 40)?;
     assert!(rt; is_ordered(&left) && is_ordered(&right));
     let rows = group_join(alloc, left, right)?;
-    assert!(rt; are_rows(alloc, &rows, &was.0, &was.1)?);
+    let left = table(alloc, 400, 35, 0)?;
+    let right = table(alloc, 300, 11, 40)?;
+    assert!(rt; are_rows(alloc, &rows, &left, &right)?);
     Ok(())
 }
 
@@ -135,14 +144,13 @@ fn ordered_tables_are_joined_key_by_key(rt: HostRuntime) -> Result<(), Fail> {
 #[test]
 fn groups_have_each_key_of_a_table_once(rt: HostRuntime) -> Result<(), Fail> {
     let alloc = rt.alloc();
-    let mut list = table(alloc, 400, 35, 0)?;
-    list.sort()?;
-    let was = list.clone()?;
+    let list = sorted(alloc, 400, 35, 0)?;
     assert!(rt; is_ordered(&list));
     let groups = group_by_key(alloc, list)?;
     assert_eq!(rt; groups.len(), 97);
+    let list = table(alloc, 400, 35, 0)?;
     for (key, values) in &groups {
-        assert_eq!(rt; *values, under(alloc, &was, *key)?);
+        assert_eq!(rt; *values, under(alloc, &list, *key)?);
     }
     Ok(())
 }
@@ -189,14 +197,16 @@ fn slices_are_joined_key_by_key(rt: HostRuntime) -> Result<(), Fail> {
 fn slice_with_repeated_keys_is_joined_to_a_map(rt: HostRuntime) -> Result<(), Fail> {
     let alloc = rt.alloc();
     let orders = [(1, 'a'), (1, 'b'), (4, 'c')];
-    let mut customers = BTreeMap::new(alloc);
-    customers.insert(1, "one")?;
-    customers.insert(2, "two")?;
+    let customers: BTreeMap<u32, &str> = [(1, "one"), (2, "two")].into_iter().collect(alloc)?;
     assert!(rt; is_ordered(&orders));
     let mut rows = outer_join_lazily(&customers, groups_of(&orders));
-    assert!(rt; rows.next() == Some((&1, EitherOrBoth::Both(&"one", &orders[..2]))));
-    assert!(rt; rows.next() == Some((&2, EitherOrBoth::Left(&"two"))));
-    assert!(rt; rows.next() == Some((&4, EitherOrBoth::Right(&orders[2..]))));
+    for row in [
+        (&1, EitherOrBoth::Both(&"one", &orders[..2])),
+        (&2, EitherOrBoth::Left(&"two")),
+        (&4, EitherOrBoth::Right(&orders[2..])),
+    ] {
+        assert!(rt; rows.next() == Some(row));
+    }
     assert!(rt; rows.next().is_none());
     Ok(())
 }
@@ -216,6 +226,27 @@ fn empty_tables_have_no_groups(rt: HostRuntime) -> Result<(), Fail> {
     Ok(())
 }
 
+// Each key with each of these tokens.
+fn tokened<'a>(
+    memory: &'a Memory,
+    tokens: &Tokens,
+    keys: &[u32],
+    numbers: &[u8],
+) -> Result<Vec<(u32, Rc<u8>), &'a Memory>, AllocError> {
+    let mut table = Vec::new(memory);
+    for key in keys {
+        for number in numbers {
+            table.push((*key, tokens.of(*number)?))?;
+        }
+    }
+    Ok(table)
+}
+
+// Each of six keys four times.
+const REPEATED: [u32; 24] = [
+    0, 1, 2, 3, 4, 5, 0, 1, 2, 3, 4, 5, 0, 1, 2, 3, 4, 5, 0, 1, 2, 3, 4, 5,
+];
+
 /// A group join answers whole, or drops both tables where memory is refused.
 #[test]
 fn group_join_drops_both_tables_where_refused(rt: HostRuntime) -> Result<(), Fail> {
@@ -227,15 +258,8 @@ fn group_join_drops_both_tables_where_refused(rt: HostRuntime) -> Result<(), Fai
                 [2, 3])), (6, Right([2, 3])), (7, Right([2, 3])), (8, Right([2, 3]))]";
     for number in 1..RUNS {
         memory.refuse(0);
-        let mut left = Vec::new(&memory);
-        for row in 0..24u32 {
-            left.push((row % 6, tokens.one()?))?;
-        }
-        let mut right = Vec::new(&memory);
-        for row in 0..6u32 {
-            right.push((8 - row, tokens.two()?))?;
-            right.push((8 - row, tokens.three()?))?;
-        }
+        let left = tokened(&memory, &tokens, &REPEATED, &[1])?;
+        let right = tokened(&memory, &tokens, &[8, 7, 6, 5, 4, 3], &[2, 3])?;
         memory.refuse(number);
         if runs.is_whole(group_join_unordered_in(&memory, left, right), want)? {
             return Ok(());

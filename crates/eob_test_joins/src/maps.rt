@@ -9,11 +9,17 @@ use eob_testkit::memory::{RUNS, Refusing, Runs, Tokens};
 use indexmap::IndexMap;
 use std::alloc::{AllocError, Global};
 use std::collections::HashMap;
+use std::hash::{BuildHasherDefault, FoldHasher};
+use std::rc::Rc;
 use std::test::Fail;
 
 type Table = Vec<(u32, u32)>;
 
 type Rows = IndexMap<u32, EitherOrBoth<u32, u32>>;
+
+type Memory = Refusing<Global>;
+
+type Hasher = BuildHasherDefault<FoldHasher>;
 
 // So many rows with keys of their own below 1009, in no order, and the rows' numbers as values.
 fn table(alloc: Global, rows: u32, step: u32) -> Result<Table, AllocError> {
@@ -122,6 +128,35 @@ fn hashed_keys_come_as_they_are_walked(rt: HostRuntime) -> Result<(), Fail> {
     Ok(())
 }
 
+// The value of the last table that has the key.
+fn last(tables: &[Table], key: u32) -> Option<u32> {
+    let mut value = None;
+    for table in tables {
+        value = find(table, key).or(value);
+    }
+    value
+}
+
+// Each key once, in the order in which the tables bring them, with the value of the last table that has it.
+fn decided(alloc: Global, tables: &[Table]) -> Result<Table, AllocError> {
+    let mut settings = Table::new(alloc);
+    for table in tables {
+        for (key, _value) in table {
+            if let (None, Some(value)) = (find(&settings, *key), last(tables, *key)) {
+                settings.push((*key, value))?;
+            }
+        }
+    }
+    Ok(settings)
+}
+
+// Three tables as maps, each laid over those before it.
+fn overlaid(alloc: Global, tables: &[Table; 3]) -> Result<IndexMap<u32, u32>, AllocError> {
+    let [first, second, third] = tables;
+    let site = overlay_index_maps(alloc, index_map(alloc, first)?, index_map(alloc, second)?)?;
+    overlay_index_maps(alloc, site, index_map(alloc, third)?)
+}
+
 /// Three layers of some hundred settings: each key with the value of the last layer that has it, and the keys in the order in which
 /// the layers bring them.
 #[test]
@@ -132,26 +167,36 @@ fn last_of_three_layers_decides(rt: HostRuntime) -> Result<(), Fail> {
         table(alloc, 200, 11)?,
         table(alloc, 100, 3)?,
     ];
-    let [first, second, third] = &tables;
-    let site = overlay_index_maps(alloc, index_map(alloc, first)?, index_map(alloc, second)?)?;
-    let settings = overlay_index_maps(alloc, site, index_map(alloc, third)?)?;
-    let mut seen = Vec::new(alloc);
-    for table in &tables {
-        for (key, _value) in table {
-            if !seen.contains(key) {
-                seen.push(*key)?;
-            }
-        }
-    }
-    assert_eq!(rt; settings.len(), seen.len());
-    for (place, (key, value)) in settings.iter().enumerate() {
-        assert_eq!(rt; seen.get(place), Some(key));
-        let want = find(third, *key)
-            .or(find(second, *key))
-            .or(find(first, *key));
-        assert_eq!(rt; want, Some(*value));
-    }
+    let want = decided(alloc, &tables)?;
+    let settings = overlaid(alloc, &tables)?;
+    assert_eq!(rt; settings.len(), want.len());
+    assert_eq!(rt; settings.into_iter().collect::<Table>(alloc)?, want);
     Ok(())
+}
+
+// Twelve keys from this one on, each with this token.
+fn twelve<'a>(
+    memory: &'a Memory,
+    tokens: &Tokens,
+    first: u32,
+    token: u8,
+) -> Result<IndexMap<u32, Rc<u8>, Hasher, &'a Memory>, AllocError> {
+    let mut map = IndexMap::new(memory);
+    for key in first..first.saturating_add(12) {
+        map.insert(key, tokens.of(token)?)?;
+    }
+    Ok(map)
+}
+
+// A hashed map of this key alone.
+fn single<'a>(
+    memory: &'a Memory,
+    key: u32,
+    token: Rc<u8>,
+) -> Result<HashMap<u32, Rc<u8>, Hasher, &'a Memory>, AllocError> {
+    let mut map = HashMap::new(memory);
+    map.insert(key, token)?;
+    Ok(map)
 }
 
 /// Both maps are dropped where memory is refused to their join.
@@ -167,12 +212,8 @@ fn join_of_index_maps_drops_both_where_refused(rt: HostRuntime) -> Result<(), Fa
                 19: Right(2), 20: Right(2), 21: Right(2)}";
     for number in 1..RUNS {
         memory.refuse(0);
-        let mut left = IndexMap::new(&memory);
-        let mut right = IndexMap::new(&memory);
-        for key in 0..12u32 {
-            left.insert(key, tokens.one()?)?;
-            right.insert(key + 10, tokens.two()?)?;
-        }
+        let left = twelve(&memory, &tokens, 0, 1)?;
+        let right = twelve(&memory, &tokens, 10, 2)?;
         memory.refuse(number);
         if runs.is_whole(outer_join_index_maps_in(&memory, left, right), want)? {
             return Ok(());
@@ -190,10 +231,8 @@ fn join_of_hash_maps_drops_both_where_refused(rt: HostRuntime) -> Result<(), Fai
     let runs = Runs::new(rt.alloc(), &memory, &tokens);
     for number in 1..RUNS {
         memory.refuse(0);
-        let mut left = HashMap::new(&memory);
-        let mut right = HashMap::new(&memory);
-        left.insert(7, tokens.one()?)?;
-        right.insert(5, tokens.two()?)?;
+        let left = single(&memory, 7, tokens.one()?)?;
+        let right = single(&memory, 5, tokens.two()?)?;
         memory.refuse(number);
         let ended = outer_join_hash_maps_in(&memory, left, right);
         if runs.is_whole(ended, "{7: Left(1), 5: Right(2)}")? {
@@ -214,12 +253,8 @@ fn overlay_drops_both_maps_where_refused(rt: HostRuntime) -> Result<(), Fail> {
                 13: 2, 14: 2, 15: 2, 16: 2, 17: 2, 18: 2, 19: 2, 20: 2, 21: 2}";
     for number in 1..RUNS {
         memory.refuse(0);
-        let mut base = IndexMap::new(&memory);
-        let mut over = IndexMap::new(&memory);
-        for key in 0..12u32 {
-            base.insert(key, tokens.one()?)?;
-            over.insert(key + 10, tokens.two()?)?;
-        }
+        let base = twelve(&memory, &tokens, 0, 1)?;
+        let over = twelve(&memory, &tokens, 10, 2)?;
         memory.refuse(number);
         if runs.is_whole(overlay_index_maps_in(&memory, base, over), want)? {
             return Ok(());

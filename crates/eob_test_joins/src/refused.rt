@@ -20,36 +20,38 @@ type Table<'a, V> = Vec<(u32, V), &'a Memory>;
 // The keys of the tables are below this.
 const KEYS: u32 = 60;
 
-// The even keys.
-fn evens<'a>(memory: &'a Memory, tokens: &Tokens) -> Result<Table<'a, Rc<u8>>, AllocError> {
-    let mut table = Vec::new(memory);
-    for key in 0..KEYS {
-        if key % 2 == 0 {
-            table.push((key, tokens.one()?))?;
-        }
-    }
-    Ok(table)
+// A table of values out of the tokens.
+#[derive(Clone, Copy)]
+enum Side {
+    // The even keys.
+    Evens,
+    // The multiples of three, where a multiple of twelve has the value that it has among the even keys.
+    Threes,
+    // The multiples of four, with another value than the even keys have.
+    Fours,
 }
 
-// The multiples of three, where a multiple of twelve has the value that it has among the even keys.
-fn threes<'a>(memory: &'a Memory, tokens: &Tokens) -> Result<Table<'a, Rc<u8>>, AllocError> {
-    let mut table = Vec::new(memory);
-    for key in 0..KEYS {
-        if key % 12 == 0 {
-            table.push((key, tokens.one()?))?;
-        } else if key % 3 == 0 {
-            table.push((key, tokens.two()?))?;
-        }
+// What a table has under a key.
+fn value(side: Side, key: u32) -> Option<u8> {
+    match side {
+        Side::Evens if key % 2 == 0 => Some(1),
+        Side::Threes if key % 12 == 0 => Some(1),
+        Side::Threes if key % 3 == 0 => Some(2),
+        Side::Fours if key % 4 == 0 => Some(2),
+        _ => None,
     }
-    Ok(table)
 }
 
-// The multiples of four, with another value than the even keys have.
-fn fours<'a>(memory: &'a Memory, tokens: &Tokens) -> Result<Table<'a, Rc<u8>>, AllocError> {
+// The table in this memory.
+fn table<'a>(
+    memory: &'a Memory,
+    tokens: &Tokens,
+    side: Side,
+) -> Result<Table<'a, Rc<u8>>, AllocError> {
     let mut table = Vec::new(memory);
     for key in 0..KEYS {
-        if key % 4 == 0 {
-            table.push((key, tokens.two()?))?;
+        if let Some(number) = value(side, key) {
+            table.push((key, tokens.of(number)?))?;
         }
     }
     Ok(table)
@@ -71,40 +73,104 @@ fn changes<'a>(
     Ok(table)
 }
 
-// What an even key has, and what a multiple of three has.
+// What the even keys and the multiples of three have under a key.
 fn values(key: u32) -> (Option<u8>, Option<u8>) {
-    let left = if key % 2 == 0 { Some(1) } else { None };
-    let right = if key % 12 == 0 {
-        Some(1)
-    } else if key % 3 == 0 {
-        Some(2)
-    } else {
-        None
-    };
-    (left, right)
+    (value(Side::Evens, key), value(Side::Threes, key))
 }
 
-// Makes the call on the even keys and the multiples of three with each request refused in turn: the run that meets no refusal
-// answers these rows.
-fn check(rt: &impl Abort, alloc: Global, call: &str, rows: &str) -> Result<(), Fail> {
+// One run of a call, in memory that refuses the request with this number.
+#[derive(Clone, Copy)]
+struct Run<'a> {
+    memory: &'a Memory,
+    tokens: &'a Tokens,
+    runs: &'a Runs<'a>,
+    number: u64,
+    want: &'a str,
+}
+
+impl Run<'_> {
+    // Whether the call on the even keys and the multiples of three was whole.
+    fn joins_tables(&self, rt: &impl Abort, call: &str) -> Result<bool, Fail> {
+        let left = table(self.memory, self.tokens, Side::Evens)?;
+        let right = table(self.memory, self.tokens, Side::Threes)?;
+        assert!(rt; is_rising(&left) && is_rising(&right));
+        self.memory.refuse(self.number);
+        let is_whole = match call {
+            "inner_join" => self
+                .runs
+                .is_whole(inner_join_in(self.memory, left, right), self.want),
+            "left_join" => self
+                .runs
+                .is_whole(left_join_in(self.memory, left, right), self.want),
+            "right_join" => self
+                .runs
+                .is_whole(right_join_in(self.memory, left, right), self.want),
+            "semi_join" => self
+                .runs
+                .is_whole(semi_join_in(self.memory, left, right), self.want),
+            "anti_join" => self
+                .runs
+                .is_whole(anti_join_in(self.memory, left, right), self.want),
+            _ => self
+                .runs
+                .is_whole(diff_in(self.memory, left, right), self.want),
+        };
+        Ok(is_whole?)
+    }
+
+    // Whether the changes made to the even keys were whole.
+    fn makes_changes(&self, rt: &impl Abort) -> Result<bool, Fail> {
+        let left = table(self.memory, self.tokens, Side::Evens)?;
+        let right = changes(self.memory, self.tokens)?;
+        assert!(rt; is_rising(&left) && is_rising(&right));
+        self.memory.refuse(self.number);
+        let ended = apply_in(self.memory, left, right);
+        Ok(self.runs.is_whole(ended, self.want)?)
+    }
+
+    // Whether the call on three versions was whole. The base has the even keys, and ours the multiples of three.
+    fn joins_versions(&self, rt: &impl Abort, call: &str, side: Side) -> Result<bool, Fail> {
+        let base = table(self.memory, self.tokens, Side::Evens)?;
+        let ours = table(self.memory, self.tokens, Side::Threes)?;
+        let theirs = table(self.memory, self.tokens, side)?;
+        assert!(rt; is_rising(&base) && is_rising(&ours) && is_rising(&theirs));
+        self.memory.refuse(self.number);
+        let is_whole = match call {
+            "join_versions" => {
+                let ended = join_versions_in(self.memory, base, ours, theirs);
+                self.runs.is_whole(ended, self.want)
+            }
+            _ => {
+                let ended = merge_versions_in(self.memory, base, ours, theirs);
+                self.runs.is_whole(ended, self.want)
+            }
+        };
+        Ok(is_whole?)
+    }
+}
+
+// Makes the call with each request refused in turn: the run that meets no refusal answers this. Of three versions, theirs has the
+// multiples of four, or what the base has where they changed nothing.
+fn check(rt: &impl Abort, alloc: Global, call: &str, want: &str) -> Result<(), Fail> {
     let memory = Refusing::new(alloc);
     let tokens = Tokens::new(alloc)?;
     let runs = Runs::new(alloc, &memory, &tokens);
     for number in 1..RUNS {
         memory.refuse(0);
-        let left = evens(&memory, &tokens)?;
-        let right = threes(&memory, &tokens)?;
-        assert!(rt; is_rising(&left) && is_rising(&right));
-        memory.refuse(number);
-        let is_whole = match call {
-            "inner_join" => runs.is_whole(inner_join_in(&memory, left, right), rows)?,
-            "left_join" => runs.is_whole(left_join_in(&memory, left, right), rows)?,
-            "right_join" => runs.is_whole(right_join_in(&memory, left, right), rows)?,
-            "semi_join" => runs.is_whole(semi_join_in(&memory, left, right), rows)?,
-            "anti_join" => runs.is_whole(anti_join_in(&memory, left, right), rows)?,
-            _ => runs.is_whole(diff_in(&memory, left, right), rows)?,
+        let run = Run {
+            memory: &memory,
+            tokens: &tokens,
+            runs: &runs,
+            number,
+            want,
         };
-        if is_whole {
+        let is_whole = match call {
+            "apply" => run.makes_changes(rt),
+            "join_versions" | "merge_versions" => run.joins_versions(rt, call, Side::Fours),
+            "merge_unchanged" => run.joins_versions(rt, call, Side::Evens),
+            _ => run.joins_tables(rt, call),
+        };
+        if is_whole? {
             return Ok(());
         }
     }
@@ -201,10 +267,8 @@ fn diff_drops_both_tables_where_refused(rt: HostRuntime) -> Result<(), Fail> {
 /// A changed table is answered whole, or the table and its changes are dropped.
 #[test]
 fn apply_drops_table_and_changes_where_refused(rt: HostRuntime) -> Result<(), Fail> {
-    let memory = Refusing::new(rt.alloc());
-    let tokens = Tokens::new(rt.alloc())?;
-    let runs = Runs::new(rt.alloc(), &memory, &tokens);
-    let mut rows = Vec::new(rt.alloc());
+    let alloc = rt.alloc();
+    let mut rows = Vec::new(alloc);
     for key in 0..KEYS {
         if key % 4 != 0 && key % 3 == 0 {
             rows.push((key, 3))?;
@@ -212,47 +276,7 @@ fn apply_drops_table_and_changes_where_refused(rt: HostRuntime) -> Result<(), Fa
             rows.push((key, 1))?;
         }
     }
-    let want = format!(in rt.alloc(); "{rows:?}")?;
-    for number in 1..RUNS {
-        memory.refuse(0);
-        let left = evens(&memory, &tokens)?;
-        let right = changes(&memory, &tokens)?;
-        assert!(rt; is_rising(&left) && is_rising(&right));
-        memory.refuse(number);
-        if runs.is_whole(apply_in(&memory, left, right), &want)? {
-            return Ok(());
-        }
-    }
-    Err("each run was refused")?;
-    Ok(())
-}
-
-// Makes the call on three versions with each request refused in turn: the run that meets no refusal answers this. The base has the
-// even keys, ours the multiples of three, and theirs the multiples of four, or what the base has where they changed nothing.
-fn check_versions(rt: &impl Abort, alloc: Global, call: &str, want: &str) -> Result<(), Fail> {
-    let memory = Refusing::new(alloc);
-    let tokens = Tokens::new(alloc)?;
-    let runs = Runs::new(alloc, &memory, &tokens);
-    for number in 1..RUNS {
-        memory.refuse(0);
-        let base = evens(&memory, &tokens)?;
-        let ours = threes(&memory, &tokens)?;
-        let theirs = match call {
-            "merge_unchanged" => evens(&memory, &tokens)?,
-            _ => fours(&memory, &tokens)?,
-        };
-        assert!(rt; is_rising(&base) && is_rising(&ours) && is_rising(&theirs));
-        memory.refuse(number);
-        let is_whole = match call {
-            "join" => runs.is_whole(join_versions_in(&memory, base, ours, theirs), want)?,
-            _ => runs.is_whole(merge_versions_in(&memory, base, ours, theirs), want)?,
-        };
-        if is_whole {
-            return Ok(());
-        }
-    }
-    Err("each run was refused")?;
-    Ok(())
+    check(&rt, alloc, "apply", &format!(in alloc; "{rows:?}")?)
 }
 
 /// A join of three versions answers each key's values whole, or drops the versions.
@@ -262,14 +286,13 @@ fn join_drops_three_versions_where_refused(rt: HostRuntime) -> Result<(), Fail> 
     let mut rows = Vec::new(alloc);
     for key in 0..KEYS {
         let (base, ours) = values(key);
-        let theirs = if key % 4 == 0 { Some(2) } else { None };
-        let sides = EitherOrBoth::try_from((ours, theirs)).ok();
+        let sides = EitherOrBoth::try_from((ours, value(Side::Fours, key))).ok();
         match EitherOrBoth::try_from((base, sides)) {
             Ok(row) => rows.push((key, row))?,
             Err(_) => (),
         }
     }
-    check_versions(&rt, alloc, "join", &format!(in alloc; "{rows:?}")?)
+    check(&rt, alloc, "join_versions", &format!(in alloc; "{rows:?}")?)
 }
 
 /// A merge where their side changed nothing answers our version, or drops the versions.
@@ -283,7 +306,7 @@ fn merge_drops_three_versions_where_refused(rt: HostRuntime) -> Result<(), Fail>
             (_, None) => (),
         }
     }
-    check_versions(
+    check(
         &rt,
         alloc,
         "merge_unchanged",
@@ -304,5 +327,10 @@ fn conflicts_drop_three_versions_where_refused(rt: HostRuntime) -> Result<(), Fa
             rows.push((key, EitherOrBoth::Both(1, EitherOrBoth::Left(2))))?;
         }
     }
-    check_versions(&rt, alloc, "merge", &format!(in alloc; "Err({rows:?})")?)
+    check(
+        &rt,
+        alloc,
+        "merge_versions",
+        &format!(in alloc; "Err({rows:?})")?,
+    )
 }

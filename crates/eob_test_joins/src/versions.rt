@@ -5,6 +5,7 @@ use either_or_both::EitherOrBoth;
 use either_or_both::join::is_rising;
 use eob_joins::{Merged, Verdict, join_versions, judge, merge_versions};
 use std::alloc::{AllocError, Global};
+use std::process::Abort;
 use std::test::Fail;
 
 // A version of the table.
@@ -55,6 +56,15 @@ fn version(alloc: Global, side: Side) -> Result<Vec<(u32, u32)>, AllocError> {
     Ok(list)
 }
 
+// Our version merged with this one of theirs.
+fn merged(rt: &impl Abort, alloc: Global, theirs: Side) -> Result<Merged<u32, u32>, Fail> {
+    let base = version(alloc, Side::Base)?;
+    let ours = version(alloc, Side::Ours)?;
+    let theirs = version(alloc, theirs)?;
+    assert!(rt; is_rising(&base) && is_rising(&ours) && is_rising(&theirs));
+    Ok(merge_versions(alloc, base, ours, theirs)?)
+}
+
 /// A row of each verdict is judged so.
 #[test]
 fn each_row_has_its_verdict(rt: HostRuntime) -> Result<(), Fail> {
@@ -93,14 +103,7 @@ fn merge_takes_the_side_that_changed(rt: HostRuntime) -> Result<(), Fail> {
             want.push((key, value))?;
         }
     }
-    let base = version(alloc, Side::Base)?;
-    let ours = version(alloc, Side::Ours)?;
-    let theirs = version(alloc, Side::Theirs)?;
-    assert!(rt; is_rising(&base) && is_rising(&ours) && is_rising(&theirs));
-    assert_eq!(rt;
-        merge_versions(alloc, base, ours, theirs)?,
-        Merged::Whole(want)
-    );
+    assert_eq!(rt; merged(&rt, alloc, Side::Theirs)?, Merged::Whole(want));
     Ok(())
 }
 
@@ -121,12 +124,8 @@ fn merge_with_conflicts_gives_these_rows(rt: HostRuntime) -> Result<(), Fail> {
         }
     }
     assert!(rt; want.len() > 20);
-    let base = version(alloc, Side::Base)?;
-    let ours = version(alloc, Side::Ours)?;
-    let theirs = version(alloc, Side::Clashing)?;
-    assert!(rt; is_rising(&base) && is_rising(&ours) && is_rising(&theirs));
     assert_eq!(rt;
-        merge_versions(alloc, base, ours, theirs)?,
+        merged(&rt, alloc, Side::Clashing)?,
         Merged::Conflicts(want)
     );
     Ok(())
