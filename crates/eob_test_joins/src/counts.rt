@@ -93,15 +93,16 @@ fn comparisons(rt: &impl Abort, alloc: Global, call: &str) -> Result<u32, Fail> 
     let right = multiples(alloc, 3, &count)?;
     assert!(rt; is_rising(&left) && is_rising(&right));
     count.set(0);
-    match call {
-        "outer_join" => drop(outer_join(alloc, left, right)?),
-        "inner_join" => drop(inner_join(alloc, left, right)?),
-        "left_join" => drop(left_join(alloc, left, right)?),
-        "right_join" => drop(right_join(alloc, left, right)?),
-        "semi_join" => drop(semi_join(alloc, left, right)?),
-        "anti_join" => drop(anti_join(alloc, left, right)?),
-        _ => drop(diff(alloc, left, right)?),
-    }
+    let ended = match call {
+        "outer_join" => outer_join(alloc, left, right).map(drop),
+        "inner_join" => inner_join(alloc, left, right).map(drop),
+        "left_join" => left_join(alloc, left, right).map(drop),
+        "right_join" => right_join(alloc, left, right).map(drop),
+        "semi_join" => semi_join(alloc, left, right).map(drop),
+        "anti_join" => anti_join(alloc, left, right).map(drop),
+        _ => diff(alloc, left, right).map(drop),
+    };
+    ended?;
     Ok(count.get())
 }
 
@@ -138,7 +139,7 @@ fn walked_join_compares_once_for_each_key(rt: HostRuntime) -> Result<(), Fail> {
     Ok(())
 }
 
-// Each key number four times, in order.
+// Each number below 100 four times, in order.
 fn repeated<'a>(alloc: Global, count: &'a Cell<u32>) -> Result<Vec<(Key<'a>, u32)>, AllocError> {
     let mut table = multiples(alloc, 1, count)?;
     for pair in &mut table {
