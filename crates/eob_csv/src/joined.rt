@@ -9,7 +9,7 @@ use either_or_both::EitherOrBoth;
 use either_or_both::join::outer_join;
 use eob_joins::{anti_join, inner_join, left_join, right_join, semi_join};
 use eob_tables::{Cells, Group, Order};
-use std::alloc::Global;
+use std::alloc::{AllocError, Global};
 
 /// How a join is written: in which form, under which columns, and in which order.
 #[derive(Clone, Copy)]
@@ -58,19 +58,23 @@ impl Joining<'_> {
     /// The join as CSV.
     pub fn write(self, kind: Kind, left: Table, right: Table) -> Result<Vec<u8>, Reason> {
         let alloc = self.alloc;
+        let (left, right) = (left.pairs, right.pairs);
         match kind {
-            Kind::Outer => self.write_joined(outer_join(alloc, left.pairs, right.pairs)?),
-            Kind::Inner => self.write_joined(inner_join(alloc, left.pairs, right.pairs)?),
-            Kind::Left => self.write_joined(left_join(alloc, left.pairs, right.pairs)?),
-            Kind::Right => self.write_joined(right_join(alloc, left.pairs, right.pairs)?),
-            Kind::Semi => self.write_left(semi_join(alloc, left.pairs, right.pairs)?),
-            Kind::Anti => self.write_left(anti_join(alloc, left.pairs, right.pairs)?),
+            Kind::Outer => self.write_joined(outer_join(alloc, left, right)),
+            Kind::Inner => self.write_joined(inner_join(alloc, left, right)),
+            Kind::Left => self.write_joined(left_join(alloc, left, right)),
+            Kind::Right => self.write_joined(right_join(alloc, left, right)),
+            Kind::Semi => self.write_left(semi_join(alloc, left, right)),
+            Kind::Anti => self.write_left(anti_join(alloc, left, right)),
         }
     }
 
-    // Rows of two sides, with a column that tells which of the tables have a row, or without it.
-    fn write_joined<T: Sides + Drop>(self, rows: Vec<(Cells, T)>) -> Result<Vec<u8>, Reason> {
-        let rows = self.order.arrange(rows)?;
+    // The rows of a join of two sides, if there was memory for them.
+    fn write_joined<T: Sides + Drop>(
+        self,
+        rows: Result<Vec<(Cells, T)>, AllocError>,
+    ) -> Result<Vec<u8>, Reason> {
+        let rows = self.order.arrange(rows?)?;
         let mut written = self.begin(T::TELLS_SIDE)?;
         for (key, row) in &rows {
             put_rows(&mut written, self.columns, T::TELLS_SIDE, key, row.sides())?;
@@ -78,9 +82,9 @@ impl Joining<'_> {
         written.finish()
     }
 
-    // Rows of the left table.
-    fn write_left(self, rows: Vec<(Cells, Group)>) -> Result<Vec<u8>, Reason> {
-        let rows = self.order.arrange(rows)?;
+    // Rows of the left table, if there was memory for them.
+    fn write_left(self, rows: Result<Vec<(Cells, Group)>, AllocError>) -> Result<Vec<u8>, Reason> {
+        let rows = self.order.arrange(rows?)?;
         write_table(self.alloc, self.form, &self.columns.left, &rows)
     }
 

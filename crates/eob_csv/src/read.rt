@@ -45,14 +45,9 @@ impl<R: Read + Drop> Source<R> {
             .delimiter(form.delimiter)
             .has_headers(false)
             .from_reader(alloc, reader);
-        let mut record = ByteRecord::new(alloc);
-        let is_there = reader.read_byte_record(&mut record)?;
-        let header = header_of(alloc, form, before, &record, is_there)?;
-        let first = if form.has_header || !is_there {
-            None
-        } else {
-            Some(record)
-        };
+        let first = first_record(alloc, &mut reader)?;
+        let header = header_of(alloc, form, before, &first)?;
+        let first = if form.has_header { None } else { first };
         Ok(Source {
             alloc,
             reader,
@@ -128,13 +123,19 @@ impl<R: Read + Drop> Source<R> {
         let places = self.places(columns)?;
         let mut record = ByteRecord::new(self.alloc);
         for _ in 0..u64::MAX {
-            let Some(row) = self.read_row(&places, &mut record)? else {
+            if !self.read_record(&mut record)? {
                 break;
+            }
+            let goes = match record.get(0) {
+                Some(b"-") => true,
+                Some(b"+") => false,
+                _ => return Err(Reason::NoSign(line_of(&record))),
             };
-            match sign_of(&record) {
-                Some(Sign::Gone) => note_and_push(order, gone, row)?,
-                Some(Sign::Come) => note_and_push(order, come, row)?,
-                None => return Err(Reason::NoSign(line_of(&record))),
+            let row = places.pick_row(self.alloc, &record)?;
+            if goes {
+                note_and_push(order, gone, row)?;
+            } else {
+                note_and_push(order, come, row)?;
             }
         }
         Ok(())
@@ -169,36 +170,41 @@ impl<R: Read + Drop> Source<R> {
     }
 }
 
-// What the first cell of a change says of its row.
-#[derive(Clone, Copy)]
-enum Sign {
-    Gone,
-    Come,
-}
-
-fn sign_of(record: &ByteRecord) -> Option<Sign> {
-    match record.get(0) {
-        Some(b"-") => Some(Sign::Gone),
-        Some(b"+") => Some(Sign::Come),
-        _ => None,
+// The first row, if there is one.
+fn first_record<R: Read>(
+    alloc: Global,
+    reader: &mut Reader<R>,
+) -> Result<Option<ByteRecord>, Reason> {
+    let mut record = ByteRecord::new(alloc);
+    if reader.read_byte_record(&mut record)? {
+        Ok(Some(record))
+    } else {
+        Ok(None)
     }
 }
 
-// The header, of which the first row is the record, if there is one.
+// The names of the columns, which stand in the first row where that is a header.
 fn header_of(
     alloc: Global,
     form: Form,
     before: usize,
-    record: &ByteRecord,
-    is_there: bool,
+    first: &Option<ByteRecord>,
 ) -> Result<Cells, Reason> {
-    if !form.has_header {
-        return Ok(numbers(alloc, record.len().saturating_sub(before))?);
-    }
-    if is_there {
-        names_of(alloc, record, before)
-    } else {
-        Err(Reason::NoHeader)
+    match first {
+        Some(record) => {
+            if form.has_header {
+                names_of(alloc, record, before)
+            } else {
+                Ok(numbers(alloc, record.len().saturating_sub(before))?)
+            }
+        }
+        None => {
+            if form.has_header {
+                Err(Reason::NoHeader)
+            } else {
+                Ok(Vec::new(alloc))
+            }
+        }
     }
 }
 
