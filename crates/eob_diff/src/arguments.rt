@@ -131,26 +131,41 @@ const FLAGS: [(&str, &str); 3] = [
 ];
 
 fn command<'a>(alloc: Global) -> Result<Command<'a>, AllocError> {
-    let mut command = Command::new(alloc, "eob_diff")
+    let below = subcommands(alloc)?;
+    Command::new(alloc, "eob_diff")
         .version("0.1.0")
         .about("Compares, changes, merges and joins tables of CSV by key.")
-        .subcommand_required(true);
-    for below in COMMANDS {
-        let subcommand = subcommand(alloc, below)?;
-        command = command.subcommand(subcommand)?;
-    }
-    Ok(command)
+        .subcommand_required(true)
+        .subcommands(below)
 }
 
-fn subcommand<'a>(alloc: Global, below: Below<'a>) -> Result<Command<'a>, AllocError> {
-    let (name, about, files) = below;
+fn subcommands<'a>(alloc: Global) -> Result<Vec<Command<'a>>, AllocError> {
+    let mut commands = Vec::new(alloc);
+    for below in &COMMANDS {
+        commands.push(subcommand(alloc, below)?)?;
+    }
+    Ok(commands)
+}
+
+fn subcommand<'a>(alloc: Global, below: &Below<'a>) -> Result<Command<'a>, AllocError> {
+    let (name, about, files) = *below;
+    let args = args_of(alloc, name, files)?;
+    Command::new(alloc, name).about(about).args(args)
+}
+
+// What a command takes: its files, its own options, and the settings of all.
+fn args_of<'a>(
+    alloc: Global,
+    name: &str,
+    files: &[(&'a str, &'a str)],
+) -> Result<Vec<Arg<'a>>, AllocError> {
     let mut args = Vec::new(alloc);
     for file in files {
         args.push(Arg::new(alloc, file.0).required(true).help(file.1))?;
     }
     put_options(alloc, &mut args, name)?;
     put_settings(alloc, &mut args)?;
-    Command::new(alloc, name).about(about).args(args)
+    Ok(args)
 }
 
 // Puts the options that a command has beside the settings of all.
@@ -209,7 +224,7 @@ fn sorted<'a>(alloc: Global) -> Result<Arg<'a>, AllocError> {
 fn put_settings<'a>(alloc: Global, args: &mut Vec<Arg<'a>>) -> Result<(), AllocError> {
     args.push(key(alloc))?;
     args.push(delimiter(alloc))?;
-    for (name, help) in FLAGS {
+    for (name, help) in &FLAGS {
         args.push(flag(alloc, name, help))?;
     }
     Ok(())

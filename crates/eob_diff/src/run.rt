@@ -1,7 +1,7 @@
 //! From the process to the request, and from the answer to the process: the streams, and how the program ends.
 
 use crate::arguments::parse;
-use eob_csv::{Fault, Reason, stream_request, write_request};
+use eob_csv::{Fault, Reason, Request, Settings, stream_request, write_request};
 use std::env::FillError;
 use std::io::{IsTerminal, Write};
 use std::rt::{Env, Files};
@@ -15,25 +15,39 @@ pub fn run<R: Files + Env + Input + Print + Eprint + AllocGlobal, W: Write + IsT
     rt: &R,
     output: &mut W,
 ) -> u8 {
-    let alloc = rt.alloc();
-    let words: Vec<String> = match std::env::args(rt) {
-        Ok(words) => match words.collect(alloc) {
-            Ok(words) => words,
-            Err(_) => return trouble(rt, "the command line", Reason::NoMemory),
-        },
-        Err(error) => return trouble(rt, "the command line", Reason::Io(error)),
-    };
+    match words_of(rt) {
+        Ok(words) => answer_words(rt, &words, output),
+        Err(reason) => trouble(rt, "the command line", reason),
+    }
+}
+
+fn words_of<R: Env + AllocGlobal>(rt: &R) -> Result<Vec<String>, Reason> {
+    let words = std::env::args(rt)?;
+    Ok(words.collect(rt.alloc())?)
+}
+
+fn answer_words<R: Files + Env + Input + Print + Eprint + AllocGlobal, W: Write + IsTerminal>(
+    rt: &R,
+    words: &[String],
+    output: &mut W,
+) -> u8 {
     let has_colour = output.is_terminal() && !has_text(rt, "NO_COLOR");
-    let (settings, request) = match parse(alloc, &words, has_colour) {
-        Ok(parsed) => parsed,
+    match parse(rt.alloc(), words, has_colour) {
+        Ok((Some(settings), request)) => answer(rt, settings, request, output),
+        Ok((None, _)) => trouble(rt, "--delimiter", Reason::BadDelimiter),
         Err(error) => {
             let _ = error.print(rt);
-            return if error.use_stderr() { TROUBLE } else { 0 };
+            if error.use_stderr() { TROUBLE } else { 0 }
         }
-    };
-    let Some(settings) = settings else {
-        return trouble(rt, "--delimiter", Reason::BadDelimiter);
-    };
+    }
+}
+
+fn answer<R: Files + Input + Eprint + AllocGlobal, W: Write>(
+    rt: &R,
+    settings: Settings<'_>,
+    request: Request<'_>,
+    output: &mut W,
+) -> u8 {
     let outcome = if settings.rises {
         stream_request(rt, settings, request, output)
     } else {
