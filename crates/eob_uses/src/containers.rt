@@ -8,6 +8,7 @@ ghost use Rattle.std.specs.Map.{keys_of, lookup};
 ghost use Rattle.std.specs.Option.{option_or};
 ghost use Rattle.std.specs.Ordering.{nat_cmp, eq_by_cmp};
 ghost use Rattle.std.specs.Set.{distinct_count, is_member};
+ghost use Rattle.eob_both.specs.Collector.{contents_at};
 ghost use Rattle.either_or_both.specs.Contents.{first_items, first_list, last_value, IsLastValue};
 ghost use Rattle.either_or_both.specs.Contents.{StandByFirstPlaces};
 ghost use Rattle.either_or_both.specs.Either as either;
@@ -217,6 +218,16 @@ pub fn rising_entries(
     }
 }
 
+// The queue, or an empty one.
+fn or_empty<T: Drop>(alloc: Global, queue: Option<VecDeque<T>>) -> VecDeque<T>
+    ensures { result.items ≡ contents_at (λ q. q.items) queue }
+{
+    match queue {
+        Some(queue) => queue,
+        None => VecDeque::new(alloc),
+    }
+}
+
 /// A queue has the values as they came.
 pub fn left_queue<T: Drop>(
     alloc: Global,
@@ -225,10 +236,7 @@ pub fn left_queue<T: Drop>(
     ensures { IfOk result (λ q. q.items ≡ lefts values.items) }
 {
     let pair: EitherOrBoth<VecDeque<T>, VecDeque<u8>> = values.into_iter().collect(alloc)?;
-    match pair.left() {
-        Some(queue) => Ok(queue),
-        None => Ok(VecDeque::new(alloc)),
-    }
+    Ok(or_empty(alloc, pair.left()))
 }
 
 /// The length of a map is the number of distinct keys.
@@ -291,6 +299,14 @@ pub fn number_with_repetitions(
     }
 }
 
+// Which sides of a pair stand.
+fn sides<L: Drop, R: Drop>(pair: EitherOrBoth<L, R>) -> (bool, bool)
+    ensures left { result.0 ≡ is_some (left_place pair) }
+    ensures right { result.1 ≡ is_some (right_place pair) }
+{
+    (pair.has_left(), pair.has_right())
+}
+
 /// The variant follows from the values that came: the sides that stand are those of the pair of their lists.
 pub fn variant_by_lists(
     alloc: Global,
@@ -300,7 +316,7 @@ pub fn variant_by_lists(
     ensures right { IfOk result (λ r. r.1 ≡ is_some (right_place (collected values.items))) }
 {
     let pair: EitherOrBoth<HashSet<u8>, HashSet<char>> = values.into_iter().collect(alloc)?;
-    Ok((pair.has_left(), pair.has_right()))
+    Ok(sides(pair))
 }
 
 /// Both sides stand where both have values or neither has.
@@ -431,6 +447,5 @@ pub fn variant_after_recollecting(
     ensures right { IfOk result (λ r. r.1 ≡ is_some (right_place (collected values.items))) }
 {
     let pair: EitherOrBoth<IndexSet<u8>, IndexSet<char>> = values.into_iter().collect(alloc)?;
-    let again = recollect_index_set(alloc, pair)?;
-    Ok((again.has_left(), again.has_right()))
+    Ok(sides(recollect_index_set(alloc, pair)?))
 }
