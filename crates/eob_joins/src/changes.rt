@@ -4,9 +4,9 @@ ghost use Rattle.either_or_both.specs.Join.{Rising};
 ghost use Rattle.eob_joins.specs.Changes.{ApplyDiffLaw, ChangedValueLaw, PatchedLaw, applied, changed};
 ghost use Rattle.eob_joins.specs.Tables.{IsKeptByKey, IsKeptOfJoin};
 
-use crate::pushed::push_all;
+use crate::kept::kept_rows;
 use either_or_both::EitherOrBoth;
-use either_or_both::join::{outer_join_in, outer_join_lazily};
+use either_or_both::join::outer_join_in;
 use std::alloc::{AllocError, Allocator, Global};
 
 /// What changed under a key: its value went (Left), came (Right), or is another one (Both).
@@ -142,7 +142,7 @@ fn changed_rows<K: Ord + Drop, V: Eq + Drop, M: Allocator>(
     requires new { Rising K.cmp new.items }
     ensures { IfOk result (λ rows. IsKeptOfJoin K.cmp (changed V.eq) old.items new.items rows.items) }
 {
-    push_all(alloc, outer_join_lazily(old, new).filter_map(changed_row))
+    kept_rows(alloc, old, new, changed_row)
 }
 
 // The rows of the old version and the changes, off their join.

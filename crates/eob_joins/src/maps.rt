@@ -5,8 +5,9 @@
 //! those that it lacks in the order of the right map.
 ghost use Rattle.std.specs.Prelude.{◌≡◌, ◌++◌, ◌∷◌, [], IfOk, List, None, OnOk, Some};
 ghost use Rattle.std.specs.HashMap.{IsEmpty, get};
+ghost use Rattle.indexmap.specs.IndexMap.{insert_all};
 ghost use Rattle.either_or_both.specs.Places.{left_place, right_place};
-ghost use Rattle.eob_joins.specs.MapJoin.{AddsRight, IsMapJoin, IsMapOverlay, MapPartsLaw};
+ghost use Rattle.eob_joins.specs.MapJoin.{AddsRight, AddsRights, IsMapJoin, IsMapOverlay, MapPartsLaw};
 
 use either_or_both::EitherOrBoth;
 use indexmap::IndexMap;
@@ -84,11 +85,8 @@ pub fn outer_join_index_maps_in<
 ) -> Result<IndexMap<K, EitherOrBoth<A, B>, S, M>, AllocError>
     ensures { IfOk result (λ rows. IsMapJoin K.eq left.entries right.entries rows.entries) }
 {
-    let mut rows = IndexMap::with_capacity_and_hasher(alloc, left.len(), S::default())?;
-    put_lefts(&mut rows, left)?;
-    for (key, b) in right {
-        put_right(&mut rows, key, b)?;
-    }
+    let mut rows = with_room(alloc, left.len())?;
+    put_entries(&mut rows, left, right)?;
     Ok(rows)
 }
 
@@ -156,11 +154,8 @@ pub fn outer_join_hash_maps_in<
 ) -> Result<IndexMap<K, EitherOrBoth<A, B>, S, M>, AllocError>
     ensures { IfOk result (λ rows. IsMapJoin K.eq left.entries right.entries rows.entries) }
 {
-    let mut rows = IndexMap::with_capacity_and_hasher(alloc, left.len(), S::default())?;
-    put_hashed_lefts(&mut rows, left)?;
-    for (key, b) in right {
-        put_right(&mut rows, key, b)?;
-    }
+    let mut rows = with_room(alloc, left.len())?;
+    put_hashed_entries(&mut rows, left, right)?;
     Ok(rows)
 }
 
@@ -227,17 +222,15 @@ pub fn overlay_index_maps_in<
     M: Allocator + Copy,
 >(
     alloc: M,
-    mut base: IndexMap<K, V, S, M>,
-    mut over: IndexMap<K, V, T, M>,
+    base: IndexMap<K, V, S, M>,
+    over: IndexMap<K, V, T, M>,
 ) -> Result<IndexMap<K, V, S, M>, AllocError>
     ensures { IfOk result (λ rows. IsMapOverlay K.eq base.entries over.entries rows.entries) }
 {
     // The rows are at least as many as the longer map has.
-    let len = base.len().max(over.len());
-    let mut rows = IndexMap::with_capacity_and_hasher(alloc, len, S::default())?;
-    rows.append(&mut base)?;
-    rows.append(&mut over)?;
-    Ok(rows)
+    let rows = with_room(alloc, base.len().max(over.len()))?;
+    let rows = appended(rows, base)?;
+    appended(rows, over)
 }
 
 /// Where the keys of two maps are dealt out to numbered parts by any function that gives equal keys one number, the join of two parts
@@ -246,6 +239,56 @@ pub fn overlay_index_maps_in<
 pub fn law_map_join_parts<K: Eq, A, B>()
     ensures { MapPartsLaw K.eq A B }
 {}
+
+// A map with no entry yet, and with room for so many.
+fn with_room<K: Eq + Hash + Drop, V: Drop, S: BuildHasher + Default + Drop, M: Allocator + Copy>(
+    alloc: M,
+    room: usize,
+) -> Result<IndexMap<K, V, S, M>, AllocError>
+    ensures { IfOk result (λ map. IsEmpty map) }
+{
+    IndexMap::with_capacity_and_hasher(alloc, room, S::default())
+}
+
+// The rows of both maps.
+fn put_hashed_entries<
+    K: Eq + Hash + Drop,
+    A: Drop,
+    B: Drop,
+    S: BuildHasher + Drop,
+    T: BuildHasher + Drop,
+    M: Allocator + Copy,
+>(
+    rows: &mut IndexMap<K, EitherOrBoth<A, B>, S, M>,
+    left: HashMap<K, A, S, M>,
+    right: HashMap<K, B, T, M>,
+) -> Result<(), AllocError>
+    requires { IsEmpty rows.old }
+    ensures { OnOk result (IsMapJoin K.eq left.entries right.entries rows.new.entries) }
+{
+    put_hashed_lefts(rows, left)?;
+    put_hashed_rights(rows, right)
+}
+
+// The rows of both maps.
+fn put_entries<
+    K: Eq + Hash + Drop,
+    A: Drop,
+    B: Drop,
+    S: BuildHasher + Drop,
+    T: BuildHasher + Drop,
+    M: Allocator + Copy,
+>(
+    rows: &mut IndexMap<K, EitherOrBoth<A, B>, S, M>,
+    left: IndexMap<K, A, S, M>,
+    right: IndexMap<K, B, T, M>,
+) -> Result<(), AllocError>
+    requires { IsEmpty rows.old }
+    ensures { OnOk result (IsMapJoin K.eq left.entries right.entries rows.new.entries) }
+{
+    put_lefts(rows, left)?;
+    put_rights(rows, right)
+}
 
 // The rows of the left map.
 fn put_hashed_lefts<
@@ -279,6 +322,63 @@ fn put_lefts<K: Eq + Hash + Drop, A: Drop, B: Drop, S: BuildHasher + Drop, M: Al
         put_left(rows, key, a)?;
     }
     Ok(())
+}
+
+// The rows of the right map, after those of the left map.
+fn put_hashed_rights<
+    K: Eq + Hash + Drop,
+    A: Drop,
+    B: Drop,
+    S: BuildHasher,
+    T: BuildHasher + Drop,
+    M: Allocator + Copy,
+>(
+    rows: &mut IndexMap<K, EitherOrBoth<A, B>, S, M>,
+    right: HashMap<K, B, T, M>,
+) -> Result<(), AllocError>
+    ensures { OnOk result (AddsRights K.eq A right.entries rows.old.entries rows.new.entries) }
+{
+    for (key, b) in right {
+        put_right(rows, key, b)?;
+    }
+    Ok(())
+}
+
+// The rows of the right map, after those of the left map.
+fn put_rights<
+    K: Eq + Hash + Drop,
+    A: Drop,
+    B: Drop,
+    S: BuildHasher,
+    T: BuildHasher + Drop,
+    M: Allocator + Copy,
+>(
+    rows: &mut IndexMap<K, EitherOrBoth<A, B>, S, M>,
+    right: IndexMap<K, B, T, M>,
+) -> Result<(), AllocError>
+    ensures { OnOk result (AddsRights K.eq A right.entries rows.old.entries rows.new.entries) }
+{
+    for (key, b) in right {
+        put_right(rows, key, b)?;
+    }
+    Ok(())
+}
+
+// The entries of a map and then those of another, which take the place of those with their keys.
+fn appended<
+    K: Eq + Hash + Drop,
+    V: Drop,
+    S: BuildHasher + Drop,
+    T: BuildHasher + Drop,
+    M: Allocator,
+>(
+    mut rows: IndexMap<K, V, S, M>,
+    mut more: IndexMap<K, V, T, M>,
+) -> Result<IndexMap<K, V, S, M>, AllocError>
+    ensures { IfOk result (λ all. all.entries ≡ insert_all K.eq rows.entries more.entries) }
+{
+    rows.append(&mut more)?;
+    Ok(rows)
 }
 
 // A row of the left map, whose key the rows lack.

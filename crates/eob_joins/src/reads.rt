@@ -6,9 +6,8 @@ ghost use Rattle.eob_joins.specs.Tables.{IsAntiJoin, IsInnerJoin, IsKeptOfJoin, 
 ghost use Rattle.eob_joins.specs.Tables.{IsSemiJoin};
 ghost use Rattle.eob_joins.specs.Tables.{both_places, lone_left, paired_left, paired_right, shared_left};
 
-use crate::pushed::push_all;
+use crate::kept::kept_rows;
 use either_or_both::EitherOrBoth;
-use either_or_both::join::outer_join_lazily;
 use std::alloc::{AllocError, Allocator, Global};
 
 /// Returns the inner join of two lists: each key that both lists have, in order, with both values. Takes one comparison for each key of
@@ -321,7 +320,7 @@ fn both_rows<K: Ord + Drop, A: Drop, B: Drop, M: Allocator>(
     requires right { Rising K.cmp right.items }
     ensures { IfOk result (λ rows. IsKeptOfJoin K.cmp both_places left.items right.items rows.items) }
 {
-    push_all(alloc, outer_join_lazily(left, right).filter_map(in_both))
+    kept_rows(alloc, left, right, in_both)
 }
 
 // The rows of the left list, off the lazy join.
@@ -334,7 +333,7 @@ fn left_rows<K: Ord + Drop, A: Drop, B: Drop, M: Allocator>(
     requires right { Rising K.cmp right.items }
     ensures { IfOk result (λ rows. IsKeptOfJoin K.cmp paired_left left.items right.items rows.items) }
 {
-    push_all(alloc, outer_join_lazily(left, right).filter_map(of_left))
+    kept_rows(alloc, left, right, of_left)
 }
 
 // The rows of the right list, off the lazy join.
@@ -347,7 +346,7 @@ fn right_rows<K: Ord + Drop, A: Drop, B: Drop, M: Allocator>(
     requires right { Rising K.cmp right.items }
     ensures { IfOk result (λ rows. IsKeptOfJoin K.cmp paired_right left.items right.items rows.items) }
 {
-    push_all(alloc, outer_join_lazily(left, right).filter_map(of_right))
+    kept_rows(alloc, left, right, of_right)
 }
 
 // The left values of the rows of both lists, off the lazy join.
@@ -360,7 +359,7 @@ fn shared_rows<K: Ord + Drop, A: Drop, B: Drop, M: Allocator>(
     requires right { Rising K.cmp right.items }
     ensures { IfOk result (λ rows. IsKeptOfJoin K.cmp shared_left left.items right.items rows.items) }
 {
-    push_all(alloc, outer_join_lazily(left, right).filter_map(shared))
+    kept_rows(alloc, left, right, shared)
 }
 
 // The rows of the left list alone, off the lazy join.
@@ -373,7 +372,7 @@ fn lone_rows<K: Ord + Drop, A: Drop, B: Drop, M: Allocator>(
     requires right { Rising K.cmp right.items }
     ensures { IfOk result (λ rows. IsKeptOfJoin K.cmp lone_left left.items right.items rows.items) }
 {
-    push_all(alloc, outer_join_lazily(left, right).filter_map(alone))
+    kept_rows(alloc, left, right, alone)
 }
 
 // A row of both lists.

@@ -1,6 +1,6 @@
 use Rattle.std.proofs.Common.{true, refl}
 use Rattle.std.proofs.iter.runs.Made.{run}
-use Rattle.eob_joins.proofs.pushed.push_all.Goals as goal
+use Rattle.eob_joins.proofs.kept.push_all.Goals as goal
 
 pub returns : goal.returns
 returns g c =

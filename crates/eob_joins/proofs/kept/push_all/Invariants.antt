@@ -1,5 +1,5 @@
 use Rattle.std.proofs.Common.{◌≡◌}
-use Rattle.eob_joins.proofs.pushed.push_all.Given as goal
+use Rattle.eob_joins.proofs.kept.push_all.Given as goal
 
 abbrev pub invariant-loop-item : goal.invariant-loop-item
 invariant-loop-item g l = l.list.items ≡ l.yielded
