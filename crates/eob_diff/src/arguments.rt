@@ -142,7 +142,7 @@ fn command<'a>(alloc: Global) -> Result<Command<'a>, AllocError> {
 fn subcommands<'a>(alloc: Global) -> Result<Vec<Command<'a>>, AllocError> {
     let mut commands = Vec::new(alloc);
     for below in &COMMANDS {
-        commands.push(subcommand(alloc, below)?)?;
+        put(&mut commands, subcommand(alloc, below)?)?;
     }
     Ok(commands)
 }
@@ -161,7 +161,10 @@ fn args_of<'a>(
 ) -> Result<Vec<Arg<'a>>, AllocError> {
     let mut args = Vec::new(alloc);
     for file in files {
-        args.push(Arg::new(alloc, file.0).required(true).help(file.1))?;
+        put(
+            &mut args,
+            Arg::new(alloc, file.0).required(true).help(file.1),
+        )?;
     }
     put_options(alloc, &mut args, name)?;
     put_settings(alloc, &mut args)?;
@@ -172,44 +175,53 @@ fn args_of<'a>(
 fn put_options<'a>(alloc: Global, args: &mut Vec<Arg<'a>>, name: &str) -> Result<(), AllocError> {
     match name {
         "diff" => {
-            args.push(format(alloc))?;
-            args.push(color(alloc))?;
+            put(args, choice(alloc, FORMAT))?;
+            put(args, choice(alloc, COLOR))?;
         }
-        "join" => args.push(kind(alloc))?,
+        "join" => put(args, choice(alloc, KIND))?,
         _ => return Ok(()),
     }
-    args.push(sorted(alloc)?)?;
-    Ok(())
+    put(args, sorted(alloc)?)
 }
 
-fn format<'a>(alloc: Global) -> Arg<'a> {
-    Arg::new(alloc, "format")
-        .long("format")
-        .value_name("table|csv")
-        .value_parser(["table", "csv"].as_slice())
-        .default_value("table")
-        .help("A table to read, or CSV that apply takes")
+// An option that is one of some words, of which the first is the default, with what stands for them in the help, and its own help.
+#[derive(Clone, Copy)]
+struct OneOf {
+    name: &'static str,
+    shown: &'static str,
+    words: &'static [&'static str],
+    help: &'static str,
 }
 
-fn color<'a>(alloc: Global) -> Arg<'a> {
-    Arg::new(alloc, "color")
-        .long("color")
-        .value_name("auto|always|never")
-        .value_parser(["auto", "always", "never"].as_slice())
-        .default_value("auto")
-        .help("Colours in a table; auto: on a terminal, unless NO_COLOR is set and not empty")
-}
+const FORMAT: OneOf = OneOf {
+    name: "format",
+    shown: "table|csv",
+    words: &["table", "csv"],
+    help: "A table to read, or CSV that apply takes",
+};
 
-fn kind<'a>(alloc: Global) -> Arg<'a> {
-    Arg::new(alloc, "kind")
-        .long("kind")
-        .value_name("KIND")
-        .value_parser(["outer", "inner", "left", "right", "semi", "anti"].as_slice())
-        .default_value("outer")
-        .help(
-            "Which rows: of either table, of both, of the left, of the right; \
-             semi and anti: of the left, with its cells alone",
-        )
+const COLOR: OneOf = OneOf {
+    name: "color",
+    shown: "auto|always|never",
+    words: &["auto", "always", "never"],
+    help: "Colours in a table; auto: on a terminal, unless NO_COLOR is set and not empty",
+};
+
+const KIND: OneOf = OneOf {
+    name: "kind",
+    shown: "KIND",
+    words: &["outer", "inner", "left", "right", "semi", "anti"],
+    help: "Which rows: of either table, of both, of the left, of the right; \
+           semi and anti: of the left, with its cells alone",
+};
+
+fn choice<'a>(alloc: Global, of: OneOf) -> Arg<'a> {
+    Arg::new(alloc, of.name)
+        .long(of.name)
+        .value_name(of.shown)
+        .value_parser(of.words)
+        .default_value(of.words.first().copied().unwrap_or(""))
+        .help(of.help)
 }
 
 fn sorted<'a>(alloc: Global) -> Result<Arg<'a>, AllocError> {
@@ -222,11 +234,17 @@ fn sorted<'a>(alloc: Global) -> Result<Arg<'a>, AllocError> {
 }
 
 fn put_settings<'a>(alloc: Global, args: &mut Vec<Arg<'a>>) -> Result<(), AllocError> {
-    args.push(key(alloc))?;
-    args.push(delimiter(alloc))?;
+    put(args, key(alloc))?;
+    put(args, delimiter(alloc))?;
     for (name, help) in &FLAGS {
-        args.push(flag(alloc, name, help))?;
+        put(args, flag(alloc, name, help))?;
     }
+    Ok(())
+}
+
+// Puts an item behind the others. One that there is no memory for is dropped.
+fn put<T: Drop>(items: &mut Vec<T>, item: T) -> Result<(), AllocError> {
+    items.push(item)?;
     Ok(())
 }
 
