@@ -48,7 +48,7 @@ pub use Rattle.eob_both.specs.Runs.{SwapsRuns, ChainsRuns}
 pub use Rattle.either_or_both.specs.declared.either.Either.{Either}
 pub use Rattle.either_or_both.specs.Either.{held, either_of}
 pub use Rattle.either_or_both.specs.EitherStreams.{of_held, HoldsOfHeld, HeldBecomes}
-pub use Rattle.either_or_both.specs.Normal.{regrouped, IsOneSided, IsNormal}
-pub use Rattle.either_or_both.specs.Answers.{answers, left_over, from_front, from_back}
-pub use Rattle.either_or_both.specs.Join.{Rising, value_under, SameKeys, IsJoin}
-pub use Rattle.either_or_both.specs.JoinLaws.{flipped, deref_joined, overlaid, AllBoth, shared_keys, HasJoinCounts}
+pub use Rattle.eob_lists.specs.Normal.{regrouped, IsOneSided, IsNormal}
+pub use Rattle.eob_lists.specs.Answers.{answers, left_over, from_front, from_back}
+pub use Rattle.eob_lists.specs.Join.{Rising, value_under, SameKeys, IsJoin}
+pub use Rattle.eob_lists.specs.JoinLaws.{flipped, deref_joined, overlaid, AllBoth, shared_keys, HasJoinCounts}

@@ -14,8 +14,8 @@ use Rattle.std.proofs.lemmas.List.{length-map, map-append}
 use Rattle.std.proofs.Math.ListN.{get_or-map}
 use Rattle.eob_both.specs.declared.either_or_both.EitherOrBoth.{EitherOrBoth}
 use Rattle.eob_both.specs.Places.{from_places, map_places}
-use Rattle.either_or_both.specs.Join.{Rising, IsJoin, value_under}
-use Rattle.either_or_both.proofs.MergeLemmas.{Up, absent_alike, alike_on, is_Equal, rising, up}
+use Rattle.eob_lists.specs.Join.{Rising, IsJoin, value_under}
+use Rattle.eob_lists.proofs.MergeLemmas.{Up, absent_alike, alike_on, is_Equal, rising, up}
 use Rattle.eob_joins.specs.Groups.{AreGroups, HasGroupsOf, Ordered, OrderedLaw, IsGroupJoin, add_pair, group_under, key_runs, some_items, run_values, run_rest}
 
 by_test : {G : Type 0} (t : Bool) → (t ≡ true → G) → (t ≡ false → G) → G

@@ -11,8 +11,8 @@ use Rattle.std.proofs.lemmas.List.{map-append}
 use Rattle.std.proofs.lemmas.List.Elements.{All-nil, All-cons, All-head, All-tail, All-append, All-contains, All-weaker, Contains-append_left, Contains-append_right}
 use Rattle.eob_both.specs.declared.either_or_both.EitherOrBoth.{EitherOrBoth}
 use Rattle.eob_both.specs.Places.{from_places}
-use Rattle.either_or_both.specs.Join.{IsJoin, value_under}
-use Rattle.either_or_both.proofs.MergeLemmas.{Up, is_Equal, rising, up}
+use Rattle.eob_lists.specs.Join.{IsJoin, value_under}
+use Rattle.eob_lists.proofs.MergeLemmas.{Up, is_Equal, rising, up}
 use Rattle.eob_joins.specs.Laws.{AreBelow, CutJoinLaw}
 use Rattle.eob_joins.proofs.TableLemmas.{by_test}
 

@@ -13,9 +13,9 @@ use Rattle.std.specs.Map.Iter.{deref_pair}
 use Rattle.std.specs.Ordering.{is_eq}
 use Rattle.std.specs.declared.cmp.Ordering.{Ordering}
 use Rattle.std.specs.declared.cmp.Ordering.TheVariants.{Less}
-use Rattle.either_or_both.specs.Join.{value_under}
-use Rattle.either_or_both.proofs.JoinLemmas.{own_head}
-use Rattle.either_or_both.proofs.MergeLemmas.{Up, rising, up}
+use Rattle.eob_lists.specs.Join.{value_under}
+use Rattle.eob_lists.proofs.JoinLemmas.{own_head}
+use Rattle.eob_lists.proofs.MergeLemmas.{Up, rising, up}
 use Rattle.eob_joins.specs.Groups.{Ordered, add_pair, key_runs, run_rest, run_values, some_items}
 use Rattle.eob_joins.specs.Parts.{AreParts, ShowsParts, part_under, parts_left, parts_of}
 use Rattle.eob_joins.specs.declared.parts.GroupRefs.{GroupRefs}

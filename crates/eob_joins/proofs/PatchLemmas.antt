@@ -9,9 +9,9 @@ use Rattle.std.specs.declared.cmp.Ordering.{Ordering}
 use Rattle.std.specs.declared.cmp.Ordering.TheVariants.{Less, Equal}
 use Rattle.eob_both.specs.declared.either_or_both.EitherOrBoth.{EitherOrBoth}
 use Rattle.eob_both.specs.Places.{from_places}
-use Rattle.either_or_both.specs.Join.{value_under}
-use Rattle.either_or_both.proofs.JoinLemmas.{own_head}
-use Rattle.either_or_both.proofs.MergeLemmas.{Up, absent, absent_alike, by_order, flipped_order, up}
+use Rattle.eob_lists.specs.Join.{value_under}
+use Rattle.eob_lists.proofs.JoinLemmas.{own_head}
+use Rattle.eob_lists.proofs.MergeLemmas.{Up, absent, absent_alike, by_order, flipped_order, up}
 use Rattle.eob_joins.specs.Changes.{PatchedLaw, applied, changed}
 use Rattle.eob_joins.proofs.TableLemmas.{by_test, kept_join}
 

@@ -9,9 +9,9 @@ use Rattle.std.specs.declared.cmp.Ordering.{Ordering}
 use Rattle.std.specs.declared.cmp.Ordering.TheVariants.{Less, Equal}
 use Rattle.eob_both.specs.declared.either_or_both.EitherOrBoth.{EitherOrBoth}
 use Rattle.eob_both.specs.Places.{from_places, right_place}
-use Rattle.either_or_both.specs.Join.{value_under}
-use Rattle.either_or_both.proofs.JoinLemmas.{same_values}
-use Rattle.either_or_both.proofs.MergeLemmas.{Up, absent_alike, rising, up, up_weaker}
+use Rattle.eob_lists.specs.Join.{value_under}
+use Rattle.eob_lists.proofs.JoinLemmas.{same_values}
+use Rattle.eob_lists.proofs.MergeLemmas.{Up, absent_alike, rising, up, up_weaker}
 use Rattle.eob_joins.specs.Tables.{Tabulates, SameTableLaw, KeptLaw, IsKeptByKey, kept, both_places, paired_left, paired_right, shared_left, lone_left, unless}
 use Rattle.eob_joins.specs.Tables.{IsKeptOfJoin, IsInnerJoin, IsLeftJoin, IsRightJoin, IsSemiJoin, IsAntiJoin}
 use Rattle.eob_joins.specs.Changes.{ApplyDiffLaw, ChangedValueLaw, applied, changed}

@@ -7,7 +7,7 @@ use Rattle.std.specs.Option.{option_and_then, option_eq}
 use Rattle.std.specs.declared.cmp.Ordering.{Ordering}
 use Rattle.eob_both.specs.declared.either_or_both.EitherOrBoth.{EitherOrBoth}
 use Rattle.eob_both.specs.Places.{from_places}
-use Rattle.either_or_both.specs.Join.{value_under}
+use Rattle.eob_lists.specs.Join.{value_under}
 use Rattle.eob_joins.specs.declared.versions.Verdict.TheVariants.{Unchanged, Ours, Theirs, Alike}
 use Rattle.eob_joins.specs.declared.versions.Merged.{Merged}
 use Rattle.eob_joins.specs.declared.versions.Merged.TheVariants.{Whole, Conflicts}

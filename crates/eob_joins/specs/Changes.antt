@@ -7,7 +7,7 @@ use Rattle.std.specs.declared.cmp.Ordering.TheVariants.{Equal}
 use Rattle.eob_both.specs.declared.either_or_both.EitherOrBoth.{EitherOrBoth}
 use Rattle.eob_both.specs.declared.either_or_both.EitherOrBoth.TheVariants.{Left, Both, Right}
 use Rattle.eob_both.specs.Places.{from_places, right_place}
-use Rattle.either_or_both.specs.Join.{Rising}
+use Rattle.eob_lists.specs.Join.{Rising}
 use Rattle.eob_joins.specs.Tables.{IsKeptOfJoin}
 
 -- the two values, unless they are equal

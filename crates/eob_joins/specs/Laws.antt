@@ -6,7 +6,7 @@ use Rattle.std.specs.declared.cmp.Ordering.TheVariants.{Less, Equal}
 use Rattle.eob_both.specs.declared.either_or_both.EitherOrBoth.{EitherOrBoth}
 use Rattle.eob_both.specs.declared.either_or_both.EitherOrBoth.TheVariants.{Both}
 use Rattle.eob_both.specs.Places.{from_places, right_place}
-use Rattle.either_or_both.specs.Join.{Rising, IsJoin, value_under}
+use Rattle.eob_lists.specs.Join.{Rising, IsJoin, value_under}
 use Rattle.eob_joins.specs.Tables.{Tabulates, kept}
 
 module _ {K : Type 0} (cmp : K → K → Ordering) where

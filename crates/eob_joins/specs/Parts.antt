@@ -6,7 +6,7 @@ use Rattle.std.specs.Map.{keys_of}
 use Rattle.std.specs.Map.Iter.{deref_pair}
 use Rattle.std.specs.Ordering.{is_eq}
 use Rattle.std.specs.declared.cmp.Ordering.{Ordering}
-use Rattle.either_or_both.specs.Join.{Rising, value_under}
+use Rattle.eob_lists.specs.Join.{Rising, value_under}
 use Rattle.eob_joins.specs.Groups.{key_runs, some_items}
 use Rattle.eob_joins.specs.declared.parts.GroupRefs.{GroupRefs}
 

@@ -5,7 +5,7 @@ use Rattle.std.specs.Option.{option_eq}
 use Rattle.std.specs.declared.cmp.Ordering.{Ordering}
 use Rattle.eob_both.specs.declared.either_or_both.EitherOrBoth.{EitherOrBoth}
 use Rattle.eob_both.specs.Places.{from_places, left_place, right_place, item_left, item_right}
-use Rattle.either_or_both.specs.Join.{IsJoin, value_under}
+use Rattle.eob_lists.specs.Join.{IsJoin, value_under}
 use Rattle.eob_joins.specs.declared.versions.Verdict.{Verdict}
 use Rattle.eob_joins.specs.declared.versions.Verdict.TheVariants.{Unchanged, Ours, Theirs, Alike, Conflict}
 use Rattle.eob_joins.specs.declared.versions.Merged.{Merged}

@@ -1,12 +1,12 @@
 //! Two versions of a table: what changed between them, and the new version made again of the old one and the changes.
 ghost use Rattle.std.specs.Prelude.{◌≡◌, IfOk, option_map};
-ghost use Rattle.either_or_both.specs.Join.{Rising};
+ghost use Rattle.eob_lists.specs.Join.{Rising};
 ghost use Rattle.eob_joins.specs.Changes.{ApplyDiffLaw, ChangedValueLaw, PatchedLaw, applied, changed};
 ghost use Rattle.eob_joins.specs.Tables.{IsKeptByKey, IsKeptOfJoin};
 
 use crate::kept::kept_rows;
-use either_or_both::EitherOrBoth;
-use either_or_both::join::outer_join_in;
+use eob_lists::EitherOrBoth;
+use eob_lists::join::outer_join_in;
 use std::alloc::{AllocError, Allocator, Global};
 
 /// What changed under a key: its value went (Left), came (Right), or is another one (Both).
@@ -15,7 +15,7 @@ pub type Change<V> = EitherOrBoth<V, V>;
 /// Returns the changes from the old version of a table to the new one: each key whose value is not the same in both, in order, with its
 /// value in either version. Takes one comparison of keys for each key of either version at most.
 ///
-/// The caller must prove that the keys strictly increase; see [`is_rising`](either_or_both::join::is_rising).
+/// The caller must prove that the keys strictly increase; see [`is_rising`](eob_lists::join::is_rising).
 ///
 /// # Errors
 ///
@@ -75,7 +75,7 @@ pub fn diff_in<K: Ord + Drop, V: Eq + Drop, M: Allocator>(
 /// Returns a table with changes made to it: under the key of a change its new value, or nothing where the value went, and under every
 /// other key what it was. What a change says of the old value is not looked at. Takes memory for the join of both.
 ///
-/// The caller must prove that the keys strictly increase; see [`is_rising`](either_or_both::join::is_rising).
+/// The caller must prove that the keys strictly increase; see [`is_rising`](eob_lists::join::is_rising).
 ///
 /// # Errors
 ///

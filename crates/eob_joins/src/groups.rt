@@ -4,12 +4,12 @@
 //! must prove that the keys are ordered, which [`is_ordered`] tests. Under a key the values stand in the order that they have in their
 //! table.
 ghost use Rattle.std.specs.Prelude.{◌≡◌, ◌∷◌, IsTrue, IfOk, OnOk, ◌↔◌, map};
-ghost use Rattle.either_or_both.specs.Join.{Rising};
+ghost use Rattle.eob_lists.specs.Join.{Rising};
 ghost use Rattle.eob_joins.specs.Groups.{AreGroups, HasGroupsOf, IsGroupJoin, Ordered, OrderedLaw, run_rest};
 ghost use Rattle.eob_joins.specs.Groups.{run_values, shown_group, shown_row};
 
-use either_or_both::EitherOrBoth;
-use either_or_both::join::outer_join_in;
+use eob_lists::EitherOrBoth;
+use eob_lists::join::outer_join_in;
 use std::alloc::{AllocError, Allocator, Global};
 use std::collections::VecDeque;
 

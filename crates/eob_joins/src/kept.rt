@@ -2,12 +2,12 @@
 ghost use Rattle.std.specs.Prelude.{◌≡◌, IfOk, Option, option_map, true};
 ghost use Rattle.std.specs.Iterator.{ActsAs, IsFinite};
 ghost use Rattle.std.specs.Iterator.Runs.{EachRunFrom, WholeRun};
-ghost use Rattle.either_or_both.specs.Join.{IsJoin, Rising};
+ghost use Rattle.eob_lists.specs.Join.{IsJoin, Rising};
 ghost use Rattle.eob_both.specs.declared.either_or_both.EitherOrBoth.{EitherOrBoth};
 ghost use Rattle.eob_joins.specs.Tables.{IsKeptOfJoin};
 
-use either_or_both::EitherOrBoth;
-use either_or_both::join::{OuterJoin, outer_join_lazily};
+use eob_lists::EitherOrBoth;
+use eob_lists::join::{OuterJoin, outer_join_lazily};
 use std::alloc::{AllocError, Allocator};
 use std::vec::IntoIter;
 

@@ -6,10 +6,10 @@
 ghost use Rattle.std.specs.Prelude.{◌≡◌, ◌++◌, ◌∷◌, [], IfOk, List, None, OnOk, Some};
 ghost use Rattle.std.specs.HashMap.{IsEmpty, get};
 ghost use Rattle.indexmap.specs.IndexMap.{insert_all};
-ghost use Rattle.either_or_both.specs.Places.{left_place, right_place};
+ghost use Rattle.eob_lists.specs.Places.{left_place, right_place};
 ghost use Rattle.eob_joins.specs.MapJoin.{AddsRight, AddsRights, IsMapJoin, IsMapOverlay, MapPartsLaw};
 
-use either_or_both::EitherOrBoth;
+use eob_lists::EitherOrBoth;
 use indexmap::IndexMap;
 use std::alloc::{AllocError, Allocator, Global};
 use std::collections::HashMap;

@@ -7,11 +7,11 @@ ghost use Rattle.std.specs.Iterator.SizeHint.{IsWithinCount};
 ghost use Rattle.std.specs.List.{prefix_len};
 ghost use Rattle.std.specs.Map.Iter.{deref_pair};
 ghost use Rattle.std.specs.Ordering.{is_eq};
-ghost use Rattle.either_or_both.specs.OuterJoin.{ShowsJoin, join_can, join_remaining, join_steps};
+ghost use Rattle.eob_lists.specs.OuterJoin.{ShowsJoin, join_can, join_remaining, join_steps};
 ghost use Rattle.eob_joins.specs.Groups.{Ordered};
 ghost use Rattle.eob_joins.specs.Parts.{AreParts, ShowsParts, parts_left, parts_of};
 
-use either_or_both::join::{OuterJoin, outer_join_lazily};
+use eob_lists::join::{OuterJoin, outer_join_lazily};
 use std::iter::FusedIterator;
 
 /// An iterator over the keys of a slice of pairs, each key once with the part of the slice that has it. Made by [`groups_of`].

@@ -1,19 +1,19 @@
 //! What is read off the join of two lists whose keys rise: inner, left, right, semi and anti join. Each is one line over the lazy full
 //! outer join, and says by look-ups what it returns.
 ghost use Rattle.std.specs.Prelude.{◌≡◌, IfOk, option_map};
-ghost use Rattle.either_or_both.specs.Join.{Rising};
+ghost use Rattle.eob_lists.specs.Join.{Rising};
 ghost use Rattle.eob_joins.specs.Tables.{IsAntiJoin, IsInnerJoin, IsKeptOfJoin, IsLeftJoin, IsRightJoin};
 ghost use Rattle.eob_joins.specs.Tables.{IsSemiJoin};
 ghost use Rattle.eob_joins.specs.Tables.{both_places, lone_left, paired_left, paired_right, shared_left};
 
 use crate::kept::kept_rows;
-use either_or_both::EitherOrBoth;
+use eob_lists::EitherOrBoth;
 use std::alloc::{AllocError, Allocator, Global};
 
 /// Returns the inner join of two lists: each key that both lists have, in order, with both values. Takes one comparison for each key of
 /// either list at most.
 ///
-/// The caller must prove that the keys strictly increase; see [`is_rising`](either_or_both::join::is_rising).
+/// The caller must prove that the keys strictly increase; see [`is_rising`](eob_lists::join::is_rising).
 ///
 /// # Errors
 ///
@@ -73,7 +73,7 @@ pub fn inner_join_in<K: Ord + Drop, A: Drop, B: Drop, M: Allocator>(
 /// Returns the left join of two lists: each key of the left list, in order, with its value and the right list's, if there is one. Takes
 /// one comparison for each key of either list at most.
 ///
-/// The caller must prove that the keys strictly increase; see [`is_rising`](either_or_both::join::is_rising).
+/// The caller must prove that the keys strictly increase; see [`is_rising`](eob_lists::join::is_rising).
 ///
 /// # Errors
 ///
@@ -133,7 +133,7 @@ pub fn left_join_in<K: Ord + Drop, A: Drop, B: Drop, M: Allocator>(
 /// Returns the right join of two lists: each key of the right list, in order, with the left list's value, if there is one, and its own.
 /// Takes one comparison for each key of either list at most.
 ///
-/// The caller must prove that the keys strictly increase; see [`is_rising`](either_or_both::join::is_rising).
+/// The caller must prove that the keys strictly increase; see [`is_rising`](eob_lists::join::is_rising).
 ///
 /// # Errors
 ///
@@ -193,7 +193,7 @@ pub fn right_join_in<K: Ord + Drop, A: Drop, B: Drop, M: Allocator>(
 /// Returns the semi join of two lists: each key of the left list that the right list has too, in order, with its left value. Takes one
 /// comparison for each key of either list at most.
 ///
-/// The caller must prove that the keys strictly increase; see [`is_rising`](either_or_both::join::is_rising).
+/// The caller must prove that the keys strictly increase; see [`is_rising`](eob_lists::join::is_rising).
 ///
 /// # Errors
 ///
@@ -253,7 +253,7 @@ pub fn semi_join_in<K: Ord + Drop, A: Drop, B: Drop, M: Allocator>(
 /// Returns the anti join of two lists: each key of the left list that the right list lacks, in order, with its value. Takes one
 /// comparison for each key of either list at most.
 ///
-/// The caller must prove that the keys strictly increase; see [`is_rising`](either_or_both::join::is_rising).
+/// The caller must prove that the keys strictly increase; see [`is_rising`](eob_lists::join::is_rising).
 ///
 /// # Errors
 ///

@@ -1,15 +1,15 @@
 //! Three versions of a table, as a merge of two lines of work needs them: the base, ours and theirs, joined by key, what became of each
 //! row, and the merged table or the rows in conflict.
 ghost use Rattle.std.specs.Prelude.{◌≡◌, IfErr, IfOk, option_map};
-ghost use Rattle.either_or_both.specs.Join.{Rising};
+ghost use Rattle.eob_lists.specs.Join.{Rising};
 ghost use Rattle.std.specs.List.{list_any};
 ghost use Rattle.eob_joins.specs.Tables.{kept};
 ghost use Rattle.eob_joins.specs.Versions.{AreConflicts, IsMerge, IsMergeByKey, IsMergedTable, IsVersionJoin};
 ghost use Rattle.eob_joins.specs.Versions.{MergeLaw, MergedPlaceLaw, VersionsLaw};
 ghost use Rattle.eob_joins.specs.Versions.{clash, clashes, merged, row_verdict, verdict};
 
-use either_or_both::EitherOrBoth;
-use either_or_both::join::outer_join_in;
+use eob_lists::EitherOrBoth;
+use eob_lists::join::outer_join_in;
 use std::alloc::{AllocError, Allocator, Global};
 
 /// The values of the three versions under a key, of which at least one is there: the base as left place, and ours and theirs on the
@@ -19,7 +19,7 @@ pub type Versions<V> = EitherOrBoth<V, EitherOrBoth<V, V>>;
 /// Returns the join of three versions of a table: each key of any of them once, in order, with its values in the three.
 /// [`law_versions`] says the same by look-ups. Takes memory for the join of ours and theirs too.
 ///
-/// The caller must prove that the keys strictly increase; see [`is_rising`](either_or_both::join::is_rising).
+/// The caller must prove that the keys strictly increase; see [`is_rising`](eob_lists::join::is_rising).
 ///
 /// # Errors
 ///
@@ -168,7 +168,7 @@ pub enum Merged<K, V> {
 /// Returns two versions of a table merged over their base. Where no row is in conflict, the merged table: whatever either
 /// side alone changed is in it as that side has it, and every other row is as it was. Else the rows in conflict, and no others.
 ///
-/// The caller must prove that the keys strictly increase; see [`is_rising`](either_or_both::join::is_rising).
+/// The caller must prove that the keys strictly increase; see [`is_rising`](eob_lists::join::is_rising).
 ///
 /// # Errors
 ///

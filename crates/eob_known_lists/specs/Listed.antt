@@ -32,7 +32,7 @@ use Rattle.eob_both.proofs.ChainLemmas.{chain_to_come}
 use Rattle.eob_both.proofs.StdEnds.{vec_ends, vec_to_come, slice_ends, slice_to_come, range_ends, range_to_come, once_ends}
 use Rattle.eob_both.proofs.StdEnds.{once_to_come, deque_ends, deque_to_come, rev_ends, rev_to_come, ref_to}
 use Rattle.eob_both.proofs.EndsLemmas.{to_come_over, to_come_uncounted}
-use Rattle.either_or_both.proofs.ShownLemmas.{shown_ends, shown_to_come}
+use Rattle.eob_lists.proofs.ShownLemmas.{shown_ends, shown_to_come}
 
 -- the item at each place of p is the one at that place of xs, and where p ended xs has no more
 abbrev pub ReadsPlaces : {S A : Type 0} {steps : S → Option A → S → Type 0} → Run steps → List A → Type 0

@@ -4,12 +4,12 @@ ghost use Rattle.std.specs.Option.{option_map};
 ghost use Rattle.eob_both.specs.Aligned.{aligned};
 ghost use Rattle.eob_both.specs.Places.{left_place, right_place, map_places};
 ghost use Rattle.eob_both.specs.Ends.{CountedToCome};
-ghost use Rattle.either_or_both.specs.Answers.{answers, left_over, Listed};
+ghost use Rattle.eob_lists.specs.Answers.{answers, left_over, Listed};
 ghost use Rattle.eob_known_lists.specs.Listed.{AreTakenInTurn, listed_at};
 
 use crate::listing::{CountedListing, Listing, OwnListing};
-use either_or_both::EitherOrBoth;
-use either_or_both::laws::{Driven, End, drive_chain, drive_swap};
+use eob_lists::EitherOrBoth;
+use eob_lists::laws::{Driven, End, drive_chain, drive_swap};
 use std::alloc::{AllocError, Global};
 
 /// Calls the ends of `into_iter_swap` over a pair of such values in turn, as [`drive_swap`] does, with nothing for the caller to prove.

@@ -16,9 +16,9 @@ ghost use Rattle.eob_known_lists.specs.Arrays.{array_to_come};
 ghost use Rattle.eob_known_lists.specs.Listed.{chain_comes, deque_to_come_by_ref, listed_at, place_as_is};
 ghost use Rattle.eob_known_lists.specs.Listed.{ReadsPlaces, rev_comes, rev_counts, same_ref};
 ghost use Rattle.eob_known_lists.specs.Listed.{slice_to_come_by_ref, uncounted, walk_comes, walk_lists};
-ghost use Rattle.either_or_both.proofs.ShownLemmas.{shown_to_come};
+ghost use Rattle.eob_lists.proofs.ShownLemmas.{shown_to_come};
 
-use either_or_both::iter::{ChainedIterEitherOrBoth, IntoIterEitherOrBoth, SwapIterEitherOrBoth};
+use eob_lists::iter::{ChainedIterEitherOrBoth, IntoIterEitherOrBoth, SwapIterEitherOrBoth};
 use std::alloc::Allocator;
 use std::array;
 use std::collections::vec_deque;

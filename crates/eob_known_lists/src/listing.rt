@@ -15,8 +15,8 @@ ghost use Rattle.eob_known_lists.specs.Listed.{slice_comes, uncounted_walk, valu
 ghost use Rattle.eob_known_lists.specs.Listed.{walk_comes, walk_lists};
 
 use crate::listed::{CountedIter, ListedIter, OwnIter};
-use either_or_both::EitherOrBoth;
-use either_or_both::iter::{ChainedIterEitherOrBoth, SwapIterEitherOrBoth};
+use eob_lists::EitherOrBoth;
+use eob_lists::iter::{ChainedIterEitherOrBoth, SwapIterEitherOrBoth};
 use std::alloc::Allocator;
 use std::collections::VecDeque;
 use std::iter::Rev;

@@ -4,8 +4,8 @@ use Rattle.std.specs.Prelude.{⊤}
 use Rattle.std.specs.Cmp.{IsTotalOrder}
 use Rattle.std.specs.declared.cmp.Ordering.{Ordering}
 use Rattle.std.specs.declared.cmp.Ordering.TheVariants.{Less}
-use Rattle.either_or_both.specs.Join.{Rising}
-use Rattle.either_or_both.proofs.MergeLemmas.{Up, rising, up}
+use Rattle.eob_lists.specs.Join.{Rising}
+use Rattle.eob_lists.proofs.MergeLemmas.{Up, rising, up}
 use Rattle.eob_joins.specs.Groups.{AreGroups, add_pair, key_runs, shown_group}
 use Rattle.eob_joins.proofs.GroupLemmas.{AreGroups-groups, ordered_law}
 use Rattle.eob_tables.specs.Gathered.{AloneLaw, alone}

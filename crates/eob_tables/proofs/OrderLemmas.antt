@@ -9,9 +9,9 @@ use Rattle.std.specs.Map.{values_of}
 use Rattle.std.specs.Ordering.{is_eq, is_lt}
 use Rattle.std.specs.declared.cmp.Ordering.{Ordering}
 use Rattle.std.specs.declared.cmp.Ordering.TheVariants.{Less}
-use Rattle.either_or_both.specs.Join.{value_under}
-use Rattle.either_or_both.proofs.JoinLemmas.{own_head}
-use Rattle.either_or_both.proofs.MergeLemmas.{Up, up}
+use Rattle.eob_lists.specs.Join.{value_under}
+use Rattle.eob_lists.proofs.JoinLemmas.{own_head}
+use Rattle.eob_lists.proofs.MergeLemmas.{Up, up}
 use Rattle.eob_joins.specs.Groups.{AreGroups, HasGroupsOf, group_under, shown_group, some_items}
 use Rattle.eob_tables.specs.Gathered.{AreInOrder, alone}
 

@@ -2,7 +2,7 @@
 use Rattle.std.specs.Prelude.{All, List, [], ◌∷◌, Vec, map}
 use Rattle.std.specs.List.Sorted.{IsPermutation, IsSorted}
 use Rattle.std.specs.declared.cmp.Ordering.{Ordering}
-use Rattle.either_or_both.specs.Join.{Rising}
+use Rattle.eob_lists.specs.Join.{Rising}
 use Rattle.eob_joins.specs.Groups.{AreGroups, shown_group}
 
 -- gs are the groups by key of the rows ps, put into some order: each row is there once, under its key, and nothing else is

@@ -2,7 +2,7 @@
 use Rattle.std.specs.Prelude.{List}
 use Rattle.std.specs.declared.cmp.Ordering.{Ordering}
 use Rattle.std.proofs.Props.{props}
-use Rattle.either_or_both.specs.Join.{Rising}
+use Rattle.eob_lists.specs.Join.{Rising}
 
 pub Rising-prop : {K V : Type 0} (cmp : K → K → Ordering) (xs : List (K × V)) → IsProp (Rising cmp xs)
 unfolding Rising

@@ -4,8 +4,8 @@ ghost use Rattle.eob_joins.specs.Groups.{HasGroupsOf, Ordered, shown_group};
 ghost use Rattle.eob_tables.specs.Gathered.{AloneLaw, AreInOrder, HoldsRows, alone};
 
 use crate::table::{Cells, Group, Rows};
-use either_or_both::join::is_rising;
 use eob_joins::group_by_key;
+use eob_lists::join::is_rising;
 use std::alloc::{AllocError, AllocFailed, Global};
 use std::cmp::Ordering;
 

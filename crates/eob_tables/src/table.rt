@@ -1,5 +1,5 @@
 //! A table: its rows by key.
-ghost use Rattle.either_or_both.specs.Join.{Rising};
+ghost use Rattle.eob_lists.specs.Join.{Rising};
 ghost use Rattle.eob_tables.specs.RisingRows.{Rising-prop};
 
 /// Cells side by side: the key of a row, the rest of it, or the names of columns.

@@ -1,13 +1,13 @@
 //! What changed between two versions of a table, changes made again, and three versions merged.
 ghost use Rattle.std.specs.Prelude.{IfOk};
-ghost use Rattle.either_or_both.specs.Join.{IsJoin};
+ghost use Rattle.eob_lists.specs.Join.{IsJoin};
 ghost use Rattle.eob_joins.specs.Changes.{applied, changed};
 ghost use Rattle.eob_joins.specs.Tables.{IsKeptOfJoin};
 ghost use Rattle.eob_joins.specs.Versions.{IsMerge, IsMergeByKey};
 
 use crate::table::Rows;
-use either_or_both::join::outer_join;
 use eob_joins::{Change, Merged, apply, diff, merge_versions};
+use eob_lists::join::outer_join;
 use std::alloc::{AllocError, Global};
 
 /// The rows of the join of both tables that changed.

@@ -153,7 +153,7 @@ pub fn index_map_of_join<K: Ord + Hash + Drop, A: Drop, B: Drop>(
 }
 
 /// How many rows the join of two tables has that are written out. The attribute opens `Rising`, which is then found of them.
-#[tactic(auto, unfolding(either_or_both::specs::Join::Rising))]
+#[tactic(auto, unfolding(eob_lists::specs::Join::Rising))]
 pub fn count_written_rows() -> usize
     ensures { result ≤ 3 }
 {

@@ -7,8 +7,8 @@ mod joins;
 mod parts;
 
 use crate::line::{Answer, Sides};
-use either_or_both::EitherOrBoth;
 use ends::append_ends;
+use eob_lists::EitherOrBoth;
 use items::append_items;
 use joins::append_join;
 use parts::{append_part, append_parts};

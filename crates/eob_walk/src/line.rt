@@ -9,8 +9,8 @@ ghost use Rattle.eob_walk.specs.Names.{IsName, IsNameByte, NoNameAhead};
 mod joins;
 mod walks;
 
-use either_or_both::EitherOrBoth;
-use either_or_both::laws::{is_normal, regroup_in};
+use eob_lists::EitherOrBoth;
+use eob_lists::laws::{is_normal, regroup_in};
 use joins::{Joined, parse_join};
 use std::alloc::{AllocError, Allocator};
 pub use walks::Calls;

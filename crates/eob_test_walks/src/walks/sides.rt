@@ -111,7 +111,7 @@ impl<'a, T: Copy> FusedIterator for Counting<'a, T> {}
 // It has its list still to come, as a driver asks of the sides of its walk.
 impl<'a, T: Copy> Listing for Counting<'a, T> {
     ghost use Rattle.eob_known_lists.specs.Listed.{at_same, uncounted_walk};
-    ghost use Rattle.either_or_both.proofs.ShownLemmas.{shown_to_come};
+    ghost use Rattle.eob_lists.proofs.ShownLemmas.{shown_to_come};
 
     ghost view = { λ x. x };
 
@@ -123,7 +123,7 @@ impl<'a, T: Copy> Listing for Counting<'a, T> {
 
 impl<'a, T: Copy> CountedListing for Counting<'a, T> {
     ghost use Rattle.eob_known_lists.specs.Listed.{at_same};
-    ghost use Rattle.either_or_both.proofs.ShownLemmas.{shown_to_come};
+    ghost use Rattle.eob_lists.proofs.ShownLemmas.{shown_to_come};
 
     ghost counts = { at_same _ _ (λ x. x) _ (shown_to_come (λ s. s.rest.now)) };
 }

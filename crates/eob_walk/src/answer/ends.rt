@@ -7,7 +7,7 @@ ghost use Rattle.eob_walk.specs.Growth.{Extends};
 use super::items::append_item;
 use super::parts::{append_part, append_parts};
 use crate::line::{Calls, Item, Sides};
-use either_or_both::laws::{End, drive_walk_in};
+use eob_lists::laws::{End, drive_walk_in};
 use std::alloc::{AllocError, Allocator};
 
 // The calls that are answered at a time.

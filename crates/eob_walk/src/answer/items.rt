@@ -3,7 +3,7 @@ ghost use Rattle.eob_walk.specs.Growth.{Extends};
 
 use super::parts::append_parts;
 use crate::line::Item;
-use either_or_both::EitherOrBoth;
+use eob_lists::EitherOrBoth;
 use std::alloc::{AllocError, Allocator};
 
 /// Appends items, parted by one space, or `-` for none.

@@ -1,6 +1,6 @@
 //! From the words of a `join` line to the join of its two tables.
 use super::{Item, is_word_end, skip_spaces, split_names};
-use either_or_both::join::{is_rising, outer_join_in};
+use eob_lists::join::{is_rising, outer_join_in};
 use std::alloc::{AllocError, Allocator};
 
 /// The keys of two tables, with the values that the two have under each.

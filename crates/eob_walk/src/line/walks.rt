@@ -5,7 +5,7 @@ ghost use Rattle.std.specs.Iterator.{at_most};
 use super::{
     Answer, Item, Items, Sides, is_word_end, skip_spaces, split_name, split_names, split_word,
 };
-use either_or_both::EitherOrBoth;
+use eob_lists::EitherOrBoth;
 use std::alloc::{AllocError, Allocator};
 
 // The words of a line as items: the items in order, and None for the first word that is no item, which is the last.

@@ -1,6 +1,6 @@
 use Rattle.std.proofs.Common.{◌≡◌, [], Vec, append-nil, arith, sym, ap, subst}
 use Rattle.std.proofs.lemmas.Grind.{common_steps}
-use Rattle.either_or_both.specs.Join.{Rising}
+use Rattle.eob_lists.specs.Join.{Rising}
 use Rattle.eob_joins.specs.Groups.{AreGroups, key_runs, shown_group}
 use Rattle.eob_joins.proofs.GroupLemmas.{AreGroups-groups, fewer_left, more_groups, rises_raw}
 use Rattle.eob_joins.proofs.groups.group_by_key_in.Goals as goal

@@ -1,5 +1,5 @@
 use Rattle.std.proofs.Common.{◌∙◌, ap}
-use Rattle.either_or_both.proofs.JoinRefsLemmas.{shown_walk}
+use Rattle.eob_lists.proofs.JoinRefsLemmas.{shown_walk}
 use Rattle.eob_joins.specs.Parts.{parts_left, parts_of}
 use Rattle.eob_joins.proofs.parts.group_join_slices.Goals as goal
 

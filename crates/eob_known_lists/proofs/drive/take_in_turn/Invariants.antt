@@ -1,7 +1,7 @@
 use Rattle.std.proofs.Common.{◌≡◌, length}
 use Rattle.std.specs.Iterator.{size}
 use Rattle.eob_both.specs.Ends.{both_ends, IsExactly, CountedToCome, TakenApart}
-use Rattle.either_or_both.specs.Answers.{Listed}
+use Rattle.eob_lists.specs.Answers.{Listed}
 use Rattle.eob_known_lists.proofs.drive.take_in_turn.Given as goal
 
 -- what was still to come is what came from the front, what is still to come, and what came from the back, last first; and as

@@ -1,7 +1,7 @@
 use Rattle.std.proofs.Common.{◌≡◌, ◌∙◌, map, subst, sym}
 use Rattle.std.proofs.lemmas.Simd.{map-map}
 use Rattle.std.proofs.lemmas.List.Sorted.{IsPermutation-map}
-use Rattle.either_or_both.specs.Join.{Rising}
+use Rattle.eob_lists.specs.Join.{Rising}
 use Rattle.eob_joins.specs.Groups.{AreGroups, shown_group}
 use Rattle.eob_tables.specs.Gathered.{AreInOrder, alone}
 use Rattle.eob_tables.proofs.GatherLemmas.{rises_shown}

@@ -1,8 +1,8 @@
-use Rattle.either_or_both.specs.Aligned.{aligned}
-use Rattle.either_or_both.specs.Places.{left_place, right_place, map_places}
-use Rattle.either_or_both.proofs.EndsLemmas.{to_come_uncounted}
-use Rattle.either_or_both.proofs.StdEnds.{items_of, vec_place}
-use Rattle.either_or_both.proofs.SwapLemmas.{swap_of_places}
+use Rattle.eob_lists.specs.Aligned.{aligned}
+use Rattle.eob_lists.specs.Places.{left_place, right_place, map_places}
+use Rattle.eob_lists.proofs.EndsLemmas.{to_come_uncounted}
+use Rattle.eob_lists.proofs.StdEnds.{items_of, vec_place}
+use Rattle.eob_lists.proofs.SwapLemmas.{swap_of_places}
 use Rattle.eob_walk.proofs.GrowthLemmas.{extends_same, extends_trans}
 use Rattle.eob_walk.proofs.answer.ends.append_ends.Goals as goal
 

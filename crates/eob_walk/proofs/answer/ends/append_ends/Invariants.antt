@@ -1,7 +1,7 @@
-use Rattle.either_or_both.specs.Answers.{Listed}
-use Rattle.either_or_both.specs.Ends.{CountedToCome}
-use Rattle.either_or_both.specs.Swap.{swap_ends}
-use Rattle.either_or_both.proofs.StdEnds.{vec_ends}
+use Rattle.eob_lists.specs.Answers.{Listed}
+use Rattle.eob_lists.specs.Ends.{CountedToCome}
+use Rattle.eob_lists.specs.Swap.{swap_ends}
+use Rattle.eob_lists.proofs.StdEnds.{vec_ends}
 use Rattle.eob_walk.specs.Growth.{Extends}
 use Rattle.eob_walk.proofs.answer.ends.append_ends.Given as goal
 

@@ -1,5 +1,0 @@
-use Rattle.either_or_both.proofs.JoinRefsLemmas.{begins_join}
-use Rattle.either_or_both.proofs.join.laws.law_begins_join.Goals as goal
-
-pub returns : goal.returns
-returns g c = begins_join g.K.Ord.cmp g.row.A.Denot g.row.B.Denot

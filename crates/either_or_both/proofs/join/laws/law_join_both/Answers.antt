@@ -1,5 +1,0 @@
-use Rattle.either_or_both.proofs.JoinLemmas.{join_both}
-use Rattle.either_or_both.proofs.join.laws.law_join_both.Goals as goal
-
-pub returns : goal.returns
-returns g c = join_both g.K.Ord.cmp g.met.K.Ord.total g.row.A.Denot g.row.B.Denot

@@ -1,5 +1,0 @@
-use Rattle.either_or_both.proofs.JoinLemmas.{one_join}
-use Rattle.either_or_both.proofs.join.laws.law_one_join.Goals as goal
-
-pub returns : goal.returns
-returns g c = one_join g.K.Ord.cmp g.met.K.Ord.total g.row.A.Denot g.row.B.Denot

@@ -1,0 +1,14 @@
+pub use Rattle.eob_both.proofs.StdEnds
+pub use Rattle.eob_both.proofs.SwapLemmas
+pub use Rattle.eob_both.proofs.EndsLemmas
+pub mod JoinLemmas
+pub mod JoinRefsLemmas
+pub mod MergeLemmas
+pub mod OuterJoinLemmas
+pub mod NormalLemmas
+pub mod AlignedLawLemmas
+pub mod AnswersLemmas
+pub mod DriveLemmas
+pub mod ShownLemmas
+pub mod RecollectLemmas
+pub mod RisingLemmas

@@ -1,0 +1,5 @@
+use Rattle.eob_lists.proofs.JoinLemmas.{join_places}
+use Rattle.eob_lists.proofs.join.laws.law_join_places.Goals as goal
+
+pub returns : goal.returns
+returns g c = join_places g.K.Ord.cmp g.met.K.Ord.total g.row.A.Denot g.row.B.Denot

@@ -1,0 +1,25 @@
+//! Further laws of the aligned list, whose other laws stand in `normal` and in `eob_both`.
+ghost use Rattle.eob_lists.specs.AlignedLaws.{AlignedFlipLaw, AlignedSelfLaw, AlignedThreeLaw};
+ghost use Rattle.eob_lists.specs.AlignedLaws.{LeftsAloneLaw, RightsAloneLaw};
+
+/// Two lists side by side, with the sides exchanged, have each item flipped.
+pub fn law_aligned_flip<L, R>()
+    ensures { AlignedFlipLaw L R }
+{}
+
+/// A list side by side with itself has each item on both sides.
+pub fn law_aligned_self<T>()
+    ensures { AlignedSelfLaw T }
+{}
+
+/// Three lists side by side, the last two aligned first or the first two: at each index stand the same three places, nested the one
+/// way or the other.
+pub fn law_aligned_three<A, B, C>()
+    ensures { AlignedThreeLaw A B C }
+{}
+
+/// Values of one side alone have on that side what they were made of, and nothing on the other.
+pub fn law_one_sided<L, R>()
+    ensures lefts { LeftsAloneLaw L R }
+    ensures rights { RightsAloneLaw L R }
+{}
