@@ -1,20 +1,23 @@
 //! What holds of all lists, keys, values, pairs and iterators. The functions named `law_*` have an empty body, and their contracts
 //! say it: a caller calls one so that its own proof knows it, and the call costs nothing when the program runs. The other functions
 //! do what the laws speak of: they regroup a list, poll an iterator from both ends, and collect a pair of containers again. Here are
-//! the laws of `Either`; all the others are passed on from `eob_lists`.
+//! the laws of `Either`, and what collects a pair again; all the others are passed on from `eob_lists`.
 
+mod recollect;
 mod results;
 mod walks;
 
 pub use eob_lists::laws::{
-    Driven, End, Walked, drive_chain, drive_items, drive_swap, drive_swap_in, drive_walk_in,
-    is_normal, law_aligned, law_aligned_by_index, law_aligned_flip, law_aligned_map,
-    law_aligned_refs, law_aligned_self, law_aligned_three, law_chain_next, law_chain_next_back,
-    law_chain_to_come, law_equal_pairs, law_first_items, law_first_list, law_last_value,
-    law_last_value_by_order, law_one_sided, law_range, law_swap_next, law_swap_next_back,
-    law_swap_to_come, law_twice, law_unchanged, law_whole_walk, recollect_btree_map,
-    recollect_btree_set, recollect_hash_map, recollect_hash_set, recollect_in, recollect_index_map,
-    recollect_index_set, recollect_vec, recollect_vec_deque, regroup, regroup_in,
+    Driven, End, drive_chain, drive_items, drive_swap, drive_swap_in, drive_walk_in, is_normal,
+    law_aligned, law_aligned_by_index, law_aligned_flip, law_aligned_map, law_aligned_refs,
+    law_aligned_self, law_aligned_three, law_chain_next, law_chain_next_back, law_chain_to_come,
+    law_equal_pairs, law_first_items, law_first_list, law_last_value, law_last_value_by_order,
+    law_one_sided, law_range, law_swap_next, law_swap_next_back, law_swap_to_come, law_twice,
+    law_unchanged, law_whole_walk, regroup, regroup_in,
+};
+pub use recollect::{
+    Walked, recollect_btree_map, recollect_btree_set, recollect_hash_map, recollect_hash_set,
+    recollect_in, recollect_index_map, recollect_index_set, recollect_vec, recollect_vec_deque,
 };
 pub use results::law_results;
 pub use walks::{

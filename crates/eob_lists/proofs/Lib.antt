@@ -10,5 +10,4 @@ pub mod AlignedLawLemmas
 pub mod AnswersLemmas
 pub mod DriveLemmas
 pub mod ShownLemmas
-pub mod RecollectLemmas
 pub mod RisingLemmas

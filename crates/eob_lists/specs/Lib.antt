@@ -20,7 +20,6 @@ pub mod Normal
 pub mod Laws
 pub mod AlignedLaws
 pub mod Answers
-pub mod Walked
 pub mod Join
 pub mod JoinLaws
 pub mod OuterJoin

@@ -1,12 +1,11 @@
 //! What holds of all lists, keys, values, pairs and iterators. The functions named `law_*` have an empty body, and their contracts
 //! say it: a caller calls one so that its own proof knows it, and the call costs nothing when the program runs. Those of
-//! `EitherOrBoth` alone are passed on from `eob_both`. The other functions do what the laws speak of: they regroup a list, poll an
-//! iterator from both ends, and collect a pair of containers again.
+//! `EitherOrBoth` alone are passed on from `eob_both`. The other functions do what the laws speak of: they regroup a list, and poll an
+//! iterator from both ends.
 
 mod aligned;
 mod drive;
 mod normal;
-mod recollect;
 
 pub use aligned::{law_aligned_flip, law_aligned_self, law_aligned_three, law_one_sided};
 pub use drive::{
@@ -19,8 +18,4 @@ pub use eob_both::laws::{
 };
 pub use normal::{
     is_normal, law_aligned, law_equal_pairs, law_twice, law_unchanged, regroup, regroup_in,
-};
-pub use recollect::{
-    Walked, recollect_btree_map, recollect_btree_set, recollect_hash_map, recollect_hash_set,
-    recollect_in, recollect_index_map, recollect_index_set, recollect_vec, recollect_vec_deque,
 };

@@ -1,14 +1,9 @@
 //! `eob_walk`: answers each line of the standard input on the standard output.
 //!
-//! Here the process is handed to the run. The run over any reader and writer stands in `run`, what a line is answered in `line`,
-//! and how an answer is written in `answer`.
+//! Here the process is handed to the run, which is the library `eob_lines`.
 #![tactic(auto)]
 
-mod answer;
-mod line;
-mod run;
-
-use run::run;
+use eob_lines::run;
 use std::process::ExitCode;
 
 fn main(rt: HostRuntime) -> ExitCode {
