@@ -1,4 +1,4 @@
-//! Tests: tables with no header, and rows in the order of the files.
+//! Tests: how tables are written: with no header, by other programs, and with rows in the order of the files.
 
 use crate::commands::{COMMAS, PLAIN, answered, applied, compared, expect, joined, merged};
 use eob_csv::{Form, Format, Kind, Settings};
@@ -97,6 +97,28 @@ fn cells_of_every_shape_pass_unchanged(rt: HostRuntime) -> Result<(), Fail> {
     let new = shapes(alloc, true)?;
     let changes = answered(compared(alloc, PLAIN, Format::Csv, &old, &new))?;
     expect(applied(alloc, PLAIN, &old, &changes.bytes), 0, &new)
+}
+
+// One table as other programs write it: with a byte order mark, with other line ends, with blank lines, and with no line end at the end.
+const WRITTEN_ELSEWHERE: [&[u8]; 5] = [
+    b"\xef\xbb\xbfid,a\n1,p\n2,q\n",
+    b"id,a\r\n1,p\r\n2,q\r\n",
+    b"id,a\r1,p\r2,q\r",
+    b"\nid,a\n\n1,p\n\r\n2,q\n\n",
+    b"id,a\n1,p\n2,q",
+];
+
+/// However another program wrote a table, it is the same table, and each of its rows is written with one line feed behind it.
+#[test]
+fn tables_of_other_programs_are_the_same(rt: HostRuntime) -> Result<(), Fail> {
+    let alloc = rt.alloc();
+    let plain = b"id,a\n1,p\n2,q\n";
+    let none = b"change,id,a\n";
+    for table in WRITTEN_ELSEWHERE {
+        expect(compared(alloc, PLAIN, Format::Csv, table, plain), 0, none)?;
+        expect(applied(alloc, PLAIN, table, none), 0, plain)?;
+    }
+    Ok(())
 }
 
 // Two tables in no order, and what each command makes of them in the order of the files.
