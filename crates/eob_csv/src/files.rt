@@ -38,6 +38,7 @@ pub fn stream_request<'a, R: Files + Input + AllocGlobal, W: Write>(
     request: Request<'a>,
     output: &mut W,
 ) -> Result<u8, Fault<'a>> {
+    check_stdin(request)?;
     let alloc = rt.alloc();
     match request {
         Request::Diff {
@@ -45,17 +46,10 @@ pub fn stream_request<'a, R: Files + Input + AllocGlobal, W: Write>(
             new,
             format: Format::Csv,
         } => {
-            check_stdin(&[old, new])?;
-            compare_sorted(
-                alloc,
-                settings,
-                stream_of(rt, old),
-                stream_of(rt, new),
-                output,
-            )
+            let old = stream_of(rt, old);
+            compare_sorted(alloc, settings, old, stream_of(rt, new), output)
         }
         Request::Join { left, right, kind } => {
-            check_stdin(&[left, right])?;
             let left = stream_of(rt, left);
             join_sorted(alloc, settings, kind, left, stream_of(rt, right), output)
         }
@@ -86,48 +80,37 @@ pub fn answer_request<'a, R: Files + Input + AllocGlobal>(
     settings: Settings<'a>,
     request: Request<'a>,
 ) -> Result<Answer, Fault<'a>> {
+    check_stdin(request)?;
     let alloc = rt.alloc();
     match request {
         Request::Diff { old, new, format } => {
-            check_stdin(&[old, new])?;
-            compare(
-                alloc,
-                settings,
-                format,
-                stream_of(rt, old),
-                stream_of(rt, new),
-            )
+            let old = stream_of(rt, old);
+            compare(alloc, settings, format, old, stream_of(rt, new))
         }
         Request::Apply { old, changes } => {
-            check_stdin(&[old, changes])?;
-            change(alloc, settings, stream_of(rt, old), stream_of(rt, changes))
+            let old = stream_of(rt, old);
+            change(alloc, settings, old, stream_of(rt, changes))
         }
         Request::Merge { base, ours, theirs } => {
-            check_stdin(&[base, ours, theirs])?;
             let base = stream_of(rt, base);
-            merge(
-                alloc,
-                settings,
-                base,
-                stream_of(rt, ours),
-                stream_of(rt, theirs),
-            )
+            let ours = stream_of(rt, ours);
+            merge(alloc, settings, base, ours, stream_of(rt, theirs))
         }
         Request::Join { left, right, kind } => {
-            check_stdin(&[left, right])?;
-            join(
-                alloc,
-                settings,
-                kind,
-                stream_of(rt, left),
-                stream_of(rt, right),
-            )
+            let left = stream_of(rt, left);
+            join(alloc, settings, kind, left, stream_of(rt, right))
         }
     }
 }
 
 // One of the files at most is the standard input.
-fn check_stdin<'a>(files: &[&'a str]) -> Result<(), Fault<'a>> {
+fn check_stdin<'a>(request: Request<'_>) -> Result<(), Fault<'a>> {
+    let files = match request {
+        Request::Diff { old, new, .. } => [old, new, ""],
+        Request::Apply { old, changes } => [old, changes, ""],
+        Request::Merge { base, ours, theirs } => [base, ours, theirs],
+        Request::Join { left, right, .. } => [left, right, ""],
+    };
     if files.iter().filter(|file| **file == "-").count() > 1 {
         Err(Fault {
             file: "-",
