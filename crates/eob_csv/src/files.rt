@@ -30,8 +30,9 @@ pub fn write_request<'a, R: Files + Input + AllocGlobal, W: Write>(
 ///
 /// # Errors
 ///
-/// Returns the fault of the input or the output where it comes up: whole rows may be written by then. Where a request can't be answered
-/// row by row, the fault is `Reason::NeedsCsv` of the option `--sorted`, and nothing is read or written.
+/// Returns the fault of the input or the output where it comes up: whole rows may be written by then. Nothing is read or written where a
+/// request names the standard input twice, which is `Reason::TwiceStdin`, or else can't be answered row by row, which is
+/// `Reason::NeedsCsv` of the option `--sorted`.
 pub fn stream_request<'a, R: Files + Input + AllocGlobal, W: Write>(
     rt: &R,
     settings: Settings<'a>,
