@@ -11,13 +11,13 @@ use Rattle.eob_joins.proofs.GroupLemmas.{AreGroups-groups, ordered_law}
 use Rattle.eob_tables.specs.Gathered.{AloneLaw, alone}
 
 module _ {K : Type 0} (cmp : K → K → Ordering) where
-  shown_up : {V M : Type 0} (P : K → Type 0) (gs : List (K × Vec V M)) → Up cmp P gs → Up cmp P (map shown_group gs)
-  shown_up P [] h = tt
-  shown_up P (g ∷ gs) h = (h.0, shown_up (λ k. cmp g.0 k ≡ Less) gs h.1)
+  unshown_up : {V M : Type 0} (P : K → Type 0) (gs : List (K × Vec V M)) → Up cmp P (map shown_group gs) → Up cmp P gs
+  unshown_up P [] h = tt
+  unshown_up P (g ∷ gs) h = (h.0, unshown_up (λ k. cmp g.0 k ≡ Less) gs h.1)
 
   -- groups rise where they do with their vectors read as lists
-  pub rises_shown : {V M : Type 0} (gs : List (K × Vec V M)) → Rising cmp gs → Rising cmp (map shown_group gs)
-  rises_shown gs h = rising cmp (λ k. ⊤) (map shown_group gs) (shown_up (λ k. ⊤) gs (up cmp gs h))
+  pub rises_unshown : {V M : Type 0} (gs : List (K × Vec V M)) → Rising cmp (map shown_group gs) → Rising cmp gs
+  rises_unshown gs h = rising cmp (λ k. ⊤) gs (unshown_up (λ k. ⊤) gs (up cmp (map shown_group gs) h))
 
   alone_up : {V : Type 0} (P : K → Type 0) (rows : List (K × V)) → Up cmp P (map alone rows) → Up cmp P rows
   alone_up P [] h = tt

@@ -1,2 +1,5 @@
+pub mod BeginningLemmas
+pub mod ClimbLemmas
 pub mod GatherLemmas
 pub mod OrderLemmas
+pub mod RepeatLemmas

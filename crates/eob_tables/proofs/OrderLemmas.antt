@@ -1,12 +1,11 @@
 -- Groups whose values stand in order, where the rows were put into the order of their values first.
-use Rattle.std.proofs.Common.{◌≡◌, ◌∙◌, ℕ, ◌+◌, ◌<◌, ◌≤◌, zero, suc, Bool, true, false, cond, List, [], ◌∷◌, length, get_or, map, filter, All, Option, Some, Vec, arith, refl, sym, subst}
+use Rattle.std.proofs.Common.{◌≡◌, ◌∙◌, ◌+◌, zero, suc, Bool, List, [], ◌∷◌, map, filter, All, Option, Some, Vec, arith, refl, sym, subst}
 use Rattle.std.specs.Prelude.{⊤}
 use Rattle.std.proofs.lemmas.List.Elements.{All-cons, All-nil, All-weaker}
-use Rattle.std.proofs.lemmas.List.Sorted.{ranks_by, sorted_far}
 use Rattle.std.specs.Cmp.{IsTotalOrder}
 use Rattle.std.specs.List.Sorted.{IsSorted, IsSortedBy}
 use Rattle.std.specs.Map.{values_of}
-use Rattle.std.specs.Ordering.{is_eq, is_lt}
+use Rattle.std.specs.Ordering.{is_eq}
 use Rattle.std.specs.declared.cmp.Ordering.{Ordering}
 use Rattle.std.specs.declared.cmp.Ordering.TheVariants.{Less}
 use Rattle.eob_lists.specs.Join.{value_under}
@@ -14,6 +13,7 @@ use Rattle.eob_lists.proofs.JoinLemmas.{own_head}
 use Rattle.eob_lists.proofs.MergeLemmas.{Up, up}
 use Rattle.eob_joins.specs.Groups.{AreGroups, HasGroupsOf, group_under, shown_group, some_items}
 use Rattle.eob_tables.specs.Gathered.{AreInOrder, alone}
+use Rattle.eob_tables.proofs.ClimbLemmas.{Climbs, before, climbs_kept, sorted_climbs}
 
 some_back : {V : Type 0} (vs ws : List V) → some_items vs ≡ Some ws → vs ≡ ws
 some_back [] ws e = absurd (cc)
@@ -23,45 +23,7 @@ one_in_order : {V : Type 0} (order : V → V → Ordering) (v : V) → IsSorted 
 one_in_order order v k d l b = absurd (omega (arith, b))
 
 module _ {K V : Type 0} (order : V → V → Ordering) where
-  -- a row has a lesser value than another
-  abbrev pub before : K × V → K × V → Bool
-  before x y = is_lt (order x.1 y.1)
-
-  -- no value is less than v, and no value of a list less than one before it
-  abbrev NoneBefore : V → List (K × V) → Type 0
-  NoneBefore v [] = ⊤
-  NoneBefore v (x ∷ xs) = (is_lt (order x.1 v) ≡ false) × NoneBefore v xs
-
-  abbrev Climbs : List (K × V) → Type 0
-  Climbs [] = ⊤
-  Climbs (x ∷ xs) = NoneBefore x.1 xs × Climbs xs
-
-  none_before : (x : K × V) (xs : List (K × V)) → ((k : ℕ) → k < length xs → before (get_or xs k x) x ≡ false) → NoneBefore x.1 xs
-  none_before x [] h = tt
-  none_before x (y ∷ ys) h = (h 0 (omega arith), none_before x ys (λ k p. h (suc k) (omega arith)))
-
-  climbs : (xs : List (K × V)) → ((i j : ℕ) (d : K × V) → i ≤ j → j < length xs → before (get_or xs j d) (get_or xs i d) ≡ false) → Climbs xs
-  climbs [] h = tt
-  climbs (x ∷ xs) h = (none_before x xs (λ k p. h 0 (suc k) x (omega arith) (omega arith)), climbs xs (λ i j d p q. h (suc i) (suc j) d (omega arith) (omega arith)))
-
-  module _ (t : K × V → Bool) where
-    none_if : (v : V) (x : K × V) (xs : List (K × V)) (b : Bool) → is_lt (order x.1 v) ≡ false → NoneBefore v xs → NoneBefore v (cond b (x ∷ xs) xs)
-    none_if v x xs true l h = (l, h)
-    none_if v x xs false l h = h
-
-    none_kept : (v : V) (xs : List (K × V)) → NoneBefore v xs → NoneBefore v (filter t xs)
-    none_kept v [] h = tt
-    none_kept v (x ∷ xs) h = none_if v x (filter t xs) (t x) h.0 (none_kept v xs h.1)
-
-    climbs_if : (x : K × V) (xs : List (K × V)) (b : Bool) → NoneBefore x.1 xs → Climbs xs → Climbs (cond b (x ∷ xs) xs)
-    climbs_if x xs true l h = (l, h)
-    climbs_if x xs false l h = h
-
-    climbs_kept : (xs : List (K × V)) → Climbs xs → Climbs (filter t xs)
-    climbs_kept [] h = tt
-    climbs_kept (x ∷ xs) h = climbs_if x (filter t xs) (t x) (none_kept x.1 xs h.0) (climbs_kept xs h.1)
-
-  sorted_values : (xs : List (K × V)) → Climbs xs → IsSorted order (values_of xs)
+  sorted_values : (xs : List (K × V)) → Climbs (λ x. x.1) order xs → IsSorted order (values_of xs)
   sorted_values [] h k d l b = absurd (omega (arith, b))
   sorted_values (x ∷ []) h k d l b = absurd (omega (arith, b))
   sorted_values (x ∷ y ∷ ys) h zero d l b = h.0.0
@@ -70,8 +32,8 @@ module _ {K V : Type 0} (order : V → V → Ordering) where
       rw e (sorted_values (y ∷ ys) h.1 k d (omega arith) (omega (arith, b)))
 
   -- rows in the order of their values keep it where some are left out
-  pub kept_in_order : IsTotalOrder order → (t : K × V → Bool) (xs : List (K × V)) → IsSortedBy before xs → IsSorted order (values_of (filter t xs))
-  kept_in_order o t xs h = sorted_values (filter t xs) (climbs_kept t xs (climbs xs (sorted_far before (ranks_by o (λ x. x.1)) xs h)))
+  pub kept_in_order : IsTotalOrder order → (t : K × V → Bool) (xs : List (K × V)) → IsSortedBy (before (λ x. x.1) order) xs → IsSorted order (values_of (filter t xs))
+  kept_in_order o t xs h = sorted_values (filter t xs) (climbs_kept (λ x. x.1) order t xs (sorted_climbs (λ x. x.1) order o xs h))
 
   each_alone : (rows : List (K × V)) → All (λ g. IsSorted order g.1) (map alone rows)
   each_alone [] = All-nil (λ g. IsSorted order g.1)
@@ -94,7 +56,7 @@ module _ {K V : Type 0} (order : V → V → Ordering) where
 
     -- groups of rows that were in the order of their values
     pub groups_in_order : {M : Type 0} → IsTotalOrder order → (xs ys : List (K × V)) (gs : List (K × Vec V M))
-        → IsSortedBy before xs → HasGroupsOf cmp xs ys → AreGroups cmp ys (map shown_group gs) → AreInOrder order (map shown_group gs)
+        → IsSortedBy (before (λ x. x.1) order) xs → HasGroupsOf cmp xs ys → AreGroups cmp ys (map shown_group gs) → AreInOrder order (map shown_group gs)
     groups_in_order u xs ys gs sorted same h = record {
       values = All-weaker (λ g. group_under cmp xs g.0 ≡ Some g.1) (λ g. IsSorted order g.1)
           (λ g e. subst (IsSorted order) (some_back _ g.1 e) (kept_in_order u (λ x. is_eq (cmp g.0 x.0)) xs sorted)) (map shown_group gs)

@@ -1,2 +1,4 @@
+pub mod Beginning
 pub mod Gathered
+pub mod Repeated
 pub mod RisingRows

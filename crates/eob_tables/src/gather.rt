@@ -1,11 +1,15 @@
 //! From the rows of a file to a table.
-ghost use Rattle.std.specs.Prelude.{◌≡◌, IfOk, IsPermutation, map};
+ghost use Rattle.std.specs.Prelude.{◌≡◌, IfErr, IfOk, IsPermutation, drop, find, get_or, map};
+ghost use Rattle.std.specs.Prelude.{option_map, zip};
+ghost use Rattle.std.specs.Ordering.{is_eq};
 ghost use Rattle.eob_joins.specs.Groups.{HasGroupsOf, Ordered, shown_group};
+ghost use Rattle.eob_tables.specs.Beginning.{Begins, KeyBegins, KeyBegins-prop};
 ghost use Rattle.eob_tables.specs.Gathered.{AloneLaw, AreInOrder, HoldsRows, alone};
+ghost use Rattle.eob_tables.specs.Repeated.{IfRepeated, IsFirstRepeat};
+ghost use Rattle.eob_tables.specs.declared.gather.Ungathered.TheVariants.{NoMemory};
 
 use crate::table::{Cells, Group, Rows};
 use eob_joins::group_by_key;
-use eob_lists::join::is_rising;
 use std::alloc::{AllocError, AllocFailed, Global};
 use std::cmp::Ordering;
 
@@ -18,11 +22,14 @@ pub struct ReadRow {
     // The key's first eight bytes as a number. A row with a lesser one has the lesser key, so that most rows are put in order with no
     // look at the memory of their keys.
     beginning: u64,
+    ghost begins: { KeyBegins key.items beginning } by { KeyBegins-prop key.items beginning },
 }
 
 impl ReadRow {
     /// A row of a line, by its key and its other cells.
-    pub fn new(key: Cells, line: u64, cells: Cells) -> Self {
+    pub fn new(key: Cells, line: u64, cells: Cells) -> Self
+        ensures { (result.key ≡ key) × (result.line ≡ line) × (result.cells ≡ cells) }
+    {
         let beginning = beginning_of(&key);
         ReadRow {
             key,
@@ -33,7 +40,9 @@ impl ReadRow {
     }
 
     // The order of the keys.
-    fn order(&self, next: &Self) -> Ordering {
+    fn order(&self, next: &Self) -> Ordering
+        ensures { result ≡ ⟦<Cells as Ord>⟧.cmp self.now.key next.now.key }
+    {
         match self.beginning.cmp(&next.beginning) {
             Ordering::Equal => self.key.cmp(&next.key),
             order => order,
@@ -41,15 +50,37 @@ impl ReadRow {
     }
 }
 
-// The first eight bytes of the first cell, with zeros behind one that is shorter.
-fn beginning_of(key: &[Vec<u8>]) -> u64 {
-    let mut bytes = [0; 8];
-    if let Some(cell) = key.first() {
-        for (place, byte) in bytes.iter_mut().zip(cell.iter()) {
-            *place = *byte;
-        }
+// The first eight bytes of the first cell.
+fn beginning_of(key: &[Vec<u8>]) -> u64
+    ensures { KeyBegins key.now result }
+{
+    match key.first() {
+        Some(cell) => first_bytes(cell),
+        None => 0,
     }
-    u64::from_be_bytes(bytes)
+}
+
+// The first eight bytes, with zeros behind a cell that is shorter.
+fn first_bytes(cell: &[u8]) -> u64
+    ensures { Begins cell.now result }
+{
+    u64::from_be_bytes([
+        byte_at(cell, 0),
+        byte_at(cell, 1),
+        byte_at(cell, 2),
+        byte_at(cell, 3),
+        byte_at(cell, 4),
+        byte_at(cell, 5),
+        byte_at(cell, 6),
+        byte_at(cell, 7),
+    ])
+}
+
+// The byte at a place, or zero behind the last.
+fn byte_at(cell: &[u8], place: usize) -> u8
+    ensures { result ≡ get_or cell.now place 0 }
+{
+    cell.get(place).copied().unwrap_or(0)
 }
 
 /// Why rows are no table.
@@ -62,12 +93,16 @@ pub enum Ungathered {
 }
 
 impl From<AllocError> for Ungathered {
+    ghost from_gives = { λ e fault. fault ≡ NoMemory };
+
     fn from(_refused: AllocError) -> Self {
         Ungathered::NoMemory
     }
 }
 
 impl<T: Drop> From<AllocFailed<T>> for Ungathered {
+    ghost from_gives = { λ e fault. fault ≡ NoMemory };
+
     fn from(_refused: AllocFailed<T>) -> Self {
         Ungathered::NoMemory
     }
@@ -88,19 +123,34 @@ pub fn gathered(
         (map (λ row. (row.key, row.cells)) rows.items) table.pairs.items) }
     ensures order { IfOk result (λ table.
         AreInOrder ⟦<Cells as Ord>⟧.cmp (map shown_group table.pairs.items)) }
+    ensures repeated { IfErr result (IfRepeated (IsFirstRepeat ⟦<Cells as Ord>⟧.cmp (λ row. row.key)
+        (λ row. row.line) rows.items)) }
 {
     if repeats {
         let pairs = key_rows(alloc, rows)?;
         return Ok(grouped(alloc, pairs)?);
     }
     rows.sort_by(|row, next| row.order(next))?;
-    let (pairs, lines) = part_rows(alloc, rows)?;
-    law_alone::<Cells, Cells>();
-    if is_rising(&pairs) {
-        Ok(Rows { pairs })
-    } else {
-        Err(repeated_key(alloc, &pairs, &lines)?)
+    if let Some((row, next)) = first_repeat(&rows) {
+        return Err(Ungathered::RepeatedKey {
+            key: row.key.clone()?,
+            first: row.line,
+            second: next.line,
+        });
     }
+    let pairs = part_rows(alloc, rows)?;
+    law_alone::<Cells, Cells>();
+    Ok(Rows { pairs })
+}
+
+// The first two neighbours with the same key.
+fn first_repeat(rows: &[ReadRow]) -> Option<(&ReadRow, &ReadRow)>
+    ensures { option_map (λ pair. (pair.0.now, pair.1.now)) result
+        ≡ find (λ pair. is_eq (⟦<Cells as Ord>⟧.cmp pair.0.key pair.1.key)) (zip rows.now (drop 1 rows.now)) }
+{
+    rows.iter()
+        .zip(rows.iter().skip(1))
+        .find(|(row, next)| row.order(next).is_eq())
 }
 
 // The rows without their lines.
@@ -114,23 +164,18 @@ fn key_rows(alloc: Global, rows: Vec<ReadRow>) -> Result<Vec<(Cells, Cells)>, Al
     Ok(pairs)
 }
 
-// Each row as a group of its own, and its line.
-fn part_rows(
-    alloc: Global,
-    rows: Vec<ReadRow>,
-) -> Result<(Vec<(Cells, Group)>, Vec<u64>), AllocError>
-    ensures { IfOk result (λ parts. map shown_group parts.0.items
+// Each row as a group of its own.
+fn part_rows(alloc: Global, rows: Vec<ReadRow>) -> Result<Vec<(Cells, Group)>, AllocError>
+    ensures { IfOk result (λ pairs. map shown_group pairs.items
         ≡ map (λ row. alone (row.key, row.cells)) rows.items) }
 {
     let mut pairs = Vec::with_capacity(alloc, rows.len())?;
-    let mut lines = Vec::with_capacity(alloc, rows.len())?;
     for row in rows {
         let mut group = Vec::with_capacity(alloc, 1)?;
         group.push(row.cells)?;
         pairs.push((row.key, group))?;
-        lines.push(row.line)?;
     }
-    Ok((pairs, lines))
+    Ok(pairs)
 }
 
 // The rows in groups by key, each in the order of its cells.
@@ -161,25 +206,3 @@ fn in_order<K: Ord + Drop, V: Drop>(mut rows: Vec<(K, V)>) -> Result<Vec<(K, V)>
 fn law_alone<K: Ord, V>()
     ensures { AloneLaw K.cmp V }
 {}
-
-// The first key that stands twice, with both of its lines.
-fn repeated_key(
-    alloc: Global,
-    pairs: &[(Cells, Group)],
-    lines: &[u64],
-) -> Result<Ungathered, AllocError> {
-    let mut key: Cells = Vec::new(alloc);
-    let mut place = 0;
-    for (number, pair) in pairs.iter().enumerate() {
-        if pair.0 == key {
-            place = number;
-            break;
-        }
-        key = pair.0.clone()?;
-    }
-    Ok(Ungathered::RepeatedKey {
-        key,
-        first: lines.get(place.saturating_sub(1)).copied().unwrap_or(0),
-        second: lines.get(place).copied().unwrap_or(0),
-    })
-}
