@@ -188,18 +188,27 @@ fn merge_versions<'a, R: Read + Drop>(
     base: &mut Opened<'a, R>,
     sides: &mut Two<'a, R>,
 ) -> Result<Answer, Fault<'a>> {
-    let headers = [
-        base.source.header.as_slice(),
-        sides.first.source.header.as_slice(),
-        sides.next.source.header.as_slice(),
-    ];
-    let columns = at(base.file, columns_of(alloc, settings, &headers))?;
+    let columns = columns_of_merge(alloc, settings, base, sides)?;
     let mut order = order_of(alloc, settings);
     let versions = read_versions(&columns, &mut order, settings.groups, base, sides)?;
     at(
         sides.next.file,
         merged(alloc, settings.form, &columns, &order, versions),
     )
+}
+
+fn columns_of_merge<'a, R>(
+    alloc: Global,
+    settings: Settings<'a>,
+    base: &Opened<'a, R>,
+    sides: &Two<'a, R>,
+) -> Result<Columns, Fault<'a>> {
+    let headers = [
+        base.source.header.as_slice(),
+        sides.first.source.header.as_slice(),
+        sides.next.source.header.as_slice(),
+    ];
+    at(base.file, columns_of(alloc, settings, &headers))
 }
 
 // The rows of the base, and those of ours and of theirs.

@@ -23,7 +23,7 @@ pub struct Stream<'a, R> {
 #[derive(Drop)]
 pub struct Opened<'a, R> {
     pub file: &'a str,
-    pub source: Source<R>,
+    pub source: Box<Source<R>>,
 }
 
 /// The outcome, with the file that it is of.

@@ -18,7 +18,7 @@ const PART: usize = 512;
 pub struct Parts<'a, R> {
     pub file: &'a str,
     alloc: Global,
-    source: Source<R>,
+    source: Box<Source<R>>,
     places: Places,
     waiting: VecDeque<ReadRow>,
     last: Option<Cells>,

@@ -16,7 +16,7 @@ pub enum Content {
     Changes,
 }
 
-/// A reader whose names of columns are known, and whose rows are not read.
+/// A reader whose names of columns are known, and whose rows are not read. It is large, as it holds what was read ahead, and so in a box.
 #[derive(Drop)]
 pub struct Source<R> {
     alloc: Global,
@@ -36,7 +36,12 @@ impl<R: Read + Drop> Source<R> {
     ///
     /// Returns `NoHeader` if the file is empty and is to have a header, `RepeatedColumn` if two columns have the same name, `Io` if the
     /// reader fails, and `NoMemory` if a request for memory was refused.
-    pub fn open(alloc: Global, reader: R, form: Form, content: Content) -> Result<Self, Reason> {
+    pub fn open(
+        alloc: Global,
+        reader: R,
+        form: Form,
+        content: Content,
+    ) -> Result<Box<Self>, Reason> {
         let before = match content {
             Content::Rows => 0,
             Content::Changes => 1,
@@ -48,13 +53,14 @@ impl<R: Read + Drop> Source<R> {
         let first = first_record(alloc, &mut reader)?;
         let header = header_of(alloc, form, before, &first)?;
         let first = if form.has_header { None } else { first };
-        Ok(Source {
+        let source = Source {
             alloc,
             reader,
             first,
             before,
             header,
-        })
+        };
+        Ok(Box::new(alloc, source)?)
     }
 
     /// Reads the rows, and gathers them by key, of which no two rows have the same unless keys may repeat. A cell of a column that the
