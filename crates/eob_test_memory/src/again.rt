@@ -28,8 +28,8 @@ fn lists_and_sets_are_collected_again(rt: HostRuntime) -> Result<(), Fail> {
         alloc,
         m,
         t,
-        Pair(left, right),
-        Pair(single, right),
+        &Pair(left, right),
+        &Pair(single, right),
         lists,
         sets,
     )
@@ -54,8 +54,8 @@ fn maps_are_collected_again(rt: HostRuntime) -> Result<(), Fail> {
         alloc,
         m,
         t,
-        Pair(left, right),
-        Pair(single, right),
+        &Pair(left, right),
+        &Pair(single, right),
         want,
     )
 }

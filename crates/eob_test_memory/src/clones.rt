@@ -123,12 +123,10 @@ fn walks_over_either_are_cloned(rt: HostRuntime) -> Result<(), Fail> {
     let alloc = rt.alloc();
     let m = &Refusing::new(alloc);
     let t = &Tokens::new(alloc)?;
-    let left = one(m, t, Either::Left(()))?;
-    check(&rt, alloc, m, t, left.into_iter())?;
-    let right = one(m, t, Either::Right(()))?;
-    check(&rt, alloc, m, t, right.into_iter_inner())?;
-    let left = one(m, t, Either::Left(()))?;
-    check(&rt, alloc, m, t, left.into_iter_swap())
+    let (left, right) = (Either::Left(()), Either::Right(()));
+    check(&rt, alloc, m, t, one(m, t, left)?.into_iter())?;
+    check(&rt, alloc, m, t, one(m, t, right)?.into_iter_inner())?;
+    check(&rt, alloc, m, t, one(m, t, left)?.into_iter_swap())
 }
 
 // A value whose places are cloned through references to them.

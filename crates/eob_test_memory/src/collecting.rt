@@ -2,47 +2,12 @@
 
 use crate::shapes::Given::{Eithers, Values};
 use crate::shapes::{Memory, Wanted, lists_and_sets, maps};
-use crate::token::Numbers;
+use crate::token::list;
 use either_or_both::EitherOrBoth::{Both, Left, Right};
 use either_or_both::{Either, EitherOrBoth};
 use eob_testkit::memory::{Refusing, Source, Tokens, Watch};
-use std::alloc::{AllocError, Global};
+use std::alloc::AllocError;
 use std::test::Fail;
-
-// The values of these numbers, in their places.
-fn values<N: Numbers>(
-    alloc: Global,
-    tokens: &Tokens,
-    rows: &[EitherOrBoth<N>],
-) -> Result<Vec<EitherOrBoth<N::Values>>, AllocError> {
-    let mut values = Vec::new(alloc);
-    for row in rows {
-        let value = match *row {
-            Left(l) => Left(l.values(tokens)?),
-            Both(l, r) => Both(l.values(tokens)?, r.values(tokens)?),
-            Right(r) => Right(r.values(tokens)?),
-        };
-        values.push(value)?;
-    }
-    Ok(values)
-}
-
-// The same of `Either`.
-fn eithers<N: Numbers>(
-    alloc: Global,
-    tokens: &Tokens,
-    rows: &[Either<N>],
-) -> Result<Vec<Either<N::Values>>, AllocError> {
-    let mut values = Vec::new(alloc);
-    for row in rows {
-        let value = match *row {
-            Either::Left(l) => Either::Left(l.values(tokens)?),
-            Either::Right(r) => Either::Right(r.values(tokens)?),
-        };
-        values.push(value)?;
-    }
-    Ok(values)
-}
 
 /// Lists and sets, from values of `EitherOrBoth`.
 #[test]
@@ -50,15 +15,24 @@ fn lists_and_sets_are_collected(rt: HostRuntime) -> Result<(), Fail> {
     let alloc = rt.alloc();
     let m = &Refusing::new(alloc);
     let t = &Tokens::new(alloc)?;
-    let items = &values(alloc, t, &[Left(3), Both(1, 2), Right(1), Left(3)])?;
-    let alike = &values(alloc, t, &[Left(3), Both(3, 2)])?;
+    let items = &list(alloc, t, &[Left(3), Both(1, 2), Right(1), Left(3)])?;
+    let alike = &list(alloc, t, &[Left(3), Both(3, 2)])?;
     let lists = "Both([3, 1, 3], [2, 1])";
     let sets = Wanted {
         hashed: "Both({3}, {2})",
         inserted: "Both({3, 1}, {2, 1})",
         ordered: "Both({1, 3}, {1, 2})",
     };
-    lists_and_sets(&rt, alloc, m, t, Values(items), Values(alike), lists, sets)
+    lists_and_sets(
+        &rt,
+        alloc,
+        m,
+        t,
+        &Values(items),
+        &Values(alike),
+        lists,
+        sets,
+    )
 }
 
 /// Lists and sets, from values of `Either`.
@@ -68,8 +42,8 @@ fn lists_and_sets_are_collected_from_either(rt: HostRuntime) -> Result<(), Fail>
     let m = &Refusing::new(alloc);
     let t = &Tokens::new(alloc)?;
     let numbers = [Either::Right(3), Either::Left(2), Either::Right(1)];
-    let items = &eithers(alloc, t, &numbers)?;
-    let alike = &eithers(alloc, t, &[Either::Right(3), Either::Right(3)])?;
+    let items = &list(alloc, t, &numbers)?;
+    let alike = &list(alloc, t, &[Either::Right(3), Either::Right(3)])?;
     let lists = "Both([2], [3, 1])";
     let sets = Wanted {
         hashed: "Right({3})",
@@ -81,8 +55,8 @@ fn lists_and_sets_are_collected_from_either(rt: HostRuntime) -> Result<(), Fail>
         alloc,
         m,
         t,
-        Eithers(items),
-        Eithers(alike),
+        &Eithers(items),
+        &Eithers(alike),
         lists,
         sets,
     )
@@ -95,14 +69,14 @@ fn maps_are_collected(rt: HostRuntime) -> Result<(), Fail> {
     let m = &Refusing::new(alloc);
     let t = &Tokens::new(alloc)?;
     let numbers = [Left((3, 1)), Both((1, 1), (2, 2)), Left((3, 2))];
-    let items = &values(alloc, t, &numbers)?;
-    let alike = &values(alloc, t, &[Left((3, 1)), Both((3, 2), (2, 2))])?;
+    let items = &list(alloc, t, &numbers)?;
+    let alike = &list(alloc, t, &[Left((3, 1)), Both((3, 2), (2, 2))])?;
     let want = Wanted {
         hashed: "Both({3: 2}, {2: 2})",
         inserted: "Both({3: 2, 1: 1}, {2: 2})",
         ordered: "Both({1: 1, 3: 2}, {2: 2})",
     };
-    maps(&rt, alloc, m, t, Values(items), Values(alike), want)
+    maps(&rt, alloc, m, t, &Values(items), &Values(alike), want)
 }
 
 /// Maps, from values of `Either`.
@@ -116,14 +90,14 @@ fn maps_are_collected_from_either(rt: HostRuntime) -> Result<(), Fail> {
         Either::Left((1, 2)),
         Either::Left((3, 3)),
     ];
-    let items = &eithers(alloc, t, &numbers)?;
-    let alike = &eithers(alloc, t, &[Either::Left((3, 1)), Either::Right((3, 2))])?;
+    let items = &list(alloc, t, &numbers)?;
+    let alike = &list(alloc, t, &[Either::Left((3, 1)), Either::Right((3, 2))])?;
     let want = Wanted {
         hashed: "Both({3: 1}, {3: 2})",
         inserted: "Left({3: 3, 1: 2})",
         ordered: "Left({1: 2, 3: 3})",
     };
-    maps(&rt, alloc, m, t, Eithers(items), Eithers(alike), want)
+    maps(&rt, alloc, m, t, &Eithers(items), &Eithers(alike), want)
 }
 
 /// Where the first request is refused the source was asked for one value alone.

@@ -2,22 +2,22 @@
 //! the one or two values go over the same loop.
 
 use crate::same::same;
+use crate::token::{Token, counted};
 use either_or_both::EitherOrBoth;
 use either_or_both::EitherOrBoth::{Both, Left};
 use either_or_both::laws::{End, drive_swap_in};
 use eob_testkit::memory::{RUNS, Refusing, Tokens};
 use std::alloc::{AllocError, Global};
 use std::process::Abort;
-use std::rc::Rc;
 use std::test::Fail;
 
 type Memory<'a> = &'a Refusing<Global>;
 
-type Side<'a> = Vec<Rc<u8>, Memory<'a>>;
+type Side<'a> = Vec<Token, Memory<'a>>;
 
-type Answers<'a> = Vec<Option<EitherOrBoth<Rc<u8>>>, Memory<'a>>;
+type Answers<'a> = Vec<Option<EitherOrBoth<Token>>, Memory<'a>>;
 
-type Wanted = Vec<Option<EitherOrBoth<Rc<u8>>>>;
+type Wanted = Vec<Option<EitherOrBoth<Token>>>;
 
 fn drive<'a>(
     memory: Memory<'a>,
@@ -27,16 +27,7 @@ fn drive<'a>(
     drive_swap_in(memory, pair, ends)
 }
 
-// One of the three numbers, in turn.
-fn item(tokens: &Tokens, place: u16) -> Result<Rc<u8>, AllocError> {
-    match place % 3 {
-        0 => tokens.one(),
-        1 => tokens.two(),
-        _ => tokens.three(),
-    }
-}
-
-// So many values on a side, which count up in turn from this place.
+// So many values on a side, which count up from this number.
 fn side<'a>(
     memory: Memory<'a>,
     tokens: &Tokens,
@@ -45,13 +36,13 @@ fn side<'a>(
 ) -> Result<Side<'a>, AllocError> {
     let mut side = Vec::new(memory);
     for place in 0..length {
-        side.push(item(tokens, place.saturating_add(first))?)?;
+        side.push(counted(tokens, place.saturating_add(first))?)?;
     }
     Ok(side)
 }
 
 // What the call of this number answers: the front and the back are called in turn.
-fn answer(tokens: &Tokens, call: u16) -> Result<Option<EitherOrBoth<Rc<u8>>>, AllocError> {
+fn answer(tokens: &Tokens, call: u16) -> Result<Option<EitherOrBoth<Token>>, AllocError> {
     let place = if call % 2 == 0 {
         call / 2
     } else {
@@ -60,9 +51,9 @@ fn answer(tokens: &Tokens, call: u16) -> Result<Option<EitherOrBoth<Rc<u8>>>, Al
     if call >= 300 {
         return Ok(None);
     }
-    let left = item(tokens, place)?;
+    let left = counted(tokens, place)?;
     if place < 200 {
-        Ok(Some(Both(left, item(tokens, place.saturating_add(1))?)))
+        Ok(Some(Both(left, counted(tokens, place.saturating_add(1))?)))
     } else {
         Ok(Some(Left(left)))
     }
@@ -95,7 +86,7 @@ fn check(
     memory: Memory,
     tokens: &Tokens,
     ends: &[End],
-    want: &[Option<EitherOrBoth<Rc<u8>>>],
+    want: &[Option<EitherOrBoth<Token>>],
 ) -> Result<(), Fail> {
     let alive = tokens.alive();
     for number in 1..RUNS {

@@ -1,23 +1,23 @@
 //! Tests: a walk that is given up after any number of calls from either end drops each value that it still has, once.
 
 use crate::same::same;
+use crate::token::{Token, counted};
 use either_or_both::EitherOrBoth::{Both, Left, Right};
 use either_or_both::{Either, EitherOrBoth};
 use eob_testkit::memory::Tokens;
 use std::alloc::{AllocError, Global};
-use std::rc::Rc;
 use std::test::Fail;
 
 // How many calls are made at most, and in how many orders.
 const CALLS: [(usize, usize); 6] = [(0, 1), (1, 2), (2, 4), (3, 8), (4, 16), (5, 32)];
 
-type Side = Vec<Rc<u8>>;
+type Side = Vec<Token>;
 
 // So many values that are counted.
 fn values(alloc: Global, tokens: &Tokens, length: usize) -> Result<Side, AllocError> {
     let mut made = Vec::new(alloc);
     for _ in 0..length {
-        made.push(tokens.one()?)?;
+        made.push(counted(tokens, 1)?)?;
     }
     Ok(made)
 }
@@ -88,13 +88,13 @@ fn give_up_held(
 
 // The values of both places and of one walked, and given up after these calls.
 fn give_up_values(tokens: &Tokens, calls: (usize, usize)) -> Result<(), AllocError> {
-    let left: EitherOrBoth<Rc<u8>> = Left(tokens.one()?);
+    let left: EitherOrBoth<Token> = Left(counted(tokens, 1)?);
     give_up(left.into_iter(), calls);
-    let right: EitherOrBoth<Rc<u8>> = Right(tokens.two()?);
+    let right: EitherOrBoth<Token> = Right(counted(tokens, 2)?);
     give_up(right.into_iter(), calls);
-    let first = tokens.one()?;
-    give_up(Both(first, tokens.two()?).into_iter(), calls);
-    let held: Either<Rc<u8>> = Either::Left(tokens.one()?);
+    let first = counted(tokens, 1)?;
+    give_up(Both(first, counted(tokens, 2)?).into_iter(), calls);
+    let held: Either<Token> = Either::Left(counted(tokens, 1)?);
     give_up(held.into_iter(), calls);
     Ok(())
 }

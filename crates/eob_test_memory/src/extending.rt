@@ -10,15 +10,21 @@ use std::test::Fail;
 
 type List<'a> = Vec<Rc<u8>, &'a Refusing<Global>>;
 
-// A vector of one value on a side, made with nothing refused.
+// A vector of one value.
+fn list<'a>(memory: &'a Refusing<Global>, tokens: &Tokens) -> Result<List<'a>, AllocError> {
+    let mut list = Vec::new(memory);
+    list.push(tokens.one()?)?;
+    Ok(list)
+}
+
+// Such a vector on a side, made with nothing refused.
 fn held<'a>(
     memory: &'a Refusing<Global>,
     tokens: &Tokens,
     is_left: bool,
 ) -> Result<Either<List<'a>>, AllocError> {
     memory.refuse(0);
-    let mut list = Vec::new(memory);
-    list.push(tokens.one()?)?;
+    let list = list(memory, tokens)?;
     if is_left {
         Ok(Either::Left(list))
     } else {

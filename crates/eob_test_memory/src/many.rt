@@ -5,27 +5,16 @@ ghost use Rattle.eob_both.specs.declared.either_or_both.EitherOrBoth as enum;
 ghost use Rattle.either_or_both.specs.declared.either.Either as one;
 
 use crate::same::same;
-use crate::shapes::{Memory, pair};
+use crate::shapes::{Memory, long_lists_and_sets, long_maps, pair};
+use crate::token::{Entry, Token, counted};
 use either_or_both::EitherOrBoth::{Both, Left, Right};
 use either_or_both::join::{is_rising, outer_join_in};
 use either_or_both::laws::{Walked, recollect_in, regroup_in};
 use either_or_both::{Either, EitherOrBoth};
-use eob_testkit::memory::{RUNS, Refusing, Source, Watch, Wrong};
-use indexmap::{IndexMap, IndexSet};
+use eob_testkit::memory::{RUNS, Refusing, Source, Tokens, Watch, Wrong};
 use std::alloc::{AllocError, Global};
-use std::collections::{BTreeMap, BTreeSet, HashMap, HashSet, VecDeque};
-use std::hash::{BuildHasherDefault, FoldHasher};
 use std::process::Abort;
-use std::rc::Rc;
 use std::test::Fail;
-
-type Hasher = BuildHasherDefault<FoldHasher>;
-
-// A number that many share, as a type with no parameter, over which the containers are proved with less.
-#[derive(Debug, Clone, PartialEq, Eq, PartialOrd, Ord, Hash, Drop)]
-struct One(Rc<u16>);
-
-type Entry = (One, One);
 
 // So many values on each side.
 const MANY: u16 = 300;
@@ -35,16 +24,17 @@ const MANY: u16 = 300;
 const FEW: u64 = 150;
 
 // The numbers below a prime and some more, in an order that neither rises nor falls.
-fn numbers(alloc: Global, first: u16) -> Result<Vec<One>, AllocError> {
+fn numbers(alloc: Global, tokens: &Tokens, first: u16) -> Result<Vec<Token>, AllocError> {
     let mut numbers = Vec::new(alloc);
     for i in 0..MANY {
-        numbers.push(One(Rc::new(alloc, (i * 97 % 307).saturating_add(first))?))?;
+        let number = i.wrapping_mul(97) % 307;
+        numbers.push(counted(tokens, number.saturating_add(first))?)?;
     }
     Ok(numbers)
 }
 
 // The numbers as keys, each with another one as value.
-fn entries(alloc: Global, numbers: &[One]) -> Result<Vec<Entry>, AllocError> {
+fn entries(alloc: Global, numbers: &[Token]) -> Result<Vec<Entry>, AllocError> {
     let mut entries = Vec::new(alloc);
     for (key, value) in numbers.iter().zip(numbers.iter().rev()) {
         entries.push((key.clone()?, value.clone()?))?;
@@ -52,22 +42,10 @@ fn entries(alloc: Global, numbers: &[One]) -> Result<Vec<Entry>, AllocError> {
     Ok(entries)
 }
 
-// The numbers of the left side and of the right side.
-type Numbers<'a> = (&'a [One], &'a [One]);
-
-// How many values share the numbers, which is the same after a run exactly where the run has dropped each value that it took.
-fn alive(numbers: Numbers) -> usize {
-    let mut sum = 0usize;
-    for number in numbers.0.iter().chain(numbers.1) {
-        sum = sum.saturating_add(Rc::strong_count(&number.0));
-    }
-    sum
-}
-
 // Values that bring each item to its side, some alone and some at once.
-fn values<T: Clone + Drop>(
+fn values<'a, T: Clone + Drop>(
     alloc: Global,
-    (left, right): (&[T], &[T]),
+    (left, right): (&'a [T], &'a [T]),
 ) -> Result<Vec<EitherOrBoth<T>>, AllocError> {
     let mut values = Vec::new(alloc);
     for (i, (l, r)) in left.iter().zip(right).enumerate() {
@@ -75,7 +53,7 @@ fn values<T: Clone + Drop>(
             values.push(Right(r.clone()?))?;
             values.push(Left(l.clone()?))?;
         } else {
-            values.push(Both(l.clone()?, r.clone()?))?;
+            values.push(Both(l, r).cloned()?)?;
         }
     }
     Ok(values)
@@ -116,20 +94,20 @@ fn is_whole<P: PartialEq + Drop>(
 fn check_collected<'a, I: Clone + Drop, P: FromIterator<I, Alloc = Memory<'a>> + PartialEq + Drop>(
     rt: &impl Abort,
     memory: Memory<'a>,
-    numbers: Numbers,
+    tokens: &Tokens,
     items: &[I],
     want: &P,
 ) -> Result<(), Fail>
     requires { (xs : List I) → P.can_from_iter xs }
 {
-    let count = alive(numbers);
+    let alive = tokens.alive();
     for number in 1..FEW {
         let watch = Watch::new(memory);
         memory.refuse(number);
         let ended: Result<P, AllocError> = Source::new(items, &watch).collect(memory);
         same(rt, "a late call", &number, &watch.is_late(), &false);
         let is_whole = is_whole(rt, memory, "collect", number, ended, want)?;
-        same(rt, "values alive", &number, &alive(numbers), &count);
+        same(rt, "values alive", &number, &tokens.alive(), &alive);
         if is_whole {
             same(rt, "refused runs", &number, &(1 < number), &true);
             return Ok(());
@@ -143,7 +121,7 @@ fn check_collected<'a, I: Clone + Drop, P: FromIterator<I, Alloc = Memory<'a>> +
 fn check_again<'a, C: Walked + Clone + PartialEq + Drop>(
     rt: &impl Abort,
     memory: Memory<'a>,
-    numbers: Numbers,
+    tokens: &Tokens,
     want: &EitherOrBoth<C>,
 ) -> Result<(), Fail>
 where
@@ -154,7 +132,7 @@ where
     requires whole { (v : enum.EitherOrBoth C C)
         → ⟦<EitherOrBoth<C, C> as FromIterator<EitherOrBoth<C::Item, C::Item>>>⟧.is_complete v }
 {
-    let count = alive(numbers);
+    let alive = tokens.alive();
     for number in 1..FEW {
         memory.refuse(number);
         let is_cloned = is_whole(rt, memory, "clone", number, want.clone(), want)?;
@@ -163,7 +141,7 @@ where
         memory.refuse(number);
         let ended = recollect_in(memory, pair);
         let is_collected = is_whole(rt, memory, "recollect", number, ended, want)?;
-        same(rt, "values alive", &number, &alive(numbers), &count);
+        same(rt, "values alive", &number, &tokens.alive(), &alive);
         if is_cloned && is_collected {
             same(rt, "refused runs", &number, &(1 < number), &true);
             return Ok(());
@@ -173,12 +151,12 @@ where
     Ok(())
 }
 
-// Collects three hundred values a side from both enums, clones the pair and collects it again.
-fn check<'a, C: Walked + FromIterator<C::Item, Alloc = Memory<'a>> + Clone + PartialEq + Drop>(
+/// Collects a pair with these many items a side from both enums, clones it and collects it again.
+pub fn check<'a, C: Walked + FromIterator<C::Item, Alloc = Memory<'a>> + Clone + PartialEq + Drop>(
     rt: &impl Abort,
     alloc: Global,
     memory: Memory<'a>,
-    numbers: Numbers,
+    tokens: &Tokens,
     sides: (&[C::Item], &[C::Item]),
 ) -> Result<(), Fail>
 where
@@ -194,47 +172,39 @@ where
         → ⟦<EitherOrBoth<C, C> as FromIterator<Either<C::Item, C::Item>>>⟧.can_from_iter xs }
 {
     let want: EitherOrBoth<C> = pair(memory, sides)?;
-    check_collected(rt, memory, numbers, &values(alloc, sides)?, &want)?;
-    check_collected(rt, memory, numbers, &eithers(alloc, sides)?, &want)?;
-    check_again(rt, memory, numbers, &want)
+    check_collected(rt, memory, tokens, &values(alloc, sides)?, &want)?;
+    check_collected(rt, memory, tokens, &eithers(alloc, sides)?, &want)?;
+    check_again(rt, memory, tokens, &want)
 }
 
 /// Lists and sets are collected from both enums, cloned and collected again, for few requests.
 #[test]
 fn lists_and_sets_are_collected_and_cloned(rt: HostRuntime) -> Result<(), Fail> {
     let alloc = rt.alloc();
-    let m = &Refusing::new(alloc);
-    let left = numbers(alloc, 0)?;
-    let right = numbers(alloc, 200)?;
-    let sides = (left.as_slice(), right.as_slice());
-    check::<Vec<One, _>>(&rt, alloc, m, sides, sides)?;
-    check::<VecDeque<One, _>>(&rt, alloc, m, sides, sides)?;
-    check::<HashSet<One, Hasher, _>>(&rt, alloc, m, sides, sides)?;
-    check::<IndexSet<One, Hasher, _>>(&rt, alloc, m, sides, sides)?;
-    check::<BTreeSet<One, _>>(&rt, alloc, m, sides, sides)
+    let t = &Tokens::new(alloc)?;
+    let left = &numbers(alloc, t, 0)?;
+    let right = &numbers(alloc, t, 200)?;
+    long_lists_and_sets(&rt, alloc, &Refusing::new(alloc), t, left, right)
 }
 
 /// Maps are collected from both enums, cloned and collected again, for few requests.
 #[test]
 fn maps_are_collected_and_cloned(rt: HostRuntime) -> Result<(), Fail> {
     let alloc = rt.alloc();
-    let m = &Refusing::new(alloc);
-    let left = numbers(alloc, 0)?;
-    let right = numbers(alloc, 200)?;
-    let numbers = (left.as_slice(), right.as_slice());
-    let left = entries(alloc, numbers.0)?;
-    let right = entries(alloc, numbers.1)?;
-    let sides = (left.as_slice(), right.as_slice());
-    check::<HashMap<One, One, Hasher, _>>(&rt, alloc, m, numbers, sides)?;
-    check::<IndexMap<One, One, Hasher, _>>(&rt, alloc, m, numbers, sides)?;
-    check::<BTreeMap<One, One, _>>(&rt, alloc, m, numbers, sides)
+    let t = &Tokens::new(alloc)?;
+    let left = &entries(alloc, &numbers(alloc, t, 0)?)?;
+    let right = &entries(alloc, &numbers(alloc, t, 200)?)?;
+    long_maps(&rt, alloc, &Refusing::new(alloc), t, left, right)
 }
+
+// The numbers of the left side and of the right side.
+type Numbers<'a> = (&'a [Token], &'a [Token]);
 
 // The numbers side by side, as regrouping them gives them: a value has both while the right ones last.
 fn side_by_side<'a>(
     memory: Memory<'a>,
     numbers: Numbers,
-) -> Result<Vec<EitherOrBoth<One>, Memory<'a>>, AllocError> {
+) -> Result<Vec<EitherOrBoth<Token>, Memory<'a>>, AllocError> {
     let mut list = Vec::new(memory);
     for (i, l) in numbers.0.iter().enumerate() {
         let value = match numbers.1.get(i) {
@@ -250,7 +220,7 @@ fn side_by_side<'a>(
 fn in_turn<'a>(
     memory: Memory<'a>,
     numbers: Numbers,
-) -> Result<Vec<EitherOrBoth<One>, Memory<'a>>, AllocError> {
+) -> Result<Vec<EitherOrBoth<Token>, Memory<'a>>, AllocError> {
     let mut list = Vec::new(memory);
     for item in numbers.0 {
         list.push(Left(item.clone()?))?;
@@ -262,9 +232,14 @@ fn in_turn<'a>(
 }
 
 // Regroups the numbers with each request refused in turn.
-fn check_regrouped(rt: &impl Abort, memory: Memory, numbers: Numbers) -> Result<(), Fail> {
+fn check_regrouped(
+    rt: &impl Abort,
+    memory: Memory,
+    tokens: &Tokens,
+    numbers: Numbers,
+) -> Result<(), Fail> {
     let want = side_by_side(memory, numbers)?;
-    let count = alive(numbers);
+    let alive = tokens.alive();
     for number in 1..RUNS {
         memory.refuse(0);
         let list = in_turn(memory, numbers)?;
@@ -273,7 +248,7 @@ fn check_regrouped(rt: &impl Abort, memory: Memory, numbers: Numbers) -> Result<
         if is_whole(rt, memory, "regroup", number, ended, &want)? {
             return Ok(());
         }
-        same(rt, "values alive", &number, &alive(numbers), &count);
+        same(rt, "values alive", &number, &tokens.alive(), &alive);
     }
     Err("each run was refused")?;
     Ok(())
@@ -283,17 +258,17 @@ fn check_regrouped(rt: &impl Abort, memory: Memory, numbers: Numbers) -> Result<
 #[test]
 fn lists_are_regrouped(rt: HostRuntime) -> Result<(), Fail> {
     let alloc = rt.alloc();
-    let left = numbers(alloc, 0)?;
-    let mut right = numbers(alloc, 200)?;
+    let t = &Tokens::new(alloc)?;
+    let left = numbers(alloc, t, 0)?;
+    let mut right = numbers(alloc, t, 200)?;
     right.truncate(200);
-    let sides = (left.as_slice(), right.as_slice());
-    check_regrouped(&rt, &Refusing::new(alloc), sides)
+    check_regrouped(&rt, &Refusing::new(alloc), t, (&left, &right))
 }
 
-type Rows<A> = Vec<(u16, One), A>;
+type Rows<A> = Vec<(u16, Token), A>;
 
 // Three hundred rows whose keys rise by this step.
-fn rows<'a>(memory: Memory<'a>, one: &One, step: u16) -> Result<Rows<Memory<'a>>, AllocError>
+fn rows<'a>(memory: Memory<'a>, one: &Token, step: u16) -> Result<Rows<Memory<'a>>, AllocError>
     requires { step ≤ 3 }
 {
     let mut rows = Vec::new(memory);
@@ -303,27 +278,25 @@ fn rows<'a>(memory: Memory<'a>, one: &One, step: u16) -> Result<Rows<Memory<'a>>
     Ok(rows)
 }
 
-type Joined<A> = Vec<(u16, EitherOrBoth<One>), A>;
+type Joined<A> = Vec<(u16, EitherOrBoth<Token>), A>;
 
 // The join of three hundred even keys with three hundred keys that three divides.
-fn joined<'a>(memory: Memory<'a>, one: &One) -> Result<Joined<Memory<'a>>, AllocError> {
+fn joined<'a>(memory: Memory<'a>, one: &Token) -> Result<Joined<Memory<'a>>, AllocError> {
     let mut joined = Vec::new(memory);
     for key in 0..900u16 {
-        let value = match (key % 2 == 0 && key < 600, key % 3 == 0) {
-            (true, false) => Left(one),
-            (true, true) => Both(one, one),
-            (false, true) => Right(one),
-            (false, false) => continue,
-        };
-        joined.push((key, value.cloned()?))?;
+        let left = (key % 2 == 0 && key < 600).then_some(one);
+        let right = (key % 3 == 0).then_some(one);
+        if let Ok(value) = EitherOrBoth::try_from((left, right)) {
+            joined.push((key, value.cloned()?))?;
+        }
     }
     Ok(joined)
 }
 
 // Joins such rows with each request refused in turn.
-fn check_joined(rt: &impl Abort, memory: Memory, one: &One) -> Result<(), Fail> {
+fn check_joined(rt: &impl Abort, memory: Memory, tokens: &Tokens, one: &Token) -> Result<(), Fail> {
     let want = joined(memory, one)?;
-    let count = Rc::strong_count(&one.0);
+    let alive = tokens.alive();
     for number in 1..RUNS {
         memory.refuse(0);
         let left = rows(memory, one, 2)?;
@@ -334,8 +307,7 @@ fn check_joined(rt: &impl Abort, memory: Memory, one: &One) -> Result<(), Fail> 
         if is_whole(rt, memory, "outer_join", number, ended, &want)? {
             return Ok(());
         }
-        let alive = Rc::strong_count(&one.0);
-        same(rt, "values alive", &number, &alive, &count);
+        same(rt, "values alive", &number, &tokens.alive(), &alive);
     }
     Err("each run was refused")?;
     Ok(())
@@ -345,6 +317,6 @@ fn check_joined(rt: &impl Abort, memory: Memory, one: &One) -> Result<(), Fail> 
 #[test]
 fn lists_are_joined(rt: HostRuntime) -> Result<(), Fail> {
     let alloc = rt.alloc();
-    let one = One(Rc::new(alloc, 1u16)?);
-    check_joined(&rt, &Refusing::new(alloc), &one)
+    let t = &Tokens::new(alloc)?;
+    check_joined(&rt, &Refusing::new(alloc), t, &counted(t, 1)?)
 }

@@ -1,10 +1,12 @@
-//! One function for each shape of container, which collects a pair of that shape with each request refused in turn. Several tests share
+//! One function for each shape of container, which tries a pair of that shape with each request refused in turn. Several tests share
 //! it, so that what each shape brings is proved once.
 ghost use Rattle.std.specs.Prelude.{List};
 ghost use Rattle.eob_both.specs.declared.either_or_both.EitherOrBoth as enum;
 ghost use Rattle.either_or_both.specs.declared.either.Either as one;
 
+use crate::many;
 use crate::same::same;
+use crate::shapes::Trial::{Many, Shown};
 use crate::token::{Entry, Token};
 use either_or_both::EitherOrBoth::Both;
 use either_or_both::laws::{Walked, recollect_in};
@@ -23,7 +25,7 @@ pub type Memory<'a> = &'a Refusing<Global>;
 type Hasher = BuildHasherDefault<FoldHasher>;
 
 /// What a pair of containers is collected from.
-#[derive_where(Clone, Copy)]
+#[derive(Drop)]
 pub enum Given<'a, T> {
     /// Values of `EitherOrBoth`.
     Values(&'a [EitherOrBoth<T>]),
@@ -31,6 +33,14 @@ pub enum Given<'a, T> {
     Eithers(&'a [Either<T>]),
     /// A pair of containers with these items, which is handed in.
     Pair(&'a [T], &'a [T]),
+}
+
+/// What is tried with a shape.
+pub enum Trial<'a, T> {
+    /// A pair is collected from what is given, and shows as this text.
+    Shown(&'a Given<'a, T>, &'a str),
+    /// A pair with these many items a side is collected, cloned and collected again.
+    Many(&'a [T], &'a [T]),
 }
 
 // Collects the items with each request refused in turn. A refused run asks the source no more, the run that meets no refusal
@@ -103,13 +113,12 @@ where
     Ok(())
 }
 
-fn check<'a, C: Walked + FromIterator<C::Item, Alloc = Memory<'a>> + Drop>(
+fn check<'a, C: Walked + FromIterator<C::Item, Alloc = Memory<'a>> + Clone + PartialEq + Drop>(
     rt: &impl Abort,
     alloc: Global,
     memory: Memory<'a>,
     tokens: &Tokens,
-    given: Given<C::Item>,
-    want: &str,
+    trial: Trial<C::Item>,
 ) -> Result<(), Fail>
 where
     C::Item: Clone + Drop,
@@ -124,14 +133,21 @@ where
     requires any_one { (xs : List (one.Either C.Item C.Item))
         → ⟦<EitherOrBoth<C, C> as FromIterator<Either<C::Item, C::Item>>>⟧.can_from_iter xs }
 {
-    match given {
-        Given::Values(items) => check_collected::<_, EitherOrBoth<C, C>>(
+    match trial {
+        Shown(Given::Values(items), want) => check_collected::<_, EitherOrBoth<C, C>>(
             rt, alloc, memory, tokens, items, want,
         ),
-        Given::Eithers(items) => check_collected::<_, EitherOrBoth<C, C>>(
+        Shown(Given::Eithers(items), want) => check_collected::<_, EitherOrBoth<C, C>>(
             rt, alloc, memory, tokens, items, want,
         ),
-        Given::Pair(left, right) => check_again::<C>(alloc, memory, tokens, (left, right), want),
+        Shown(Given::Pair(left, right), want) => check_again::<C>(
+            alloc,
+            memory,
+            tokens,
+            (left, right),
+            want,
+        ),
+        Many(left, right) => many::check::<C>(rt, alloc, memory, tokens, (left, right)),
     }
 }
 
@@ -140,10 +156,9 @@ fn vecs(
     alloc: Global,
     memory: Memory,
     tokens: &Tokens,
-    given: Given<Token>,
-    want: &str,
+    trial: Trial<Token>,
 ) -> Result<(), Fail> {
-    check::<Vec<Token, Memory>>(rt, alloc, memory, tokens, given, want)
+    check::<Vec<Token, Memory>>(rt, alloc, memory, tokens, trial)
 }
 
 fn vec_deques(
@@ -151,10 +166,9 @@ fn vec_deques(
     alloc: Global,
     memory: Memory,
     tokens: &Tokens,
-    given: Given<Token>,
-    want: &str,
+    trial: Trial<Token>,
 ) -> Result<(), Fail> {
-    check::<VecDeque<Token, Memory>>(rt, alloc, memory, tokens, given, want)
+    check::<VecDeque<Token, Memory>>(rt, alloc, memory, tokens, trial)
 }
 
 fn hash_sets(
@@ -162,10 +176,9 @@ fn hash_sets(
     alloc: Global,
     memory: Memory,
     tokens: &Tokens,
-    given: Given<Token>,
-    want: &str,
+    trial: Trial<Token>,
 ) -> Result<(), Fail> {
-    check::<HashSet<Token, Hasher, Memory>>(rt, alloc, memory, tokens, given, want)
+    check::<HashSet<Token, Hasher, Memory>>(rt, alloc, memory, tokens, trial)
 }
 
 fn index_sets(
@@ -173,10 +186,9 @@ fn index_sets(
     alloc: Global,
     memory: Memory,
     tokens: &Tokens,
-    given: Given<Token>,
-    want: &str,
+    trial: Trial<Token>,
 ) -> Result<(), Fail> {
-    check::<IndexSet<Token, Hasher, Memory>>(rt, alloc, memory, tokens, given, want)
+    check::<IndexSet<Token, Hasher, Memory>>(rt, alloc, memory, tokens, trial)
 }
 
 fn btree_sets(
@@ -184,10 +196,9 @@ fn btree_sets(
     alloc: Global,
     memory: Memory,
     tokens: &Tokens,
-    given: Given<Token>,
-    want: &str,
+    trial: Trial<Token>,
 ) -> Result<(), Fail> {
-    check::<BTreeSet<Token, Memory>>(rt, alloc, memory, tokens, given, want)
+    check::<BTreeSet<Token, Memory>>(rt, alloc, memory, tokens, trial)
 }
 
 fn hash_maps(
@@ -195,10 +206,9 @@ fn hash_maps(
     alloc: Global,
     memory: Memory,
     tokens: &Tokens,
-    given: Given<Entry>,
-    want: &str,
+    trial: Trial<Entry>,
 ) -> Result<(), Fail> {
-    check::<HashMap<Token, Token, Hasher, Memory>>(rt, alloc, memory, tokens, given, want)
+    check::<HashMap<Token, Token, Hasher, Memory>>(rt, alloc, memory, tokens, trial)
 }
 
 fn index_maps(
@@ -206,10 +216,9 @@ fn index_maps(
     alloc: Global,
     memory: Memory,
     tokens: &Tokens,
-    given: Given<Entry>,
-    want: &str,
+    trial: Trial<Entry>,
 ) -> Result<(), Fail> {
-    check::<IndexMap<Token, Token, Hasher, Memory>>(rt, alloc, memory, tokens, given, want)
+    check::<IndexMap<Token, Token, Hasher, Memory>>(rt, alloc, memory, tokens, trial)
 }
 
 fn btree_maps(
@@ -217,14 +226,13 @@ fn btree_maps(
     alloc: Global,
     memory: Memory,
     tokens: &Tokens,
-    given: Given<Entry>,
-    want: &str,
+    trial: Trial<Entry>,
 ) -> Result<(), Fail> {
-    check::<BTreeMap<Token, Token, Memory>>(rt, alloc, memory, tokens, given, want)
+    check::<BTreeMap<Token, Token, Memory>>(rt, alloc, memory, tokens, trial)
 }
 
 /// How a pair of each shape of sets, or of maps, is to show.
-#[derive(Clone, Copy)]
+#[derive(Drop)]
 pub struct Wanted<'a> {
     /// A hashed one, collected from what is given for it.
     pub hashed: &'a str,
@@ -240,16 +248,16 @@ pub fn lists_and_sets(
     alloc: Global,
     memory: Memory,
     tokens: &Tokens,
-    given: Given<Token>,
-    alike: Given<Token>,
+    given: &Given<Token>,
+    alike: &Given<Token>,
     lists: &str,
     sets: Wanted,
 ) -> Result<(), Fail> {
-    vecs(rt, alloc, memory, tokens, given, lists)?;
-    vec_deques(rt, alloc, memory, tokens, given, lists)?;
-    hash_sets(rt, alloc, memory, tokens, alike, sets.hashed)?;
-    index_sets(rt, alloc, memory, tokens, given, sets.inserted)?;
-    btree_sets(rt, alloc, memory, tokens, given, sets.ordered)
+    vecs(rt, alloc, memory, tokens, Shown(given, lists))?;
+    vec_deques(rt, alloc, memory, tokens, Shown(given, lists))?;
+    hash_sets(rt, alloc, memory, tokens, Shown(alike, sets.hashed))?;
+    index_sets(rt, alloc, memory, tokens, Shown(given, sets.inserted))?;
+    btree_sets(rt, alloc, memory, tokens, Shown(given, sets.ordered))
 }
 
 /// Each shape of maps. A hashed one is collected from `alike`, with one key a side.
@@ -258,11 +266,41 @@ pub fn maps(
     alloc: Global,
     memory: Memory,
     tokens: &Tokens,
-    given: Given<Entry>,
-    alike: Given<Entry>,
+    given: &Given<Entry>,
+    alike: &Given<Entry>,
     want: Wanted,
 ) -> Result<(), Fail> {
-    hash_maps(rt, alloc, memory, tokens, alike, want.hashed)?;
-    index_maps(rt, alloc, memory, tokens, given, want.inserted)?;
-    btree_maps(rt, alloc, memory, tokens, given, want.ordered)
+    hash_maps(rt, alloc, memory, tokens, Shown(alike, want.hashed))?;
+    index_maps(rt, alloc, memory, tokens, Shown(given, want.inserted))?;
+    btree_maps(rt, alloc, memory, tokens, Shown(given, want.ordered))
+}
+
+/// Each shape of lists and of sets, with many items a side.
+pub fn long_lists_and_sets(
+    rt: &impl Abort,
+    alloc: Global,
+    memory: Memory,
+    tokens: &Tokens,
+    left: &[Token],
+    right: &[Token],
+) -> Result<(), Fail> {
+    vecs(rt, alloc, memory, tokens, Many(left, right))?;
+    vec_deques(rt, alloc, memory, tokens, Many(left, right))?;
+    hash_sets(rt, alloc, memory, tokens, Many(left, right))?;
+    index_sets(rt, alloc, memory, tokens, Many(left, right))?;
+    btree_sets(rt, alloc, memory, tokens, Many(left, right))
+}
+
+/// Each shape of maps, with many items a side.
+pub fn long_maps(
+    rt: &impl Abort,
+    alloc: Global,
+    memory: Memory,
+    tokens: &Tokens,
+    left: &[Entry],
+    right: &[Entry],
+) -> Result<(), Fail> {
+    hash_maps(rt, alloc, memory, tokens, Many(left, right))?;
+    index_maps(rt, alloc, memory, tokens, Many(left, right))?;
+    btree_maps(rt, alloc, memory, tokens, Many(left, right))
 }
