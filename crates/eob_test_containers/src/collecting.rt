@@ -1,8 +1,9 @@
 //! Tests: pairs of vectors, collected from values of either enum.
+ghost use Rattle.std.specs.Prelude.{List};
 
 use either_or_both::EitherOrBoth::{Both, Left, Right};
 use either_or_both::{Either, EitherOrBoth};
-use std::alloc::AllocError;
+use std::alloc::{AllocError, Global};
 use std::fmt::Debug;
 use std::process::Abort;
 
@@ -66,18 +67,29 @@ fn check<S: Debug + Copy>(rt: &impl Abort, values: S, pair: Pair, want: Sides) {
     assert_eq!(rt; sides, want, "{values:?}");
 }
 
+// The values of each row are collected into its sides.
+fn check_rows<I: Debug + Copy>(
+    rt: &impl Abort,
+    alloc: Global,
+    rows: &[(&[I], Sides)],
+) -> Result<(), AllocError>
+where
+    Pair: FromIterator<I, Alloc = Global>,
+    requires { (xs : List I) → ⟦<Pair as FromIterator<I>>⟧.can_from_iter xs }
+{
+    for (values, want) in rows.iter().copied() {
+        check(rt, values, values.iter().copied().collect(alloc)?, want);
+    }
+    Ok(())
+}
+
 /// The left values go into one vector and the right ones into another, in order. Both are given where both are empty or neither
 /// is, and else the one that is not empty.
 #[test]
 fn values_are_collected_into_vectors(rt: HostRuntime) -> Result<(), AllocError> {
     let alloc = rt.alloc();
-    for (values, want) in COLLECTED.iter().copied() {
-        check(&rt, values, values.iter().copied().collect(alloc)?, want);
-    }
-    for (values, want) in COLLECTED_FROM_EITHER.iter().copied() {
-        check(&rt, values, values.iter().copied().collect(alloc)?, want);
-    }
-    Ok(())
+    check_rows(&rt, alloc, &COLLECTED)?;
+    check_rows(&rt, alloc, &COLLECTED_FROM_EITHER)
 }
 
 /// The items of a list, with a hint that is true and tells next to nothing: memory for as many items as it allows is never to

@@ -12,6 +12,7 @@ mod of_either;
 mod orders;
 
 use crate::collecting::Vague;
+use crate::same::same;
 use either_or_both::EitherOrBoth;
 use either_or_both::EitherOrBoth::{Both, Left, Right};
 use indexmap::{IndexMap, IndexSet};
@@ -80,16 +81,32 @@ impl Debug for Alike {
     }
 }
 
+// A hashed set, in the order of its values.
+fn rising_set<T: Hash + Ord + Drop, S: BuildHasher + Drop>(
+    alloc: Global,
+    set: HashSet<T, S>,
+) -> Result<BTreeSet<T>, AllocError> {
+    set.into_iter().collect(alloc)
+}
+
 /// A pair of hashed sets, in the order of their values.
 fn rising_sets<L: Hash + Ord + Drop, R: Hash + Ord + Drop, S: BuildHasher + Drop>(
     alloc: Global,
     pair: EitherOrBoth<HashSet<L, S>, HashSet<R, S>>,
 ) -> Result<EitherOrBoth<BTreeSet<L>, BTreeSet<R>>, AllocError> {
     match pair {
-        Left(l) => Ok(Left(l.into_iter().collect(alloc)?)),
-        Both(l, r) => Ok(Both(l.into_iter().collect(alloc)?, r.into_iter().collect(alloc)?)),
-        Right(r) => Ok(Right(r.into_iter().collect(alloc)?)),
+        Left(l) => Ok(Left(rising_set(alloc, l)?)),
+        Both(l, r) => Ok(Both(rising_set(alloc, l)?, rising_set(alloc, r)?)),
+        Right(r) => Ok(Right(rising_set(alloc, r)?)),
     }
+}
+
+// A hashed map, in the order of its keys.
+fn rising_map<K: Hash + Ord + Drop, V: Drop, S: BuildHasher + Drop>(
+    alloc: Global,
+    map: HashMap<K, V, S>,
+) -> Result<BTreeMap<K, V>, AllocError> {
+    map.into_iter().collect(alloc)
 }
 
 /// A pair of hashed maps, in the order of their keys.
@@ -98,10 +115,14 @@ fn rising_maps<K: Hash + Ord + Drop, S: BuildHasher + Drop>(
     pair: EitherOrBoth<HashMap<K, u8, S>, HashMap<K, char, S>>,
 ) -> Result<EitherOrBoth<BTreeMap<K, u8>, BTreeMap<K, char>>, AllocError> {
     match pair {
-        Left(l) => Ok(Left(l.into_iter().collect(alloc)?)),
-        Both(l, r) => Ok(Both(l.into_iter().collect(alloc)?, r.into_iter().collect(alloc)?)),
-        Right(r) => Ok(Right(r.into_iter().collect(alloc)?)),
+        Left(l) => Ok(Left(rising_map(alloc, l)?)),
+        Both(l, r) => Ok(Both(rising_map(alloc, l)?, rising_map(alloc, r)?)),
+        Right(r) => Ok(Right(rising_map(alloc, r)?)),
     }
+}
+
+fn shown<P: Debug>(alloc: Global, pair: &P) -> Result<String, AllocError> {
+    format!(in alloc; "{pair:?}")
 }
 
 // What comes of a row's source in this shape is a pair, and shows as the row says.
@@ -113,9 +134,8 @@ fn shows<S: Debug + Copy, P: Debug + Drop>(
     ended: Result<P, AllocError>,
     want: &str,
 ) -> Result<(), AllocError> {
-    let pair = ended?;
-    let shown = format!(in alloc; "{pair:?}")?;
-    assert_eq!(rt; shown.as_str(), want, "{shape} of {source:?}");
+    let shown = shown(alloc, &ended?)?;
+    same(rt, shape, &source, &shown.as_str(), &want);
     Ok(())
 }
 

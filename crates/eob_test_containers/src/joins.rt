@@ -1,6 +1,7 @@
 //! The full outer join, at once and item by item, beside a join by definition.
 ghost use Rattle.either_or_both.specs.Join.{Rising};
 
+use crate::same::same;
 use either_or_both::EitherOrBoth;
 use either_or_both::EitherOrBoth::{Both, Left, Right};
 use either_or_both::join::{
@@ -53,6 +54,18 @@ fn lazily<K: Ord + Copy + Drop, V: Copy + Drop>(
     outer_join_lazily(left, right).collect(alloc)
 }
 
+// The two lists, joined at once.
+fn at_once<K: Ord + Copy + Drop, V: Copy + Drop>(
+    alloc: Global,
+    lists: Lists<K, V>,
+) -> Result<Rows<K, V>, AllocError>
+    requires left { Rising K.cmp lists.0.now }
+    requires right { Rising K.cmp lists.1.now }
+{
+    let left = Vec::from_slice(alloc, lists.0)?;
+    outer_join(alloc, left, Vec::from_slice(alloc, lists.1)?)
+}
+
 // The two lists, joined by reference.
 fn by_reference<K: Ord + Copy + Drop, V: Copy + Drop>(
     alloc: Global,
@@ -68,17 +81,6 @@ fn by_reference<K: Ord + Copy + Drop, V: Copy + Drop>(
     Ok(rows)
 }
 
-// Fails unless the rows that came of a call are those wanted.
-fn same<K: PartialEq + Debug + Drop, V: PartialEq + Debug + Drop>(
-    rt: &impl Abort,
-    call: &str,
-    lists: Lists<K, V>,
-    came: Rows<K, V>,
-    want: &[(K, EitherOrBoth<V, V>)],
-) {
-    assert_eq!(rt; came.as_slice(), want, "{call}: {lists:?}");
-}
-
 // Both lists rise, and their join is as wanted, at once, item by item and by reference.
 fn check<K: Ord + Copy + Debug + Drop, V: PartialEq + Copy + Debug + Drop>(
     rt: &impl Abort,
@@ -88,11 +90,27 @@ fn check<K: Ord + Copy + Debug + Drop, V: PartialEq + Copy + Debug + Drop>(
 ) -> Result<(), AllocError> {
     let (left, right) = lists;
     assert!(rt; is_rising(left) && is_rising(right), "{lists:?}");
-    same(rt, "by reference", lists, by_reference(alloc, lists)?, want);
-    same(rt, "lazily", lists, lazily(alloc, lists)?, want);
-    let left = Vec::from_slice(alloc, left)?;
-    let right = Vec::from_slice(alloc, right)?;
-    same(rt, "at once", lists, outer_join(alloc, left, right)?, want);
+    same(
+        rt,
+        "by reference",
+        &lists,
+        &by_reference(alloc, lists)?.as_slice(),
+        &want,
+    );
+    same(
+        rt,
+        "lazily",
+        &lists,
+        &lazily(alloc, lists)?.as_slice(),
+        &want,
+    );
+    same(
+        rt,
+        "at once",
+        &lists,
+        &at_once(alloc, lists)?.as_slice(),
+        &want,
+    );
     Ok(())
 }
 
@@ -202,14 +220,15 @@ fn rows_come_in_the_order_of_the_keys(rt: HostRuntime) -> Result<(), Fail> {
     Ok(())
 }
 
+fn map(alloc: Global, entries: &[(i32, char)]) -> Result<BTreeMap<i32, char>, AllocError> {
+    entries.iter().copied().collect(alloc)
+}
+
 /// Maps that are joined by reference are there afterwards.
 #[test]
 fn maps_joined_by_reference_stay(rt: HostRuntime) -> Result<(), Fail> {
-    let mut left = BTreeMap::new(rt.alloc());
-    left.insert(3, 'b')?;
-    left.insert(1, 'a')?;
-    let mut right = BTreeMap::new(rt.alloc());
-    right.insert(3, 'y')?;
+    let left = map(rt.alloc(), &[(3, 'b'), (1, 'a')])?;
+    let right = map(rt.alloc(), &[(3, 'y')])?;
     let mut walk = outer_join_maps(&left, &right);
     assert_eq!(rt; walk.size_hint(), (2, Some(3)));
     assert_eq!(rt; walk.next(), Some((&1, Left(&'a'))));

@@ -11,3 +11,5 @@ mod joins;
 mod normal;
 #[cfg(test)]
 mod rebuilt;
+#[cfg(test)]
+mod same;
