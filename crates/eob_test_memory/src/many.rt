@@ -284,11 +284,13 @@ type Joined<A> = Vec<(u16, EitherOrBoth<Token>), A>;
 fn joined<'a>(memory: Memory<'a>, one: &Token) -> Result<Joined<Memory<'a>>, AllocError> {
     let mut joined = Vec::new(memory);
     for key in 0..900u16 {
-        let left = (key % 2 == 0 && key < 600).then_some(one);
-        let right = (key % 3 == 0).then_some(one);
-        if let Ok(value) = EitherOrBoth::try_from((left, right)) {
-            joined.push((key, value.cloned()?))?;
-        }
+        let value = match (key % 2 == 0 && key < 600, key % 3 == 0) {
+            (true, false) => Left(one),
+            (true, true) => Both(one, one),
+            (false, true) => Right(one),
+            (false, false) => continue,
+        };
+        joined.push((key, value.cloned()?))?;
     }
     Ok(joined)
 }
