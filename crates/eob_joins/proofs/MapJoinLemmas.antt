@@ -1,8 +1,11 @@
 -- How the loops of a join of maps come closer to it; a map laid over another; and the join of parts of two maps.
-use Rattle.std.proofs.Common.{◌≡◌, ◌∙◌, Bool, true, false, cond, List, [], ◌∷◌, ◌++◌, map, filter, Option, Some, None, append-nil, append_assoc, refl, sym, ap, ap₂, subst, true≢false}
+use Rattle.std.proofs.Common.{◌≡◌, ◌∙◌, Bool, true, false, cond, List, [], ◌∷◌, ◌++◌, filter, Option, Some, None, append-nil, append_assoc, refl, sym, ap, ap₂, subst, true≢false}
 use Rattle.std.specs.Prelude.{not, is_some, nat_eq}
 use Rattle.std.specs.Option.{option_map, option_or}
 use Rattle.std.specs.Cmp.{IsEquivalence}
+use Rattle.std.specs.Iterator.Runs.{WholeRun}
+use Rattle.std.specs.Map.Iter.{GivesInOrder, TakesFirst}
+use Rattle.std.proofs.iter.runs.Made.{seen}
 use Rattle.std.specs.Map.{keys_of, lookup}
 use Rattle.std.specs.Set.{is_member}
 use Rattle.std.specs.List.{AllByRecursion, IsDistinct}
@@ -15,11 +18,7 @@ use Rattle.eob_both.specs.declared.either_or_both.EitherOrBoth.{EitherOrBoth}
 use Rattle.eob_both.specs.declared.either_or_both.EitherOrBoth.TheVariants.{Left, Both, Right}
 use Rattle.eob_both.specs.Places.{from_places, left_place, right_place}
 use Rattle.indexmap.specs.IndexMap.{insert_all, insert_entry}
-use Rattle.eob_joins.specs.MapJoin.{IsMapJoin, IsMapOverlay, MapPartsLaw}
-
--- the entries of the left map, each with its value as left place
-abbrev pub lefts_of : {K A B : Type 0} → List (K × A) → List (K × EitherOrBoth A B)
-lefts_of ys = map (λ y. (y.0, Left y.1)) ys
+use Rattle.eob_joins.specs.MapJoin.{AddsRight, AddsRights, IsMapJoin, IsMapOverlay, MapPartsLaw, lefts_of}
 
 by_test : {G : Type 0} (t : Bool) → (t ≡ true → G) → (t ≡ false → G) → G
 by_test true f g = f refl
@@ -125,18 +124,27 @@ module _ {K : Type 0} {eq : K → K → Bool} (laws : IsEquivalence eq) where
   distinct_lefts : {A : Type 0} (B : Type 0) (p : List (K × A)) → IsDistinct eq (keys_of p) → IsDistinct eq (keys_of (lefts_of {B = B} p))
   distinct_lefts B p d = subst (IsDistinct eq) (sym (keys_lefts B p)) d
 
-  -- the loop over the left map: its next key is in no row yet, and at its end the rows are its join with nothing
-  pub left_apart : {A B : Type 0} (p its rest : List (K × A)) (k : K) (a : A) (es : List (K × EitherOrBoth A B)) → IsDistinct eq (keys_of p) → es ++ lefts_of its ≡ lefts_of p → its ≡ (k, a) ∷ rest → lookup (eq k) es ≡ None
-  left_apart {A = A} {B = B} p its rest k a es d e f =
-      lookup_before es k (Left a) (lefts_of rest) (subst (λ l. IsDistinct eq (keys_of l)) (sym e ∙ ap (λ l. es ++ lefts_of l) f) (distinct_lefts B p d))
+  all_before : (P : K → Type 0) (ks : List K) (k : K) → AllByRecursion P (ks ++ k ∷ []) → AllByRecursion P ks
+  all_before P [] k h = tt
+  all_before P (j ∷ ks) k h = (h.0, all_before P ks k h.1)
 
-  pub lefts_done : {A B : Type 0} (p its : List (K × A)) (es : List (K × EitherOrBoth A B)) → es ++ lefts_of its ≡ lefts_of p → its ≡ [] → IsMapJoin eq p [] es
-  lefts_done {A = A} {B = B} p its es e f = subst (IsMapJoin eq p []) (sym e ∙ ap (λ l. es ++ lefts_of l) f ∙ append-nil es) (join_lefts B p)
+  distinct_before : (ks : List K) (k : K) → IsDistinct eq (ks ++ k ∷ []) → IsDistinct eq ks
+  unfolding IsDistinct
+  distinct_before [] k d = tt
+  distinct_before (j ∷ ks) k d = (all_before (λ i. eq j i ≡ false) ks k d.0, distinct_before ks k d.1)
 
-  -- the loop over the right map: its next key is not among those that came
-  pub right_apart : {B : Type 0} (q ys its rest : List (K × B)) (k : K) (b : B) → IsDistinct eq (keys_of q) → ys ++ its ≡ q → its ≡ (k, b) ∷ rest → (lookup (eq k) ys ≡ None) × ((ys ++ (k, b) ∷ []) ++ rest ≡ q)
-  right_apart q ys its rest k b d e f =
-      (lookup_before ys k b rest (subst (λ l. IsDistinct eq (keys_of l)) (sym e ∙ ap (λ l. ys ++ l) f) d), append_assoc ys ((k, b) ∷ []) rest ∙ ap (λ l. ys ++ l) (sym f) ∙ e)
+  -- the loop over the right map: one more entry of it
+  pub one_right : {A B : Type 0} (q : List (K × B)) (k : K) (b : B) (es now fs : List (K × EitherOrBoth A B))
+      → AddsRights eq A q es now → ((p : List (K × A)) → AddsRight eq p k b now fs) → AddsRights eq A (q ++ (k, b) ∷ []) es fs
+  one_right q k b es now fs so_far more p d is =
+      let before : IsDistinct eq (keys_of q) = distinct_before (keys_of q) k (rw map-append at d) in
+      more p q (so_far p before is) (lookup_before q k b [] d)
+
+  -- the loop over the left map: one more entry of it
+  pub one_left : {A B : Type 0} (es : List (K × EitherOrBoth A B)) (p : List (K × A)) (k : K) (a : A)
+      → insert_all eq es (lefts_of (p ++ (k, a) ∷ [])) ≡ insert_entry eq (insert_all eq es (lefts_of p)) k (Left a)
+  one_left es [] k a = refl
+  one_left es (y ∷ p) k a = one_left (insert_entry eq es y.0 (Left y.1)) p k a
 
   keys_insert_there : {V : Type 0} (es : List (K × V)) (k : K) (v : V) → is_some (lookup (eq k) es) ≡ true → keys_of (insert_entry eq es k v) ≡ keys_of es
   keys_insert_there [] k v t = absurd (true≢false (sym t))
@@ -201,10 +209,29 @@ module _ {K : Type 0} {eq : K → K → Bool} (laws : IsEquivalence eq) where
       let whole : (es ++ x ∷ []) ++ xs ≡ es ++ x ∷ xs = append_assoc es (x ∷ []) xs in
       ap (λ l. insert_all eq l xs) (insert_apart es x.0 x.1 (lookup_before es x.0 x.1 xs d)) ∙ all_apart (es ++ x ∷ []) xs (subst (λ l. IsDistinct eq (keys_of l)) (sym whole) d) ∙ whole
 
+  -- once both maps were walked, where the rows were none
+  pub join_made : {A B : Type 0} (p : List (K × A)) (q : List (K × B)) (none es fs : List (K × EitherOrBoth A B)) → none ≡ [] → es ≡ insert_all eq none (lefts_of p) → AddsRights eq A q es fs
+      → IsDistinct eq (keys_of p) → IsDistinct eq (keys_of q) → IsMapJoin eq p q fs
+  join_made {B = B} p q none es fs e made adds d f =
+      let lefts : es ≡ lefts_of p = made ∙ ap (λ l. insert_all eq l (lefts_of p)) e ∙ all_apart [] (lefts_of p) (distinct_lefts B p d) in
+      adds p f (subst (IsMapJoin eq p []) (sym lefts) (join_lefts B p))
+
+  -- the same, of two iterators that give the entries of maps
+  pub join_given : {A B : Type 0} (p l : List (K × A)) (q r : List (K × B)) (rows : List (K × EitherOrBoth A B)) → l ≡ p → GivesInOrder (K × A) → IsDistinct eq (keys_of p)
+      → r ≡ q → GivesInOrder (K × B) → IsDistinct eq (keys_of q)
+      → WholeRun (TakesFirst (λ x. x)) l (λ x. WholeRun (TakesFirst (λ y. y)) r (λ y. IsDistinct eq (keys_of x.items) → IsDistinct eq (keys_of y.items) → IsMapJoin eq x.items y.items rows))
+      → IsMapJoin eq p q rows
+  join_given p l q r rows a left d b right f made =
+      let lefts : made.0.items ≡ p = (left made.0 (seen made.0.len)).4 made.2 ∙ made.1 ∙ a in
+      let rest = made.3 in
+      let rights : rest.0.items ≡ q = (right rest.0 (seen rest.0.len)).4 rest.2 ∙ rest.1 ∙ b in
+      let of_lists = rest.3 (subst (λ x. IsDistinct eq (keys_of x)) (sym lefts) d) (subst (λ y. IsDistinct eq (keys_of y)) (sym rights) f) in
+      subst (λ x. IsMapJoin eq x q rows) lefts (subst (λ y. IsMapJoin eq made.0.items y rows) rights of_lists)
+
   -- a map that took the entries of two maps in turn is the second laid over the first
-  pub overlay_made : {V : Type 0} (p q es fs rows : List (K × V)) → IsDistinct eq (keys_of p) → IsDistinct eq (keys_of q) → es ≡ [] → fs ≡ insert_all eq es p → rows ≡ insert_all eq fs q → IsMapOverlay eq p q rows
-  overlay_made p q es fs rows d a e f h =
-      let first : fs ≡ p = f ∙ ap (λ l. insert_all eq l p) e ∙ all_apart [] p d in
+  pub overlay_made : {V : Type 0} (p q es rows : List (K × V)) → IsDistinct eq (keys_of p) → IsDistinct eq (keys_of q) → es ≡ [] → rows ≡ insert_all eq (insert_all eq es p) q → IsMapOverlay eq p q rows
+  overlay_made p q es rows d a e h =
+      let first : insert_all eq es p ≡ p = ap (λ l. insert_all eq l p) e ∙ all_apart [] p d in
       subst (IsMapOverlay eq p q) (sym (h ∙ ap (λ l. insert_all eq l q) first)) (overlay_more p [] q p (overlay_none p) a)
 
 pub parts_law : {K : Type 0} (eq : K → K → Bool) (A B : Type 0) → MapPartsLaw eq A B

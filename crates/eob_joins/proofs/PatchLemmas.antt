@@ -1,5 +1,5 @@
 -- A table with the changes made to it that lead to another: it is the other, as far as keys and values count as equal.
-use Rattle.std.proofs.Common.{◌≡◌, ◌∙◌, Bool, true, false, List, [], ◌∷◌, Option, Some, None, refl, sym, ap, subst, true≢false}
+use Rattle.std.proofs.Common.{◌≡◌, ◌∙◌, Bool, true, List, [], ◌∷◌, Option, Some, None, refl, sym, ap, true≢false}
 use Rattle.std.specs.Prelude.{⊤}
 use Rattle.std.specs.Cmp.{IsTotalOrder, alike_right}
 use Rattle.std.specs.List.{AllZip}

@@ -3,11 +3,15 @@
 //!
 //! What these calls give is an `IndexMap`, which iterates in the order of insertion: the keys of the left map in their order, then
 //! those that it lacks in the order of the right map.
-ghost use Rattle.std.specs.Prelude.{◌≡◌, ◌++◌, ◌∷◌, [], IfOk, List, None, OnOk, Some};
-ghost use Rattle.std.specs.HashMap.{IsEmpty, get};
-ghost use Rattle.indexmap.specs.IndexMap.{insert_all};
+ghost use Rattle.std.specs.Prelude.{◌≡◌, IfOk, List, OnOk, Some};
+ghost use Rattle.std.specs.HashMap.{IsEmpty};
+ghost use Rattle.std.specs.Iterator.{IsFinite};
+ghost use Rattle.std.specs.Iterator.Runs.{WholeRun};
+ghost use Rattle.std.specs.List.{IsDistinct};
+ghost use Rattle.std.specs.Map.{keys_of};
+ghost use Rattle.indexmap.specs.IndexMap.{insert_all, insert_entry};
 ghost use Rattle.eob_lists.specs.Places.{left_place, right_place};
-ghost use Rattle.eob_joins.specs.MapJoin.{AddsRight, AddsRights, IsMapJoin, IsMapOverlay, MapPartsLaw};
+ghost use Rattle.eob_joins.specs.MapJoin.{AddsRight, AddsRights, IsMapJoin, IsMapOverlay, MapPartsLaw, lefts_of};
 
 use eob_lists::EitherOrBoth;
 use indexmap::IndexMap;
@@ -86,7 +90,7 @@ pub fn outer_join_index_maps_in<
     ensures { IfOk result (λ rows. IsMapJoin K.eq left.entries right.entries rows.entries) }
 {
     let mut rows = with_room(alloc, left.len())?;
-    put_entries(&mut rows, left, right)?;
+    put_entries(&mut rows, left.into_iter(), right.into_iter())?;
     Ok(rows)
 }
 
@@ -155,7 +159,7 @@ pub fn outer_join_hash_maps_in<
     ensures { IfOk result (λ rows. IsMapJoin K.eq left.entries right.entries rows.entries) }
 {
     let mut rows = with_room(alloc, left.len())?;
-    put_hashed_entries(&mut rows, left, right)?;
+    put_entries(&mut rows, left.into_iter(), right.into_iter())?;
     Ok(rows)
 }
 
@@ -228,9 +232,9 @@ pub fn overlay_index_maps_in<
     ensures { IfOk result (λ rows. IsMapOverlay K.eq base.entries over.entries rows.entries) }
 {
     // The rows are at least as many as the longer map has.
-    let rows = with_room(alloc, base.len().max(over.len()))?;
-    let rows = appended(rows, base)?;
-    appended(rows, over)
+    let mut rows = with_room(alloc, base.len().max(over.len()))?;
+    put_layers(&mut rows, base, over)?;
+    Ok(rows)
 }
 
 /// Where the keys of two maps are dealt out to numbered parts by any function that gives equal keys one number, the join of two parts
@@ -250,96 +254,44 @@ fn with_room<K: Eq + Hash + Drop, V: Drop, S: BuildHasher + Default + Drop, M: A
     IndexMap::with_capacity_and_hasher(alloc, room, S::default())
 }
 
-// The rows of both maps.
-fn put_hashed_entries<
-    K: Eq + Hash + Drop,
-    A: Drop,
-    B: Drop,
-    S: BuildHasher + Drop,
-    T: BuildHasher + Drop,
-    M: Allocator + Copy,
->(
-    rows: &mut IndexMap<K, EitherOrBoth<A, B>, S, M>,
-    left: HashMap<K, A, S, M>,
-    right: HashMap<K, B, T, M>,
-) -> Result<(), AllocError>
-    requires { IsEmpty rows.old }
-    ensures { OnOk result (IsMapJoin K.eq left.entries right.entries rows.new.entries) }
-{
-    put_hashed_lefts(rows, left)?;
-    put_hashed_rights(rows, right)
-}
-
-// The rows of both maps.
+// The rows of both maps, of each of which all entries are given.
 fn put_entries<
     K: Eq + Hash + Drop,
     A: Drop,
     B: Drop,
-    S: BuildHasher + Drop,
-    T: BuildHasher + Drop,
+    S: BuildHasher,
+    L: Iterator<Item = (K, A)>,
+    R: Iterator<Item = (K, B)>,
     M: Allocator + Copy,
->(
-    rows: &mut IndexMap<K, EitherOrBoth<A, B>, S, M>,
-    left: IndexMap<K, A, S, M>,
-    right: IndexMap<K, B, T, M>,
-) -> Result<(), AllocError>
-    requires { IsEmpty rows.old }
-    ensures { OnOk result (IsMapJoin K.eq left.entries right.entries rows.new.entries) }
+>(rows: &mut IndexMap<K, EitherOrBoth<A, B>, S, M>, left: L, right: R) -> Result<(), AllocError>
+    requires left_can { L.can_next left }
+    requires left_finite { IsFinite (L.remaining left) }
+    requires right_can { R.can_next right }
+    requires right_finite { IsFinite (R.remaining right) }
+    requires empty { IsEmpty rows.old }
+    ensures { OnOk result (WholeRun L.next_gives left (λ p. WholeRun R.next_gives right (λ q.
+        IsDistinct K.eq (keys_of p.items) → IsDistinct K.eq (keys_of q.items)
+        → IsMapJoin K.eq p.items q.items rows.new.entries))) }
 {
     put_lefts(rows, left)?;
     put_rights(rows, right)
 }
 
 // The rows of the left map.
-fn put_hashed_lefts<
-    K: Eq + Hash + Drop,
-    A: Drop,
-    B: Drop,
-    S: BuildHasher + Drop,
-    M: Allocator + Copy,
->(
-    rows: &mut IndexMap<K, EitherOrBoth<A, B>, S, M>,
-    left: HashMap<K, A, S, M>,
-) -> Result<(), AllocError>
-    requires { IsEmpty rows.old }
-    ensures { OnOk result (IsMapJoin K.eq left.entries [] rows.new.entries) }
-{
-    for (key, a) in left {
-        put_left(rows, key, a)?;
-    }
-    Ok(())
-}
-
-// The rows of the left map.
-fn put_lefts<K: Eq + Hash + Drop, A: Drop, B: Drop, S: BuildHasher + Drop, M: Allocator + Copy>(
-    rows: &mut IndexMap<K, EitherOrBoth<A, B>, S, M>,
-    left: IndexMap<K, A, S, M>,
-) -> Result<(), AllocError>
-    requires { IsEmpty rows.old }
-    ensures { OnOk result (IsMapJoin K.eq left.entries [] rows.new.entries) }
-{
-    for (key, a) in left {
-        put_left(rows, key, a)?;
-    }
-    Ok(())
-}
-
-// The rows of the right map, after those of the left map.
-fn put_hashed_rights<
+fn put_lefts<
     K: Eq + Hash + Drop,
     A: Drop,
     B: Drop,
     S: BuildHasher,
-    T: BuildHasher + Drop,
+    L: Iterator<Item = (K, A)>,
     M: Allocator + Copy,
->(
-    rows: &mut IndexMap<K, EitherOrBoth<A, B>, S, M>,
-    right: HashMap<K, B, T, M>,
-) -> Result<(), AllocError>
-    ensures { OnOk result (AddsRights K.eq A right.entries rows.old.entries rows.new.entries) }
+>(rows: &mut IndexMap<K, EitherOrBoth<A, B>, S, M>, left: L) -> Result<(), AllocError>
+    requires can { L.can_next left }
+    requires finite { IsFinite (L.remaining left) }
+    ensures { OnOk result (WholeRun L.next_gives left (λ p. rows.new.entries ≡ insert_all K.eq rows.old.entries (lefts_of p.items))) }
 {
-    for (key, b) in right {
-        put_right(rows, key, b)?;
+    for (key, a) in left {
+        put_left(rows, key, a)?;
     }
     Ok(())
 }
@@ -350,13 +302,12 @@ fn put_rights<
     A: Drop,
     B: Drop,
     S: BuildHasher,
-    T: BuildHasher + Drop,
+    R: Iterator<Item = (K, B)>,
     M: Allocator + Copy,
->(
-    rows: &mut IndexMap<K, EitherOrBoth<A, B>, S, M>,
-    right: IndexMap<K, B, T, M>,
-) -> Result<(), AllocError>
-    ensures { OnOk result (AddsRights K.eq A right.entries rows.old.entries rows.new.entries) }
+>(rows: &mut IndexMap<K, EitherOrBoth<A, B>, S, M>, right: R) -> Result<(), AllocError>
+    requires can { R.can_next right }
+    requires finite { IsFinite (R.remaining right) }
+    ensures { OnOk result (WholeRun R.next_gives right (λ q. AddsRights K.eq A q.items rows.old.entries rows.new.entries)) }
 {
     for (key, b) in right {
         put_right(rows, key, b)?;
@@ -364,31 +315,41 @@ fn put_rights<
     Ok(())
 }
 
-// The entries of a map and then those of another, which take the place of those with their keys.
-fn appended<
+// The entries of both maps.
+fn put_layers<
     K: Eq + Hash + Drop,
     V: Drop,
     S: BuildHasher + Drop,
     T: BuildHasher + Drop,
     M: Allocator,
 >(
-    mut rows: IndexMap<K, V, S, M>,
-    mut more: IndexMap<K, V, T, M>,
-) -> Result<IndexMap<K, V, S, M>, AllocError>
-    ensures { IfOk result (λ all. all.entries ≡ insert_all K.eq rows.entries more.entries) }
+    rows: &mut IndexMap<K, V, S, M>,
+    base: IndexMap<K, V, S, M>,
+    over: IndexMap<K, V, T, M>,
+) -> Result<(), AllocError>
+    ensures { OnOk result (rows.new.entries ≡ insert_all K.eq (insert_all K.eq rows.old.entries base.entries) over.entries) }
 {
-    rows.append(&mut more)?;
-    Ok(rows)
+    put_layer(rows, base)?;
+    put_layer(rows, over)
 }
 
-// A row of the left map, whose key the rows lack.
+// The entries of a map, which take the place of those with their keys.
+fn put_layer<K: Eq + Hash + Drop, V: Drop, S: BuildHasher, T: BuildHasher + Drop, M: Allocator>(
+    rows: &mut IndexMap<K, V, S, M>,
+    mut layer: IndexMap<K, V, T, M>,
+) -> Result<(), AllocError>
+    ensures { OnOk result (rows.new.entries ≡ insert_all K.eq rows.old.entries layer.entries) }
+{
+    rows.append(&mut layer)
+}
+
+// A row of the left map.
 fn put_left<K: Eq + Hash + Drop, A: Drop, B: Drop, S: BuildHasher, M: Allocator + Copy>(
     rows: &mut IndexMap<K, EitherOrBoth<A, B>, S, M>,
     key: K,
     a: A,
 ) -> Result<(), AllocError>
-    requires { get K.eq rows.old key ≡ None }
-    ensures { OnOk result (rows.new.entries ≡ rows.old.entries ++ (key, EitherOrBoth.Left a) ∷ []) }
+    ensures { OnOk result (rows.new.entries ≡ insert_entry K.eq rows.old.entries key (EitherOrBoth.Left a)) }
 {
     rows.insert(key, EitherOrBoth::Left(a))?;
     Ok(())

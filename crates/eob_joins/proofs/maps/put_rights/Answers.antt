@@ -1,9 +1,14 @@
-use Rattle.std.proofs.Common.{[], ◌∷◌, ◌++◌}
-use Rattle.eob_joins.proofs.MapJoinLemmas.{right_apart}
+use Rattle.std.proofs.Common.{refl, true}
+use Rattle.std.proofs.iter.runs.Made.{run}
+use Rattle.eob_joins.proofs.MapJoinLemmas.{one_right}
 use Rattle.eob_joins.proofs.maps.put_rights.Goals as goal
 
 pub loop-key-preserved : goal.loop-key-preserved
 loop-key-preserved g c =
-    let so_far = c.loop-key.invariant in
-    let next = right_apart g.met.K.Eq.laws c.args.right.entries so_far.0 c.loop-key.key-iterator c.next.new.self c.in-Some.key c.in-Some.b c.into_iter-key-iterator.ensures.into_iter_gives.4 so_far.1 c.in-Some.ensures.steps in
-    (so_far.0 ++ (c.in-Some.key, c.in-Some.b) ∷ [], next.1, λ p is. c.in_ok-put_right.ensures p so_far.0 (so_far.2 p is) next.0)
+    one_right g.met.K.Eq.laws c.loop-key.yielded c.in-Some.key c.in-Some.b c.args.rows.now.entries c.loop-key.rows.entries c.put_right.new.rows.entries
+    c.loop-key.invariant c.in_ok-put_right.ensures
+
+pub returns : goal.returns
+returns g c =
+    let p = run _ _ c.loop-key.yielded true (_, c.loop-key.yielded_by, λ w. (_, c.in-None.ensures.steps)) in
+    (p, c.into_iter-key-iterator.ensures.into_iter_gives, refl, c.loop-key.invariant)
