@@ -11,8 +11,8 @@ ghost use Rattle.either_or_both.specs.OuterJoin.{BeginsJoin, ShowsPlaces};
 
 use either_or_both::EitherOrBoth;
 use either_or_both::join::{
-    law_first_call, law_join_overlaid, law_rising_hash_map, law_rising_map, law_sorted_rises,
-    outer_join, outer_join_lazily, outer_join_slices,
+    law_first_call, law_join_overlaid, law_rising_hash_map, law_rising_map, outer_join,
+    outer_join_lazily, outer_join_slices,
 };
 use indexmap::IndexMap;
 use std::alloc::{AllocError, Global};
@@ -29,19 +29,6 @@ pub fn walk_of_lists<K: Ord + Drop, A: Drop, B: Drop>(
     requires right { Rising K.cmp right.items }
     ensures { IfOk result (λ joined. IsJoin K.cmp left.items right.items joined.items) }
 {
-    outer_join_lazily(left, right).collect(alloc)
-}
-
-/// The join of two ordered maps, whose entries rise by their own contract.
-pub fn walk_of_maps<K: Ord + Drop, A: Drop, B: Drop>(
-    alloc: Global,
-    left: BTreeMap<K, A>,
-    right: BTreeMap<K, B>,
-) -> Result<Vec<(K, EitherOrBoth<A, B>)>, AllocError>
-    ensures { IfOk result (λ joined. IsJoin K.cmp left.entries right.entries joined.items) }
-{
-    law_sorted_rises::<K, A>();
-    law_sorted_rises::<K, B>();
     outer_join_lazily(left, right).collect(alloc)
 }
 

@@ -1,8 +1,8 @@
 //! Small callers that are proved from the contracts of the libraries alone, with no proof of their own: laws that join several calls,
 //! and uses as a program makes them. A module for each enum, one for collected containers, one for joins, one for the laws of joins and
-//! of aligned lists, one for groups of repeated keys, one for uses inside other types, one for streams, and three for walks: over values,
-//! over two sides, and from both ends. The module `rows` alone has short answers: rows of a join that are taken one by one. Recipes for a
-//! user stand in the crate `examples`, not here.
+//! of aligned lists, one for uses inside other types, one for streams, and three for walks: over values, over two sides, and from both
+//! ends. The module `rows` alone has short answers: rows of a join that are taken one by one. Recipes for a user stand in the crate
+//! `examples`, not here.
 #![tactic(auto)]
 
 ghost use Rattle.std.specs.Prelude.{◌≡◌, fold};
@@ -11,7 +11,6 @@ pub mod combinators;
 pub mod containers;
 pub mod either;
 pub mod ends;
-pub mod groups;
 pub mod join_laws;
 pub mod joins;
 pub mod programs;

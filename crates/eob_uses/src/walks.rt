@@ -16,17 +16,6 @@ use eob_known_lists::listed::law_nth;
 use std::alloc::{AllocError, Global};
 use std::collections::{BTreeMap, VecDeque};
 
-/// Two vectors side by side.
-pub fn side_by_side<T: Drop, U: Drop>(
-    alloc: Global,
-    a: Vec<T>,
-    b: Vec<U>,
-) -> Result<Vec<EitherOrBoth<T, U>>, AllocError>
-    ensures { IfOk result (λ v. v.items ≡ aligned a.items b.items) }
-{
-    EitherOrBoth::Both(a, b).into_iter_swap().collect(alloc)
-}
-
 /// A pair of vectors, of which one may be absent.
 pub fn pair_side_by_side<T: Drop, U: Drop>(
     alloc: Global,
