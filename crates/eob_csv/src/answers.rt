@@ -197,6 +197,7 @@ fn merge_versions<'a, R: Read + Drop>(
     )
 }
 
+// The columns of the three tables.
 fn columns_of_merge<'a, R>(
     alloc: Global,
     settings: Settings<'a>,

@@ -288,7 +288,8 @@ fn put_lefts<
 >(rows: &mut IndexMap<K, EitherOrBoth<A, B>, S, M>, left: L) -> Result<(), AllocError>
     requires can { L.can_next left }
     requires finite { IsFinite (L.remaining left) }
-    ensures { OnOk result (WholeRun L.next_gives left (λ p. rows.new.entries ≡ insert_all K.eq rows.old.entries (lefts_of p.items))) }
+    ensures { OnOk result (WholeRun L.next_gives left (λ p.
+        rows.new.entries ≡ insert_all K.eq rows.old.entries (lefts_of p.items))) }
 {
     for (key, a) in left {
         put_left(rows, key, a)?;
@@ -307,7 +308,8 @@ fn put_rights<
 >(rows: &mut IndexMap<K, EitherOrBoth<A, B>, S, M>, right: R) -> Result<(), AllocError>
     requires can { R.can_next right }
     requires finite { IsFinite (R.remaining right) }
-    ensures { OnOk result (WholeRun R.next_gives right (λ q. AddsRights K.eq A q.items rows.old.entries rows.new.entries)) }
+    ensures { OnOk result (WholeRun R.next_gives right (λ q.
+        AddsRights K.eq A q.items rows.old.entries rows.new.entries)) }
 {
     for (key, b) in right {
         put_right(rows, key, b)?;
@@ -327,7 +329,8 @@ fn put_layers<
     base: IndexMap<K, V, S, M>,
     over: IndexMap<K, V, T, M>,
 ) -> Result<(), AllocError>
-    ensures { OnOk result (rows.new.entries ≡ insert_all K.eq (insert_all K.eq rows.old.entries base.entries) over.entries) }
+    ensures { OnOk result (rows.new.entries
+        ≡ insert_all K.eq (insert_all K.eq rows.old.entries base.entries) over.entries) }
 {
     put_layer(rows, base)?;
     put_layer(rows, over)
