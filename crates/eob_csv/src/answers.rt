@@ -1,17 +1,17 @@
 //! The answer to each request, of streams.
 
 use crate::changes::{ColumnChanges, count_rows, report};
-use crate::columns::{Columns, JoinColumns, columns_of, join_columns};
-use crate::fault::{Fault, Reason};
 use crate::joined::Joining;
 use crate::merged::render_conflicts;
-use crate::opened::{Opened, Stream, Table, Two, at};
 use crate::patch::misfits;
-use crate::read::Content;
-use crate::request::{Form, Format, Kind, Settings};
+use crate::read::{Table, ToChange, read_both, read_table, read_to_change};
 use crate::written::{write_changes, write_table};
-use eob_joins::{Change, Merged};
-use eob_tables::{Cells, Group, Order, Rows, changes_of, merge_of, patched};
+use eob_joins::Merged;
+use eob_records::{
+    Columns, Content, Fault, Form, Format, JoinColumns, Kind, Opened, Reason, Settings, Stream,
+    Two, at, columns_of, join_columns,
+};
+use eob_tables::{Order, changes_of, merge_of, patched};
 use std::alloc::Global;
 use std::io::Read;
 
@@ -47,7 +47,13 @@ fn compare_versions<'a, R: Read + Drop>(
 ) -> Result<Answer, Fault<'a>> {
     let (columns, said) = compare_columns(alloc, settings, versions)?;
     let mut order = order_of(alloc, settings);
-    let tables = versions.read_rows((&columns, &columns), &mut order, settings.groups)?;
+    let tables = read_both(
+        alloc,
+        versions,
+        (&columns, &columns),
+        &mut order,
+        settings.groups,
+    )?;
     let form = settings.form;
     at(
         versions.next.file,
@@ -120,15 +126,12 @@ fn change_table<'a, R: Read + Drop>(
 ) -> Result<Answer, Fault<'a>> {
     let columns = inputs.columns(alloc, settings)?;
     let mut order = order_of(alloc, settings);
-    let tables = inputs.read_to_change(&columns, &mut order, settings.groups)?;
+    let tables = read_to_change(alloc, inputs, &columns, &mut order, settings.groups)?;
     at(
         inputs.next.file,
         changed(alloc, settings.form, &columns, &order, tables),
     )
 }
-
-// A table, and the changes to be made to it.
-type ToChange = (Table, Rows<Cells, Change<Group>>);
 
 fn changed(
     alloc: Global,
@@ -190,7 +193,7 @@ fn merge_versions<'a, R: Read + Drop>(
 ) -> Result<Answer, Fault<'a>> {
     let columns = columns_of_merge(alloc, settings, base, sides)?;
     let mut order = order_of(alloc, settings);
-    let versions = read_versions(&columns, &mut order, settings.groups, base, sides)?;
+    let versions = read_versions(alloc, &columns, &mut order, settings.groups, base, sides)?;
     at(
         sides.next.file,
         merged(alloc, settings.form, &columns, &order, versions),
@@ -217,14 +220,15 @@ type ThreeVersions = (Table, (Table, Table));
 
 // Reads three versions. The base is not written: rows come out in the order of ours, and then in that of theirs.
 fn read_versions<'a, R: Read + Drop>(
+    alloc: Global,
     columns: &Columns,
     order: &mut Order,
     repeats: bool,
     base: &mut Opened<'a, R>,
     sides: &mut Two<'a, R>,
 ) -> Result<ThreeVersions, Fault<'a>> {
-    let side_rows = sides.read_rows((columns, columns), order, repeats)?;
-    let base_rows = base.read_rows(columns, &mut Order::by_key(), repeats)?;
+    let side_rows = read_both(alloc, sides, (columns, columns), order, repeats)?;
+    let base_rows = read_table(alloc, base, columns, &mut Order::by_key(), repeats)?;
     Ok((base_rows, side_rows))
 }
 
@@ -274,7 +278,7 @@ fn join_sides<'a, R: Read + Drop>(
     let columns = columns_of_join(alloc, settings, sides)?;
     let mut order = order_of(alloc, settings);
     let under = (&columns.left, &columns.right);
-    let (left, right) = sides.read_rows(under, &mut order, settings.groups)?;
+    let (left, right) = read_both(alloc, sides, under, &mut order, settings.groups)?;
     let joining = Joining {
         alloc,
         form: settings.form,

@@ -1,9 +1,8 @@
 //! What changed between two tables, as a person reads it.
 
-use crate::columns::{Columns, place_of};
-use crate::lined_up::{Colour, Grid, Line, Shown, line_up, put_shown, show_cell};
 use either_or_both::EitherOrBoth;
 use eob_joins::{Change, group_join_unordered};
+use eob_records::{Colour, Columns, Grid, Line, Shown, line_up, place_of, put_shown, show_cell};
 use eob_tables::{Cells, Group};
 use std::alloc::{AllocError, Global};
 use std::fmt::Write;

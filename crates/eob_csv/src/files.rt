@@ -1,11 +1,9 @@
 //! From the files that a request names to its answer.
 
 use crate::answers::{Answer, change, compare, join, merge};
-use crate::fault::{Fault, Reason};
-use crate::opened::{Stream, at};
-use crate::request::{Format, Request, Settings};
 use crate::sorted::{compare_sorted, join_sorted};
 use either_or_both::Either;
+use eob_records::{Fault, Format, Reason, Request, Settings, Stream, at};
 use std::io::Write;
 use std::rt::Files;
 use std::{fs, io};

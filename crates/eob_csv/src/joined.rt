@@ -1,13 +1,11 @@
 //! Joins of two tables, written as CSV: an absent side has empty cells.
 
-use crate::columns::{JoinColumns, place_of};
-use crate::fault::Reason;
-use crate::opened::Table;
-use crate::request::{Form, Kind};
-use crate::written::{Written, write_table};
+use crate::read::Table;
+use crate::written::write_table;
 use either_or_both::EitherOrBoth;
 use either_or_both::join::outer_join;
 use eob_joins::{anti_join, inner_join, left_join, right_join, semi_join};
+use eob_records::{Form, JoinColumns, Kind, Reason, Written, place_of};
 use eob_tables::{Cells, Group, Order};
 use std::alloc::{AllocError, Global};
 

@@ -1,11 +1,10 @@
 //! Rows that both sides of a merge changed, as a person reads them.
 
 use crate::changes::heading;
-use crate::columns::Columns;
-use crate::lined_up::{Grid, line_up};
 use crate::patch::put_version;
 use either_or_both::EitherOrBoth;
 use eob_joins::Versions;
+use eob_records::{Columns, Grid, line_up};
 use eob_tables::{Cells, Group};
 use std::alloc::{AllocError, Global};
 

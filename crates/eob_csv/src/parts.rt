@@ -1,11 +1,8 @@
 //! A table whose keys rise, read part by part.
 
-use crate::columns::Columns;
-use crate::fault::{Fault, Reason};
-use crate::opened::{Opened, at};
-use crate::read::{Places, Source};
-use csv::ByteRecord;
-use eob_tables::{Cells, Group, ReadRow, Rows, gathered};
+use crate::read::{Table, gather, to_gather};
+use eob_records::{Columns, Fault, Opened, Places, Reason, Row, Source, at};
+use eob_tables::Cells;
 use std::alloc::Global;
 use std::collections::VecDeque;
 use std::io::Read;
@@ -20,7 +17,7 @@ pub struct Parts<'a, R> {
     alloc: Global,
     source: Box<Source<R>>,
     places: Places,
-    waiting: VecDeque<ReadRow>,
+    waiting: VecDeque<Row>,
     last: Option<Cells>,
     is_ended: bool,
 }
@@ -46,12 +43,11 @@ impl<'a, R: Read + Drop> Parts<'a, R> {
     }
 
     fn read_part(&mut self) -> Result<(), Reason> {
-        let mut record = ByteRecord::new(self.alloc);
         for _ in self.waiting.len()..PART {
             if self.is_ended {
                 break;
             }
-            match self.source.read_row(&self.places, &mut record)? {
+            match self.source.read_row(&self.places)? {
                 Some(row) => self.put(row)?,
                 None => self.is_ended = true,
             }
@@ -59,7 +55,7 @@ impl<'a, R: Read + Drop> Parts<'a, R> {
         Ok(())
     }
 
-    fn put(&mut self, row: ReadRow) -> Result<(), Reason> {
+    fn put(&mut self, row: Row) -> Result<(), Reason> {
         if let Some(last) = &self.last {
             if row.key <= *last {
                 return Err(Reason::NotRising(row.line));
@@ -80,21 +76,21 @@ impl<'a, R: Read + Drop> Parts<'a, R> {
     }
 
     /// Takes the rows up to a key, or all that wait.
-    pub fn take(&mut self, bound: &Option<Cells>) -> Result<Rows<Cells, Group>, Fault<'a>> {
+    pub fn take(&mut self, bound: &Option<Cells>) -> Result<Table, Fault<'a>> {
         at(self.file, self.rows_up_to(bound))
     }
 
-    fn rows_up_to(&mut self, bound: &Option<Cells>) -> Result<Rows<Cells, Group>, Reason> {
+    fn rows_up_to(&mut self, bound: &Option<Cells>) -> Result<Table, Reason> {
         let mut rows = Vec::new(self.alloc);
         for _ in 0..self.waiting.len() {
             if !self.is_within(bound) {
                 break;
             }
             if let Some(row) = self.waiting.pop_front() {
-                rows.push(row)?;
+                rows.push(to_gather(row))?;
             }
         }
-        Ok(gathered(self.alloc, rows, false)?)
+        gather(self.alloc, rows, false)
     }
 
     // Whether a row waits that is not beyond a key.

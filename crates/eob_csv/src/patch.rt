@@ -1,10 +1,9 @@
 //! Changes that do not fit a table, as a person reads them.
 
 use crate::changes::{heading, line_under};
-use crate::columns::Columns;
-use crate::lined_up::{Grid, line_up, put_shown};
 use either_or_both::join::outer_join_slices;
 use eob_joins::Change;
+use eob_records::{Columns, Grid, line_up, put_shown};
 use eob_tables::{Cells, Group, Rows};
 use std::alloc::{AllocError, Global};
 

@@ -3,14 +3,13 @@
 //! Where all rows of both tables up to a key are read, their join is the first part of the whole join (`law_cut_join` of `eob_joins`).
 
 use crate::answers::{Answer, columns_of_join, compare_columns};
-use crate::columns::{Columns, JoinColumns};
-use crate::fault::{Fault, Reason};
 use crate::joined::Joining;
-use crate::opened::{Stream, Table, Two, at};
 use crate::parts::Parts;
-use crate::read::Content;
-use crate::request::{Form, Kind, Settings};
+use crate::read::Table;
 use crate::written::write_changes;
+use eob_records::{
+    Columns, Content, Fault, Form, JoinColumns, Kind, Reason, Settings, Stream, Two, at,
+};
 use eob_tables::{Cells, Order, changes_of};
 use std::alloc::{AllocError, Global};
 use std::io::{Read, Write};

@@ -1,104 +1,9 @@
 //! Tables written as CSV, whole, in memory.
 
-use crate::columns::Columns;
-use crate::fault::Reason;
-use crate::request::Form;
-use csv::{Writer, WriterBuilder};
 use eob_joins::Change;
+use eob_records::{Columns, Form, Reason, Written};
 use eob_tables::{Cells, Group};
 use std::alloc::Global;
-
-/// A table in the making.
-#[derive(Drop)]
-pub struct Written {
-    writer: Writer<Vec<u8>>,
-}
-
-impl Written {
-    /// No row yet.
-    pub fn new(alloc: Global, form: Form) -> Self {
-        Written {
-            writer: WriterBuilder::new()
-                .delimiter(form.delimiter)
-                .from_writer(Vec::new(alloc)),
-        }
-    }
-
-    /// Puts cells into the row.
-    pub fn put(&mut self, cells: &[Vec<u8>]) -> Result<(), Reason> {
-        for cell in cells {
-            self.writer.write_field(cell)?;
-        }
-        Ok(())
-    }
-
-    /// Puts one cell into the row.
-    pub fn put_cell(&mut self, cell: &[u8]) -> Result<(), Reason> {
-        self.writer.write_field(cell)?;
-        Ok(())
-    }
-
-    /// Ends the row.
-    pub fn end_row(&mut self) -> Result<(), Reason> {
-        self.writer.end_record()?;
-        Ok(())
-    }
-
-    /// The bytes of all rows.
-    pub fn finish(self) -> Result<Vec<u8>, Reason> {
-        match self.writer.into_inner() {
-            Ok(bytes) => Ok(bytes),
-            Err(error) => Err(Reason::from(error.into_error())),
-        }
-    }
-
-    /// Puts the cells of a whole row, in the order of the columns, and ends it.
-    pub fn put_row(
-        &mut self,
-        columns: &Columns,
-        key: &[Vec<u8>],
-        rest: &[Vec<u8>],
-    ) -> Result<(), Reason> {
-        for place in &columns.order {
-            self.put_cell(place.cell(key, rest))?;
-        }
-        self.end_row()
-    }
-
-    // Puts the rows under a key, each behind a sign where there is one.
-    fn put_rows(
-        &mut self,
-        sign: Option<&[u8]>,
-        columns: &Columns,
-        key: &[Vec<u8>],
-        rows: &[Cells],
-    ) -> Result<(), Reason> {
-        for rest in rows {
-            if let Some(sign) = sign {
-                self.put_cell(sign)?;
-            }
-            self.put_row(columns, key, rest)?;
-        }
-        Ok(())
-    }
-
-    // Puts the rows under a key that go, and then those that come.
-    fn put_change(
-        &mut self,
-        columns: &Columns,
-        key: &[Vec<u8>],
-        change: &Change<Group>,
-    ) -> Result<(), Reason> {
-        let (old, new) = change.as_ref().unzip();
-        if let Some(rows) = old {
-            self.put_rows(Some(b"-"), columns, key, rows)?;
-        }
-        if let Some(rows) = new {
-            self.put_rows(Some(b"+"), columns, key, rows)?;
-        }
-        Ok(())
-    }
-}
 
 /// A table: its header, if it has one, and its rows.
 pub fn write_table(
@@ -130,7 +35,24 @@ pub fn write_changes(
         written.put_row(columns, &columns.key, &columns.rest)?;
     }
     for (key, change) in changes {
-        written.put_change(columns, key, change)?;
+        put_change(&mut written, columns, key, change)?;
     }
     written.finish()
+}
+
+// Puts the rows under a key that go, and then those that come.
+fn put_change(
+    written: &mut Written,
+    columns: &Columns,
+    key: &[Vec<u8>],
+    change: &Change<Group>,
+) -> Result<(), Reason> {
+    let (old, new) = change.as_ref().unzip();
+    if let Some(rows) = old {
+        written.put_rows(Some(b"-"), columns, key, rows)?;
+    }
+    if let Some(rows) = new {
+        written.put_rows(Some(b"+"), columns, key, rows)?;
+    }
+    Ok(())
 }

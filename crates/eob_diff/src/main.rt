@@ -1,10 +1,9 @@
 //! `eob_diff`: what changed between two tables, tables joined, changed and merged by key.
 //!
-//! Here the process is handed to the run. What the command line asks for stands in `arguments`, how a request is answered in the crate
-//! `eob_csv`.
+//! Here the process is handed to the run. What the command line asks for stands in the crate `eob_arguments`, how a request is answered
+//! in `eob_csv`.
 #![tactic(auto)]
 
-mod arguments;
 mod run;
 
 use std::process::ExitCode;

@@ -1,6 +1,6 @@
 //! From the process to the request, and from the answer to the process: the streams, and how the program ends.
 
-use crate::arguments::parse;
+use eob_arguments::parse;
 use eob_csv::{Fault, Reason, Request, Settings, stream_request, write_request};
 use std::env::FillError;
 use std::io::{IsTerminal, Write};

@@ -1,7 +1,7 @@
 //! What can be wrong with an input, and the line that says so.
 
 use crate::lined_up::Shown;
-use eob_tables::{Cells, Ungathered};
+use crate::row::Cells;
 use std::alloc::{AllocError, AllocFailed};
 use std::{fmt, io};
 
@@ -58,17 +58,6 @@ impl From<AllocError> for Reason {
 impl<T: Drop> From<AllocFailed<T>> for Reason {
     fn from(_refused: AllocFailed<T>) -> Self {
         Reason::NoMemory
-    }
-}
-
-impl From<Ungathered> for Reason {
-    fn from(error: Ungathered) -> Self {
-        match error {
-            Ungathered::NoMemory => Reason::NoMemory,
-            Ungathered::RepeatedKey { key, first, second } => {
-                Reason::RepeatedKey { key, first, second }
-            }
-        }
     }
 }
 

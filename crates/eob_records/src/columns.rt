@@ -1,7 +1,7 @@
 //! The columns of tables: from headers to the columns of what is written.
 
 use crate::request::Settings;
-use eob_tables::Cells;
+use crate::row::Cells;
 use std::alloc::{AllocError, Global};
 
 /// The names of a table's columns: those that are its key, the others, and in which order they are written.

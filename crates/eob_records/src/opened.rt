@@ -2,15 +2,10 @@
 
 use crate::columns::{Columns, columns_of};
 use crate::fault::{Fault, Reason};
-use crate::read::{Content, Source};
 use crate::request::Settings;
-use eob_joins::Change;
-use eob_tables::{Cells, Group, Order, Rows};
+use crate::source::{Content, Source};
 use std::alloc::Global;
 use std::io::Read;
-
-/// The rows of a table, by key.
-pub type Table = Rows<Cells, Group>;
 
 /// A file by its name, with what its bytes are read from, or why it can't be opened.
 #[derive(Drop)]
@@ -61,34 +56,6 @@ impl<'a, R: Read + Drop> Opened<'a, R> {
         let source = at(file, Source::open(alloc, reader, settings.form, content))?;
         Ok(Opened { file, source })
     }
-
-    /// Reads the rows (`Source::read_rows`).
-    ///
-    /// # Errors
-    ///
-    /// Returns the error of `Source::read_rows`, as a fault of the file.
-    pub fn read_rows(
-        &mut self,
-        columns: &Columns,
-        order: &mut Order,
-        repeats: bool,
-    ) -> Result<Table, Fault<'a>> {
-        at(self.file, self.source.read_rows(columns, order, repeats))
-    }
-
-    /// Reads changes (`Source::read_changes`).
-    ///
-    /// # Errors
-    ///
-    /// Returns the error of `Source::read_changes`, as a fault of the file.
-    pub fn read_changes(
-        &mut self,
-        columns: &Columns,
-        order: &mut Order,
-        repeats: bool,
-    ) -> Result<Rows<Cells, Change<Group>>, Fault<'a>> {
-        at(self.file, self.source.read_changes(columns, order, repeats))
-    }
 }
 
 /// Two tables, or a table and the changes to be made to it.
@@ -129,37 +96,5 @@ impl<'a, R: Read + Drop> Two<'a, R> {
         let first = Opened::new(alloc, settings, Content::Rows, first)?;
         let next = Opened::new(alloc, settings, content, next)?;
         Ok(Two { first, next })
-    }
-
-    /// Reads the rows of both, each under its columns (`Source::read_rows`).
-    ///
-    /// # Errors
-    ///
-    /// Returns the error of `Source::read_rows`, as a fault of the file.
-    pub fn read_rows(
-        &mut self,
-        columns: (&Columns, &Columns),
-        order: &mut Order,
-        repeats: bool,
-    ) -> Result<(Table, Table), Fault<'a>> {
-        let first = self.first.read_rows(columns.0, order, repeats)?;
-        let next = self.next.read_rows(columns.1, order, repeats)?;
-        Ok((first, next))
-    }
-
-    /// Reads the rows of the first, and the changes to be made to it (`Source::read_changes`).
-    ///
-    /// # Errors
-    ///
-    /// Returns the error of `Source::read_rows` or `Source::read_changes`, as a fault of the file.
-    pub fn read_to_change(
-        &mut self,
-        columns: &Columns,
-        order: &mut Order,
-        repeats: bool,
-    ) -> Result<(Table, Rows<Cells, Change<Group>>), Fault<'a>> {
-        let rows = self.first.read_rows(columns, order, repeats)?;
-        let changes = self.next.read_changes(columns, order, repeats)?;
-        Ok((rows, changes))
     }
 }

@@ -1,7 +1,8 @@
-//! What the command line asks for.
+//! What the command line of `eob_diff` asks for.
+#![tactic(auto)]
 
 use clap::{Arg, ArgAction, ArgMatches, Command, Error};
-use eob_csv::{Form, Format, Kind, Request, Settings};
+use eob_records::{Form, Format, Kind, Request, Settings};
 use std::alloc::{AllocError, Global};
 
 /// The request that the words of a command line make, with its settings, or None for them where the delimiter is not one byte that may
