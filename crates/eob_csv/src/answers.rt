@@ -1,15 +1,15 @@
 //! The answer to each request, of streams.
 
-use crate::changes::{ColumnChanges, count_rows, report};
+use crate::changes::{count_rows, report};
 use crate::joined::Joining;
 use crate::merged::render_conflicts;
 use crate::patch::misfits;
 use crate::read::{Table, ToChange, read_both, read_table, read_to_change};
-use crate::written::{write_changes, write_table};
+use crate::written::write_changes;
 use eob_joins::Merged;
 use eob_records::{
-    Columns, Content, Fault, Form, Format, JoinColumns, Kind, Opened, Reason, Settings, Stream,
-    Two, at, columns_of, join_columns,
+    ColumnChanges, Columns, Content, Fault, Form, Format, JoinColumns, Kind, Opened, Reason,
+    Settings, Stream, Two, at, columns_of, join_columns, write_table,
 };
 use eob_tables::{Order, changes_of, merge_of, patched};
 use std::alloc::Global;

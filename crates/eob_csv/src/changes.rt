@@ -2,7 +2,7 @@
 
 use either_or_both::EitherOrBoth;
 use eob_joins::{Change, group_join_unordered};
-use eob_records::{Colour, Columns, Grid, Line, Shown, line_up, place_of, put_shown, show_cell};
+use eob_records::{Colour, Columns, Grid, Line, heading, line_under, line_up, put_both, put_shown};
 use eob_tables::{Cells, Group};
 use std::alloc::{AllocError, Global};
 use std::fmt::Write;
@@ -160,78 +160,6 @@ fn render_rows(
     line_up(alloc, &grid)
 }
 
-/// What became of the columns: a line for each that one version alone has, and for another order of those that both have.
-#[derive(Drop)]
-pub struct ColumnChanges {
-    pub text: String,
-    pub has_lone: bool,
-}
-
-impl ColumnChanges {
-    /// Compares the columns of two headers. One that is empty, as of an empty file, says nothing of columns.
-    pub fn new(
-        alloc: Global,
-        old: &[Vec<u8>],
-        new: &[Vec<u8>],
-    ) -> Result<ColumnChanges, AllocError> {
-        let mut text = String::new(alloc);
-        if old.is_empty() || new.is_empty() {
-            return Ok(ColumnChanges {
-                text,
-                has_lone: false,
-            });
-        }
-        say_lone(&mut text, new, old, "added")?;
-        say_lone(&mut text, old, new, "removed")?;
-        let has_lone = !text.is_empty();
-        if !is_same_order(old, new) {
-            writeln!(text, "columns in another order")?;
-        }
-        Ok(ColumnChanges { text, has_lone })
-    }
-}
-
-// Says what became of each name that is not among the others.
-fn say_lone(
-    text: &mut String,
-    names: &[Vec<u8>],
-    others: &[Vec<u8>],
-    word: &str,
-) -> Result<(), AllocError> {
-    for name in names {
-        if place_of(others, name).is_none() {
-            writeln!(text, "column {} {word}", Shown(name))?;
-        }
-    }
-    Ok(())
-}
-
-// Whether the names that both headers have stand in the same order.
-fn is_same_order(old: &[Vec<u8>], new: &[Vec<u8>]) -> bool {
-    let shared = old.iter().filter(|name| place_of(new, name).is_some());
-    let shared_of_new = new.iter().filter(|name| place_of(old, name).is_some());
-    shared.zip(shared_of_new).all(|(name, other)| name == other)
-}
-
-/// The names of the columns, behind an empty cell.
-pub fn heading(alloc: Global, columns: &Columns) -> Result<Line, AllocError> {
-    let mut line = line_under(alloc, "", &columns.key)?;
-    put_shown(alloc, &mut line, &columns.rest)?;
-    Ok(line)
-}
-
-/// A line with no colour that begins with a word and the cells of a key.
-pub fn line_under(alloc: Global, word: &str, key: &[Vec<u8>]) -> Result<Line, AllocError> {
-    let mut cells = Vec::new(alloc);
-    cells.push(String::from_str(alloc, word)?)?;
-    let mut line = Line {
-        colour: None,
-        cells,
-    };
-    put_shown(alloc, &mut line, key)?;
-    Ok(line)
-}
-
 // The line of a row that changed.
 fn line_of(alloc: Global, has_colour: bool, row: &RowChange<'_>) -> Result<Line, AllocError> {
     let (key, change) = *row;
@@ -244,22 +172,9 @@ fn line_of(alloc: Global, has_colour: bool, row: &RowChange<'_>) -> Result<Line,
         EitherOrBoth::Left(cells) | EitherOrBoth::Right(cells) => {
             put_shown(alloc, &mut line, cells)?
         }
-        EitherOrBoth::Both(old, new) => put_changed(alloc, &mut line, old, new)?,
+        EitherOrBoth::Both(old, new) => put_both(alloc, &mut line, old, new)?,
     }
     Ok(line)
-}
-
-// Puts the cells of both versions of a row.
-fn put_changed(
-    alloc: Global,
-    line: &mut Line,
-    old: &[Vec<u8>],
-    new: &[Vec<u8>],
-) -> Result<(), AllocError> {
-    for (cell, next) in old.iter().zip(new.iter()) {
-        line.cells.push(changed_cell(alloc, cell, next)?)?;
-    }
-    Ok(())
 }
 
 // What is said of a row that changed, and its colour.
@@ -268,14 +183,5 @@ fn mark(change: Change<&Cells>) -> (&'static str, Colour) {
         EitherOrBoth::Left(_) => ("removed", Colour::Red),
         EitherOrBoth::Both(..) => ("changed", Colour::Yellow),
         EitherOrBoth::Right(_) => ("added", Colour::Green),
-    }
-}
-
-// A cell of both versions: once where they agree.
-fn changed_cell(alloc: Global, old: &[u8], new: &[u8]) -> Result<String, AllocError> {
-    if old == new {
-        show_cell(alloc, old)
-    } else {
-        format!(in alloc; "{} -> {}", Shown(old), Shown(new))
     }
 }

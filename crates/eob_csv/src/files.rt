@@ -37,7 +37,7 @@ pub fn stream_request<'a, R: Files + Input + AllocGlobal, W: Write>(
     request: Request<'a>,
     output: &mut W,
 ) -> Result<u8, Fault<'a>> {
-    check_stdin(request)?;
+    request.check_stdin()?;
     let alloc = rt.alloc();
     match request {
         Request::Diff {
@@ -79,7 +79,7 @@ pub fn answer_request<'a, R: Files + Input + AllocGlobal>(
     settings: Settings<'a>,
     request: Request<'a>,
 ) -> Result<Answer, Fault<'a>> {
-    check_stdin(request)?;
+    request.check_stdin()?;
     let alloc = rt.alloc();
     match request {
         Request::Diff { old, new, format } => {
@@ -99,24 +99,6 @@ pub fn answer_request<'a, R: Files + Input + AllocGlobal>(
             let left = stream_of(rt, left);
             join(alloc, settings, kind, left, stream_of(rt, right))
         }
-    }
-}
-
-// One of the files at most is the standard input.
-fn check_stdin<'a>(request: Request<'_>) -> Result<(), Fault<'a>> {
-    let files = match request {
-        Request::Diff { old, new, .. } => [old, new, ""],
-        Request::Apply { old, changes } => [old, changes, ""],
-        Request::Merge { base, ours, theirs } => [base, ours, theirs],
-        Request::Join { left, right, .. } => [left, right, ""],
-    };
-    if files.iter().filter(|file| **file == "-").count() > 1 {
-        Err(Fault {
-            file: "-",
-            reason: Reason::TwiceStdin,
-        })
-    } else {
-        Ok(())
     }
 }
 

@@ -1,11 +1,10 @@
 //! Joins of two tables, written as CSV: an absent side has empty cells.
 
 use crate::read::Table;
-use crate::written::write_table;
 use either_or_both::EitherOrBoth;
 use either_or_both::join::outer_join;
 use eob_joins::{anti_join, inner_join, left_join, right_join, semi_join};
-use eob_records::{Form, JoinColumns, Kind, Reason, Written, place_of};
+use eob_records::{Form, JoinColumns, Kind, Reason, Written, write_table};
 use eob_tables::{Cells, Group, Order};
 use std::alloc::{AllocError, Global};
 
@@ -75,7 +74,7 @@ impl Joining<'_> {
         let rows = self.order.arrange(rows?)?;
         let mut written = self.begin(T::TELLS_SIDE)?;
         for (key, row) in &rows {
-            put_rows(&mut written, self.columns, T::TELLS_SIDE, key, row.sides())?;
+            written.put_joined(self.columns, T::TELLS_SIDE, key, row.sides())?;
         }
         written.finish()
     }
@@ -86,93 +85,12 @@ impl Joining<'_> {
         write_table(self.alloc, self.form, &self.columns.left, &rows)
     }
 
-    // The header, where tables have one. A name that both tables have is told apart by a word before it.
+    // The header, where tables have one.
     fn begin(self, has_side: bool) -> Result<Written, Reason> {
         let mut written = Written::new(self.alloc, self.form);
         if self.form.has_header {
-            self.put_heading(&mut written, has_side)?;
+            written.put_join_heading(self.alloc, self.columns, has_side)?;
         }
         Ok(written)
     }
-
-    fn put_heading(self, written: &mut Written, has_side: bool) -> Result<(), Reason> {
-        let left = &self.columns.left;
-        let right = &self.columns.right;
-        if has_side {
-            written.put_cell(b"side")?;
-        }
-        written.put(&left.key)?;
-        put_names(self.alloc, written, b"left.", &left.rest, &right.rest)?;
-        put_names(self.alloc, written, b"right.", &right.rest, &left.rest)?;
-        written.end_row()
-    }
-}
-
-fn put_names(
-    alloc: Global,
-    written: &mut Written,
-    word: &[u8],
-    names: &[Vec<u8>],
-    others: &[Vec<u8>],
-) -> Result<(), Reason> {
-    for name in names {
-        let mut shown = Vec::new(alloc);
-        if place_of(others, name).is_some() {
-            shown.extend_from_slice(word)?;
-        }
-        shown.extend_from_slice(name)?;
-        written.put_cell(&shown)?;
-    }
-    Ok(())
-}
-
-// Each row of the left side with each row of the right one. An absent side is one row of empty cells.
-fn put_rows(
-    written: &mut Written,
-    columns: &JoinColumns,
-    tells_side: bool,
-    key: &[Vec<u8>],
-    sides: (Option<&Group>, Option<&Group>),
-) -> Result<(), Reason> {
-    let (left, right) = sides;
-    for a in 0..left.map_or(1, |rows| rows.len()) {
-        for b in 0..right.map_or(1, |rows| rows.len()) {
-            if tells_side {
-                written.put_cell(side_of(left, right))?;
-            }
-            written.put(key)?;
-            put_side(written, left, a, columns.left.rest.len())?;
-            put_side(written, right, b, columns.right.rest.len())?;
-            written.end_row()?;
-        }
-    }
-    Ok(())
-}
-
-// Which of the tables have a row.
-fn side_of(left: Option<&Group>, right: Option<&Group>) -> &'static [u8] {
-    if right.is_none() {
-        b"left"
-    } else if left.is_none() {
-        b"right"
-    } else {
-        b"both"
-    }
-}
-
-fn put_side(
-    written: &mut Written,
-    side: Option<&Group>,
-    place: usize,
-    width: usize,
-) -> Result<(), Reason> {
-    match side.and_then(|rows| rows.get(place)) {
-        Some(cells) => written.put(cells)?,
-        None => {
-            for _ in 0..width {
-                written.put_cell(b"")?;
-            }
-        }
-    }
-    Ok(())
 }

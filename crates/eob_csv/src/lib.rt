@@ -9,7 +9,6 @@ mod changes;
 mod files;
 mod joined;
 mod merged;
-mod parts;
 mod patch;
 mod read;
 mod sorted;

@@ -1,10 +1,8 @@
 //! Rows that both sides of a merge changed, as a person reads them.
 
-use crate::changes::heading;
-use crate::patch::put_version;
 use either_or_both::EitherOrBoth;
 use eob_joins::Versions;
-use eob_records::{Columns, Grid, line_up};
+use eob_records::{Columns, Grid, heading, line_up, put_version};
 use eob_tables::{Cells, Group};
 use std::alloc::{AllocError, Global};
 

@@ -1,9 +1,8 @@
 //! Changes that do not fit a table, as a person reads them.
 
-use crate::changes::{heading, line_under};
 use either_or_both::join::outer_join_slices;
 use eob_joins::Change;
-use eob_records::{Columns, Grid, line_up, put_shown};
+use eob_records::{Columns, Grid, heading, line_up, put_version};
 use eob_tables::{Cells, Group, Rows};
 use std::alloc::{AllocError, Global};
 
@@ -41,37 +40,4 @@ fn put_misfit(
     }
     put_version(alloc, grid, "table", key, has)?;
     put_version(alloc, grid, "change", key, wants)
-}
-
-/// Puts a version of the rows under a key, a line each.
-pub fn put_version(
-    alloc: Global,
-    grid: &mut Grid,
-    name: &str,
-    key: &[Vec<u8>],
-    group: Option<&Group>,
-) -> Result<(), AllocError> {
-    match group {
-        Some(rows) => {
-            for cells in rows {
-                let mut line = line_under(alloc, name, key)?;
-                put_shown(alloc, &mut line, cells)?;
-                grid.push(line)?;
-            }
-            Ok(())
-        }
-        None => put_no_row(alloc, grid, name, key),
-    }
-}
-
-fn put_no_row(
-    alloc: Global,
-    grid: &mut Grid,
-    name: &str,
-    key: &[Vec<u8>],
-) -> Result<(), AllocError> {
-    let mut line = line_under(alloc, name, key)?;
-    line.cells.push(String::from_str(alloc, "(no row)")?)?;
-    grid.push(line)?;
-    Ok(())
 }

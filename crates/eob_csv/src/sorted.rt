@@ -4,11 +4,10 @@
 
 use crate::answers::{Answer, columns_of_join, compare_columns};
 use crate::joined::Joining;
-use crate::parts::Parts;
-use crate::read::Table;
+use crate::read::{Table, gather, to_gather};
 use crate::written::write_changes;
 use eob_records::{
-    Columns, Content, Fault, Form, JoinColumns, Kind, Reason, Settings, Stream, Two, at,
+    Columns, Content, Fault, Form, JoinColumns, Kind, Parts, Reason, Settings, Stream, Two, at,
 };
 use eob_tables::{Cells, Order, changes_of};
 use std::alloc::{AllocError, Global};
@@ -151,7 +150,7 @@ fn write_part<'a, R: Read + Drop, W: Write>(
     right: &mut Parts<'a, R>,
     output: &mut W,
 ) -> Result<(u8, bool), Fault<'a>> {
-    let (left_rows, right_rows, is_last) = next_part(left, right)?;
+    let (left_rows, right_rows, is_last) = next_part(alloc, left, right)?;
     let part = at(right.file, work.answer(alloc, form, left_rows, right_rows))?;
     at("the standard output", output.write_all(&part.bytes))?;
     Ok((part.status, is_last))
@@ -161,15 +160,32 @@ fn write_part<'a, R: Read + Drop, W: Write>(
 type Part = (Table, Table, bool);
 
 fn next_part<'a, R: Read + Drop>(
+    alloc: Global,
     left: &mut Parts<'a, R>,
     right: &mut Parts<'a, R>,
 ) -> Result<Part, Fault<'a>> {
     left.fill()?;
     right.fill()?;
     let bound = at(left.file, lesser(left.bound(), right.bound()))?;
-    let left_rows = left.take(&bound)?;
-    let right_rows = right.take(&bound)?;
+    let left_rows = at(left.file, rows_up_to(alloc, left, &bound))?;
+    let right_rows = at(right.file, rows_up_to(alloc, right, &bound))?;
     Ok((left_rows, right_rows, bound.is_none()))
+}
+
+// The rows that wait up to a key, or all of them.
+fn rows_up_to<R: Read + Drop>(
+    alloc: Global,
+    parts: &mut Parts<'_, R>,
+    bound: &Option<Cells>,
+) -> Result<Table, Reason> {
+    let mut rows = Vec::new(alloc);
+    for _ in 0..u64::MAX {
+        match parts.pop(bound) {
+            Some(row) => rows.push(to_gather(row))?,
+            None => break,
+        }
+    }
+    gather(alloc, rows, false)
 }
 
 // The lesser key of those that are there.

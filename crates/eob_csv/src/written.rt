@@ -1,26 +1,9 @@
-//! Tables written as CSV, whole, in memory.
+//! Changes written as CSV, whole, in memory.
 
 use eob_joins::Change;
 use eob_records::{Columns, Form, Reason, Written};
 use eob_tables::{Cells, Group};
 use std::alloc::Global;
-
-/// A table: its header, if it has one, and its rows.
-pub fn write_table(
-    alloc: Global,
-    form: Form,
-    columns: &Columns,
-    rows: &[(Cells, Group)],
-) -> Result<Vec<u8>, Reason> {
-    let mut written = Written::new(alloc, form);
-    if form.has_header {
-        written.put_row(columns, &columns.key, &columns.rest)?;
-    }
-    for row in rows {
-        written.put_rows(None, columns, &row.0, &row.1)?;
-    }
-    written.finish()
-}
 
 /// Changes, as `apply` reads them: a row that goes begins with `-`, one that comes with `+`.
 pub fn write_changes(

@@ -1,5 +1,7 @@
 //! Text as a person reads it in a terminal: a cell on one line, and cells lined up in columns.
 
+use crate::columns::Columns;
+use crate::row::Cells;
 use std::alloc::{AllocError, Global};
 use std::fmt;
 use unicode_width::UnicodeWidthStr;
@@ -64,8 +66,8 @@ pub struct Line {
 /// Lines of cells.
 pub type Grid = Vec<Line>;
 
-/// A cell as text on one line.
-pub fn show_cell(alloc: Global, cell: &[u8]) -> Result<String, AllocError> {
+// A cell as text on one line.
+fn show_cell(alloc: Global, cell: &[u8]) -> Result<String, AllocError> {
     format!(in alloc; "{}", Shown(cell))
 }
 
@@ -74,6 +76,80 @@ pub fn put_shown(alloc: Global, line: &mut Line, cells: &[Vec<u8>]) -> Result<()
     for cell in cells {
         line.cells.push(show_cell(alloc, cell)?)?;
     }
+    Ok(())
+}
+
+/// The names of the columns, behind an empty cell.
+pub fn heading(alloc: Global, columns: &Columns) -> Result<Line, AllocError> {
+    let mut line = line_under(alloc, "", &columns.key)?;
+    put_shown(alloc, &mut line, &columns.rest)?;
+    Ok(line)
+}
+
+/// A line with no colour that begins with a word and the cells of a key.
+pub fn line_under(alloc: Global, word: &str, key: &[Vec<u8>]) -> Result<Line, AllocError> {
+    let mut cells = Vec::new(alloc);
+    cells.push(String::from_str(alloc, word)?)?;
+    let mut line = Line {
+        colour: None,
+        cells,
+    };
+    put_shown(alloc, &mut line, key)?;
+    Ok(line)
+}
+
+/// Puts the cells of both versions of a row behind those of a line, each pair as one cell.
+pub fn put_both(
+    alloc: Global,
+    line: &mut Line,
+    old: &[Vec<u8>],
+    new: &[Vec<u8>],
+) -> Result<(), AllocError> {
+    for (cell, next) in old.iter().zip(new.iter()) {
+        line.cells.push(both_cells(alloc, cell, next)?)?;
+    }
+    Ok(())
+}
+
+// A cell of both versions: once where they agree.
+fn both_cells(alloc: Global, old: &[u8], new: &[u8]) -> Result<String, AllocError> {
+    if old == new {
+        show_cell(alloc, old)
+    } else {
+        format!(in alloc; "{} -> {}", Shown(old), Shown(new))
+    }
+}
+
+/// Puts a version of the rows under a key, a line each.
+pub fn put_version(
+    alloc: Global,
+    grid: &mut Grid,
+    name: &str,
+    key: &[Vec<u8>],
+    rows: Option<&Vec<Cells>>,
+) -> Result<(), AllocError> {
+    match rows {
+        Some(rows) => {
+            for cells in rows {
+                let mut line = line_under(alloc, name, key)?;
+                put_shown(alloc, &mut line, cells)?;
+                grid.push(line)?;
+            }
+            Ok(())
+        }
+        None => put_no_row(alloc, grid, name, key),
+    }
+}
+
+fn put_no_row(
+    alloc: Global,
+    grid: &mut Grid,
+    name: &str,
+    key: &[Vec<u8>],
+) -> Result<(), AllocError> {
+    let mut line = line_under(alloc, name, key)?;
+    line.cells.push(String::from_str(alloc, "(no row)")?)?;
+    grid.push(line)?;
     Ok(())
 }
 

@@ -1,5 +1,7 @@
 //! What is asked for of which tables, and the settings of every request.
 
+use crate::fault::{Fault, Reason};
+
 /// How tables are written: the byte between cells, and whether the first row is a header. Where it is not, columns are named by number.
 #[derive(Clone, Copy)]
 pub struct Form {
@@ -64,4 +66,28 @@ pub enum Request<'a> {
         right: &'a str,
         kind: Kind,
     },
+}
+
+impl Request<'_> {
+    /// Tells that no more than one of the files is the standard input.
+    ///
+    /// # Errors
+    ///
+    /// Returns `TwiceStdin` if the standard input is named twice.
+    pub fn check_stdin<'a>(self) -> Result<(), Fault<'a>> {
+        let files = match self {
+            Request::Diff { old, new, .. } => [old, new, ""],
+            Request::Apply { old, changes } => [old, changes, ""],
+            Request::Merge { base, ours, theirs } => [base, ours, theirs],
+            Request::Join { left, right, .. } => [left, right, ""],
+        };
+        if files.iter().filter(|file| **file == "-").count() > 1 {
+            Err(Fault {
+                file: "-",
+                reason: Reason::TwiceStdin,
+            })
+        } else {
+            Ok(())
+        }
+    }
 }

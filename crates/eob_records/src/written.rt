@@ -81,3 +81,20 @@ impl Written {
         Ok(())
     }
 }
+
+/// A table as CSV: its header, if it has one, and its rows, by key.
+pub fn write_table(
+    alloc: Global,
+    form: Form,
+    columns: &Columns,
+    rows: &[(Cells, Vec<Cells>)],
+) -> Result<Vec<u8>, Reason> {
+    let mut written = Written::new(alloc, form);
+    if form.has_header {
+        written.put_row(columns, &columns.key, &columns.rest)?;
+    }
+    for row in rows {
+        written.put_rows(None, columns, &row.0, &row.1)?;
+    }
+    written.finish()
+}

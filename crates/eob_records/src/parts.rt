@@ -1,8 +1,10 @@
 //! A table whose keys rise, read part by part.
 
-use crate::read::{Table, gather, to_gather};
-use eob_records::{Columns, Fault, Opened, Places, Reason, Row, Source, at};
-use eob_tables::Cells;
+use crate::columns::Columns;
+use crate::fault::{Fault, Reason};
+use crate::opened::{Opened, at};
+use crate::row::{Cells, Row};
+use crate::source::{Places, Source};
 use std::alloc::Global;
 use std::collections::VecDeque;
 use std::io::Read;
@@ -14,7 +16,6 @@ const PART: usize = 512;
 #[derive(Drop)]
 pub struct Parts<'a, R> {
     pub file: &'a str,
-    alloc: Global,
     source: Box<Source<R>>,
     places: Places,
     waiting: VecDeque<Row>,
@@ -28,7 +29,6 @@ impl<'a, R: Read + Drop> Parts<'a, R> {
         let places = at(table.file, table.source.places(columns))?;
         Ok(Parts {
             file: table.file,
-            alloc,
             source: table.source,
             places,
             waiting: VecDeque::new(alloc),
@@ -75,22 +75,13 @@ impl<'a, R: Read + Drop> Parts<'a, R> {
         }
     }
 
-    /// Takes the rows up to a key, or all that wait.
-    pub fn take(&mut self, bound: &Option<Cells>) -> Result<Table, Fault<'a>> {
-        at(self.file, self.rows_up_to(bound))
-    }
-
-    fn rows_up_to(&mut self, bound: &Option<Cells>) -> Result<Table, Reason> {
-        let mut rows = Vec::new(self.alloc);
-        for _ in 0..self.waiting.len() {
-            if !self.is_within(bound) {
-                break;
-            }
-            if let Some(row) = self.waiting.pop_front() {
-                rows.push(to_gather(row))?;
-            }
+    /// Takes the next row that waits, unless it is beyond a key.
+    pub fn pop(&mut self, bound: &Option<Cells>) -> Option<Row> {
+        if self.is_within(bound) {
+            self.waiting.pop_front()
+        } else {
+            None
         }
-        gather(self.alloc, rows, false)
     }
 
     // Whether a row waits that is not beyond a key.
