@@ -1,0 +1,8 @@
+use Rattle.std.proofs.Common.{rules}
+use Rattle.eob_both.proofs.either_or_both.EitherOrBoth.is_both_or.Goals as goal
+
+pub g-requires : goal.g-requires
+g-requires g c = search rules
+
+pub returns-in-Both : goal.returns-in-Both
+returns-in-Both g c = search rules
