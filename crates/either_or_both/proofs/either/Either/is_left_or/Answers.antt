@@ -1,0 +1,5 @@
+use Rattle.std.proofs.Common.{rules}
+use Rattle.either_or_both.proofs.either.Either.is_left_or.Goals as goal
+
+pub returns-in-Left : goal.returns-in-Left
+returns-in-Left g c = search rules
