@@ -6,8 +6,12 @@ use eob_records::{Form, Format, Kind, Request, Settings};
 use std::alloc::{AllocError, Global};
 
 /// The request that the words of a command line make, with its settings, or None for them where the delimiter is not one byte that may
-/// stand between cells. Where `--color` leaves it open, `has_colour` says whether there are colours. `Error` has the text for words that
-/// make no request, and for help.
+/// stand between cells. Where `--color` leaves it open, `has_colour` says whether there are colours.
+///
+/// # Errors
+///
+/// Returns an error with the text to print if the words make no request, or ask for help or the version, and one that says so if a
+/// request for memory was refused.
 pub fn parse<'a>(
     alloc: Global,
     words: &'a [String],

@@ -21,6 +21,10 @@ struct Counts {
 
 /// The changes as text that a person reads: what is said of columns, the rows that changed, each in the colour of its change where that
 /// is asked for, and the counts. The old table had this many rows.
+///
+/// # Errors
+///
+/// Returns `AllocError` if a request for memory was refused.
 pub fn report(
     alloc: Global,
     has_colour: bool,

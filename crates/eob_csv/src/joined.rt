@@ -53,6 +53,11 @@ impl Sides for (Option<Group>, Group) {
 
 impl Joining<'_> {
     /// The join as CSV.
+    ///
+    /// # Errors
+    ///
+    /// Returns `CellCount` if a row has more or fewer cells than the first one, and `NoMemory`, or `Io` with the error that the
+    /// writer makes of it, if a request for memory was refused.
     pub fn write(self, kind: Kind, left: Table, right: Table) -> Result<Vec<u8>, Reason> {
         let alloc = self.alloc;
         let (left, right) = (left.pairs, right.pairs);

@@ -7,6 +7,10 @@ use eob_tables::{Cells, Group};
 use std::alloc::{AllocError, Global};
 
 /// The rows in conflict, each with its three versions, as a table that a person reads.
+///
+/// # Errors
+///
+/// Returns `AllocError` if a request for memory was refused.
 pub fn render_conflicts(
     alloc: Global,
     columns: &Columns,

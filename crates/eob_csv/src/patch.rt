@@ -7,6 +7,10 @@ use eob_tables::{Cells, Group, Rows};
 use std::alloc::{AllocError, Global};
 
 /// The changes whose old row is not what the table has, as a table that a person reads. Empty where all fit.
+///
+/// # Errors
+///
+/// Returns `AllocError` if a request for memory was refused.
 pub fn misfits(
     alloc: Global,
     columns: &Columns,

@@ -6,6 +6,11 @@ use eob_tables::{Cells, Group};
 use std::alloc::Global;
 
 /// Changes, as `apply` reads them: a row that goes begins with `-`, one that comes with `+`.
+///
+/// # Errors
+///
+/// Returns `CellCount` if a row has more or fewer cells than the first one, and `NoMemory`, or `Io` with the error that the
+/// writer makes of it, if a request for memory was refused.
 pub fn write_changes(
     alloc: Global,
     form: Form,

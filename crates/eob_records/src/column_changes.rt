@@ -14,6 +14,10 @@ pub struct ColumnChanges {
 
 impl ColumnChanges {
     /// Compares the columns of two headers. One that is empty, as of an empty file, says nothing of columns.
+    ///
+    /// # Errors
+    ///
+    /// Returns `AllocError` if a request for memory was refused.
     pub fn new(
         alloc: Global,
         old: &[Vec<u8>],

@@ -21,6 +21,10 @@ pub enum Place {
 
 impl Columns {
     /// The columns of all headers under a key, in the order of the headers.
+    ///
+    /// # Errors
+    ///
+    /// Returns `AllocError` if a request for memory was refused.
     pub fn new(alloc: Global, key: Cells, headers: &[&[Vec<u8>]]) -> Result<Self, AllocError> {
         let mut names = Vec::new(alloc);
         for header in headers {
@@ -78,6 +82,10 @@ pub struct JoinColumns {
 }
 
 /// The columns of all tables, with the key that is set or else the first column.
+///
+/// # Errors
+///
+/// Returns `AllocError` if a request for memory was refused.
 pub fn columns_of(
     alloc: Global,
     settings: Settings<'_>,
@@ -111,6 +119,10 @@ fn first_name(alloc: Global, headers: &[&[Vec<u8>]]) -> Result<Cells, AllocError
 }
 
 /// The columns of two tables, with the key of the left one.
+///
+/// # Errors
+///
+/// Returns `AllocError` if a request for memory was refused.
 pub fn join_columns(
     alloc: Global,
     settings: Settings<'_>,

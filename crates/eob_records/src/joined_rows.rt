@@ -8,6 +8,11 @@ use std::alloc::Global;
 
 impl Written {
     /// Puts the header of a join. A name that both tables have is told apart by a word before it.
+    ///
+    /// # Errors
+    ///
+    /// Returns `CellCount` if a row has more or fewer cells than the first one, and `NoMemory`, or `Io` with the error that the
+    /// writer makes of it, if a request for memory was refused.
     pub fn put_join_heading(
         &mut self,
         alloc: Global,
@@ -26,6 +31,11 @@ impl Written {
     }
 
     /// Puts each row of the left side with each row of the right one. An absent side is one row of empty cells.
+    ///
+    /// # Errors
+    ///
+    /// Returns `CellCount` if a row has more or fewer cells than the first one, and `NoMemory`, or `Io` with the error that the
+    /// writer makes of it, if a request for memory was refused.
     pub fn put_joined(
         &mut self,
         columns: &JoinColumns,

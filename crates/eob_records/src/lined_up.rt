@@ -72,6 +72,10 @@ fn show_cell(alloc: Global, cell: &[u8]) -> Result<String, AllocError> {
 }
 
 /// Puts cells behind those of a line.
+///
+/// # Errors
+///
+/// Returns `AllocError` if a request for memory was refused.
 pub fn put_shown(alloc: Global, line: &mut Line, cells: &[Vec<u8>]) -> Result<(), AllocError> {
     for cell in cells {
         line.cells.push(show_cell(alloc, cell)?)?;
@@ -80,6 +84,10 @@ pub fn put_shown(alloc: Global, line: &mut Line, cells: &[Vec<u8>]) -> Result<()
 }
 
 /// The names of the columns, behind an empty cell.
+///
+/// # Errors
+///
+/// Returns `AllocError` if a request for memory was refused.
 pub fn heading(alloc: Global, columns: &Columns) -> Result<Line, AllocError> {
     let mut line = line_under(alloc, "", &columns.key)?;
     put_shown(alloc, &mut line, &columns.rest)?;
@@ -87,6 +95,10 @@ pub fn heading(alloc: Global, columns: &Columns) -> Result<Line, AllocError> {
 }
 
 /// A line with no colour that begins with a word and the cells of a key.
+///
+/// # Errors
+///
+/// Returns `AllocError` if a request for memory was refused.
 pub fn line_under(alloc: Global, word: &str, key: &[Vec<u8>]) -> Result<Line, AllocError> {
     let mut cells = Vec::new(alloc);
     cells.push(String::from_str(alloc, word)?)?;
@@ -99,6 +111,10 @@ pub fn line_under(alloc: Global, word: &str, key: &[Vec<u8>]) -> Result<Line, Al
 }
 
 /// Puts the cells of both versions of a row behind those of a line, each pair as one cell.
+///
+/// # Errors
+///
+/// Returns `AllocError` if a request for memory was refused.
 pub fn put_both(
     alloc: Global,
     line: &mut Line,
@@ -121,6 +137,10 @@ fn both_cells(alloc: Global, old: &[u8], new: &[u8]) -> Result<String, AllocErro
 }
 
 /// Puts a version of the rows under a key, a line each.
+///
+/// # Errors
+///
+/// Returns `AllocError` if a request for memory was refused.
 pub fn put_version(
     alloc: Global,
     grid: &mut Grid,
@@ -154,6 +174,10 @@ fn put_no_row(
 }
 
 /// The lines with their cells lined up, two spaces between columns.
+///
+/// # Errors
+///
+/// Returns `AllocError` if a request for memory was refused.
 pub fn line_up(alloc: Global, grid: &[Line]) -> Result<String, AllocError> {
     let mut widths: Vec<usize> = Vec::new(alloc);
     for line in grid {

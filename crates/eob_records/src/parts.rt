@@ -25,6 +25,11 @@ pub struct Parts<'a, R> {
 
 impl<'a, R: Read + Drop> Parts<'a, R> {
     /// No row is read yet.
+    ///
+    /// # Errors
+    ///
+    /// Returns the fault of the file: `NoColumn` if its header lacks a column of the key, and `NoMemory` if a request for memory was
+    /// refused.
     pub fn new(alloc: Global, table: Opened<'a, R>, columns: &Columns) -> Result<Self, Fault<'a>> {
         let places = at(table.file, table.source.places(columns))?;
         Ok(Parts {
@@ -38,6 +43,11 @@ impl<'a, R: Read + Drop> Parts<'a, R> {
     }
 
     /// Reads until as many rows wait as may. A key that is not greater than the one before it is a fault.
+    ///
+    /// # Errors
+    ///
+    /// Returns the fault of the file: `NotRising` if a key is not greater than the one before it, `CellCount` if a row has more or
+    /// fewer cells than the first one, `Io` if the reader fails, and `NoMemory` if a request for memory was refused.
     pub fn fill(&mut self) -> Result<(), Fault<'a>> {
         at(self.file, self.read_part())
     }

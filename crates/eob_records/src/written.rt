@@ -24,6 +24,10 @@ impl Written {
     }
 
     /// Puts cells into the row.
+    ///
+    /// # Errors
+    ///
+    /// Returns `NoMemory`, or `Io` with the error that the writer makes of it, if a request for memory was refused.
     pub fn put(&mut self, cells: &[Vec<u8>]) -> Result<(), Reason> {
         for cell in cells {
             self.writer.write_field(cell)?;
@@ -32,18 +36,31 @@ impl Written {
     }
 
     /// Puts one cell into the row.
+    ///
+    /// # Errors
+    ///
+    /// Returns `NoMemory`, or `Io` with the error that the writer makes of it, if a request for memory was refused.
     pub fn put_cell(&mut self, cell: &[u8]) -> Result<(), Reason> {
         self.writer.write_field(cell)?;
         Ok(())
     }
 
     /// Ends the row.
+    ///
+    /// # Errors
+    ///
+    /// Returns `CellCount` if a row has more or fewer cells than the first one, and `NoMemory`, or `Io` with the error that the
+    /// writer makes of it, if a request for memory was refused.
     pub fn end_row(&mut self) -> Result<(), Reason> {
         self.writer.end_record()?;
         Ok(())
     }
 
     /// The bytes of all rows.
+    ///
+    /// # Errors
+    ///
+    /// Returns `NoMemory`, or `Io` with the error that the writer makes of it, if a request for memory was refused.
     pub fn finish(self) -> Result<Vec<u8>, Reason> {
         match self.writer.into_inner() {
             Ok(bytes) => Ok(bytes),
@@ -52,6 +69,11 @@ impl Written {
     }
 
     /// Puts the cells of a whole row, in the order of the columns, and ends it.
+    ///
+    /// # Errors
+    ///
+    /// Returns `CellCount` if a row has more or fewer cells than the first one, and `NoMemory`, or `Io` with the error that the
+    /// writer makes of it, if a request for memory was refused.
     pub fn put_row(
         &mut self,
         columns: &Columns,
@@ -65,6 +87,11 @@ impl Written {
     }
 
     /// Puts the rows under a key, each behind a sign where there is one.
+    ///
+    /// # Errors
+    ///
+    /// Returns `CellCount` if a row has more or fewer cells than the first one, and `NoMemory`, or `Io` with the error that the
+    /// writer makes of it, if a request for memory was refused.
     pub fn put_rows(
         &mut self,
         sign: Option<&[u8]>,
@@ -83,6 +110,11 @@ impl Written {
 }
 
 /// A table as CSV: its header, if it has one, and its rows, by key.
+///
+/// # Errors
+///
+/// Returns `CellCount` if a row has more or fewer cells than the first one, and `NoMemory`, or `Io` with the error that the
+/// writer makes of it, if a request for memory was refused.
 pub fn write_table(
     alloc: Global,
     form: Form,

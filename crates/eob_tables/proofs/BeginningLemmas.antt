@@ -28,16 +28,12 @@ first_less [] (y ∷ ys) h = refl
 first_less (x ∷ xs) [] h = absurd (omega (arith, h))
 first_less (x ∷ xs) (y ∷ ys) h = rw (below x y h) refl
 
-level : (x : ℕ) → nat_cmp x x ≡ Equal
-level x = by_ranked (x < x) (x ≡ x) (x < x) (nat_cmp x x) (ranked x x (nat_cmp x x) refl)
-    (λ e l. absurd (omega (arith, l))) (λ e l. e) (λ e l. absurd (omega (arith, l)))
-
 next_less : (xs ys : List ℕ) → get_or xs 0 0 ≡ get_or ys 0 0 → slice_cmp nat_cmp (drop 1 xs) (drop 1 ys) ≡ Less → slice_cmp nat_cmp xs ys ≡ Less
 next_less [] [] e h = h
 next_less [] (y ∷ ys) e h = refl
 next_less (x ∷ []) [] e h = absurd (cc)
 next_less (x ∷ z ∷ xs) [] e h = absurd (cc)
-next_less (x ∷ xs) (y ∷ ys) e h = rw (e, level y) h
+next_less (x ∷ xs) (y ∷ ys) e h = rw (e, tied_itself nat_cmp_total y) h
 
 bound : (n : ℕ) (xs : List ℕ) → Bytes xs → first_bytes n xs < 256 ^ n
 bound zero xs b = omega arith

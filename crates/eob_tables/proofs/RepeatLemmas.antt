@@ -41,10 +41,11 @@ module _ {X K : Type 0} (key : X → K) (cmp : K → K → Ordering) (o : IsTota
     pub rows_rise : (xs : List X) → IsSortedBy (before key cmp) xs → repeat_of xs ≡ None → Rising cmp (map (λ y. (key y, value y)) xs)
     rows_rise xs sorted e = rising cmp (λ k. ⊤) (map (λ y. (key y, value y)) xs) (up_rows xs (sorted_climbs key cmp o xs sorted) e)
 
-  -- what is found: no lesser key than the first row's; under its key both rows first; and under each lesser key one row at most
+  -- the rows under a key
   abbrev At : K → List X → List X
   At k xs = filter (λ y. is_eq (cmp k (key y))) xs
 
+  -- what is found: no lesser key than the first row's; under its key both rows first; and under each lesser key one row at most
   abbrev Found : X → List X → X × X → Type 0
   Found x xs p = (is_lt (cmp (key p.0) (key x)) ≡ false) × ((rest : List X) × (At (key p.0) (x ∷ xs) ≡ p.0 ∷ p.1 ∷ rest))
       × ((k : K) → cmp k (key p.0) ≡ Less → length (At k (x ∷ xs)) ≤ 1)

@@ -25,6 +25,10 @@ impl Order {
     }
 
     /// Takes the key that is read next. One that was read before keeps its place.
+    ///
+    /// # Errors
+    ///
+    /// Returns `AllocError` if a request for memory was refused.
     pub fn note(&mut self, key: &Cells) -> Result<(), AllocError> {
         if let Some(places) = &mut self.places {
             if !places.contains_key(key) {
@@ -36,6 +40,10 @@ impl Order {
     }
 
     /// Rows that are in the order of their keys, put into this order.
+    ///
+    /// # Errors
+    ///
+    /// Returns `AllocError` if a request for memory was refused.
     pub fn arrange<V: Drop>(&self, mut rows: Vec<(Cells, V)>) -> Result<Vec<(Cells, V)>, AllocError>
         ensures { IfOk result (λ arranged. IsPermutation rows.items arranged.items) }
     {

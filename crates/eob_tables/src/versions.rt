@@ -11,6 +11,10 @@ use eob_lists::join::outer_join;
 use std::alloc::{AllocError, Global};
 
 /// The rows of the join of both tables that changed.
+///
+/// # Errors
+///
+/// Returns `AllocError` if a request for memory was refused.
 pub fn changes_of<K: Ord + Drop, V: Eq + Drop>(
     alloc: Global,
     old: Rows<K, V>,
@@ -23,6 +27,10 @@ pub fn changes_of<K: Ord + Drop, V: Eq + Drop>(
 }
 
 /// The changes by which the rows of one table go and those of another come: a key of both changes its row.
+///
+/// # Errors
+///
+/// Returns `AllocError` if a request for memory was refused.
 pub fn paired<K: Ord + Drop, V: Drop>(
     alloc: Global,
     gone: Rows<K, V>,
@@ -35,6 +43,10 @@ pub fn paired<K: Ord + Drop, V: Drop>(
 }
 
 /// The table with the changes made to it.
+///
+/// # Errors
+///
+/// Returns `AllocError` if a request for memory was refused.
 pub fn patched<K: Ord + Drop, V: Drop>(
     alloc: Global,
     old: Rows<K, V>,
@@ -48,6 +60,10 @@ pub fn patched<K: Ord + Drop, V: Drop>(
 
 /// The merged table, which has whatever one side alone changed as that side has it; or the rows that both sides changed, to rows that
 /// are not the same.
+///
+/// # Errors
+///
+/// Returns `AllocError` if a request for memory was refused.
 pub fn merge_of<K: Ord + Drop, V: Eq + Drop>(
     alloc: Global,
     base: Rows<K, V>,
