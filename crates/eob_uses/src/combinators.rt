@@ -196,13 +196,6 @@ pub fn copied_back(v: &EitherOrBoth<u8, char>) -> EitherOrBoth<u8, char>
     v.as_ref().copied()
 }
 
-/// Clones of numbers behind references.
-pub fn cloned_back(v: &EitherOrBoth<u8, char>) -> Result<EitherOrBoth<u8, char>, AllocError>
-    ensures { IfOk result (λ c. c ≡ v.now) }
-{
-    v.as_ref().cloned()
-}
-
 /// A clone of a value that holds a text has a text with the same bytes.
 pub fn cloned_texts(
     v: &EitherOrBoth<String, char>,
@@ -367,18 +360,10 @@ pub fn cloned<L: Clone, R: Clone>(v: &EitherOrBoth<L, R>) -> Result<EitherOrBoth
     v.clone()
 }
 
-/// A clone of numbers is the value itself.
+/// A clone of numbers needs no memory, so it comes, and is the value itself.
 pub fn cloned_numbers(v: &EitherOrBoth<u8, char>) -> Result<EitherOrBoth<u8, char>, AllocError>
-    ensures { IfOk result (λ c. c ≡ v.now) }
-{
-    v.clone()
-}
-
-/// A clone of numbers needs no memory, so it comes.
-pub fn clone_of_numbers_comes(
-    v: &EitherOrBoth<u8, char>,
-) -> Result<EitherOrBoth<u8, char>, AllocError>
-    ensures { IsOk result }
+    ensures comes { IsOk result }
+    ensures same { IfOk result (λ c. c ≡ v.now) }
 {
     v.clone()
 }
