@@ -333,31 +333,31 @@ fn left_is_asked_before_right(rt: HostRuntime) {
     assert_eq!(rt; asked.order(), 11212, "left alone; then left, right: twice");
 }
 
-/// What both begun walks still give is what the clone gives, and taking from the clone leaves the walk as it was.
+/// What a begun paired walk still gives is what its clone gives, and taking from the clone leaves the walk as it was.
 #[test]
-fn clones_give_what_begun_walks_still_give(rt: HostRuntime) -> Result<(), AllocError> {
+fn clone_gives_what_a_begun_paired_walk_still_gives(rt: HostRuntime) -> Result<(), AllocError> {
     let pair: EitherOrBoth<[u8; 2], [char; 3]> = Both([1, 2], ['c', 'm', 'x']);
     let mut walk = pair.iter_swap();
     assert_eq!(rt; walk.next(), Some(Both(&1, &'c')));
     let mut copy = walk.clone()?;
-    assert_eq!(rt; copy.next(), Some(Both(&2, &'m')));
-    assert_eq!(rt; copy.next(), Some(Right(&'x')));
-    assert_eq!(rt; copy.next(), None);
-    assert_eq!(rt; walk.next(), Some(Both(&2, &'m')));
-    assert_eq!(rt; walk.next(), Some(Right(&'x')));
-    assert_eq!(rt; walk.next(), None);
-    let pair: EitherOrBoth<[u8; 2], [u8; 2]> = Both([1, 2], [3, 4]);
+    let came = [copy.next(), copy.next(), copy.next()];
+    assert_eq!(rt; came, [Some(Both(&2, &'m')), Some(Right(&'x')), None]);
+    let came = [walk.next(), walk.next(), walk.next()];
+    assert_eq!(rt; came, [Some(Both(&2, &'m')), Some(Right(&'x')), None]);
+    Ok(())
+}
+
+/// The same of a begun chain, which is then taken from both ends.
+#[test]
+fn clone_gives_what_a_begun_chain_still_gives(rt: HostRuntime) -> Result<(), AllocError> {
+    let pair: EitherOrBoth<[u8; 2]> = Both([1, 2], [3, 4]);
     let mut walk = pair.iter_chain();
     assert_eq!(rt; walk.next(), Some(&1));
     let mut copy = walk.clone()?;
-    assert_eq!(rt; copy.next(), Some(&2));
-    assert_eq!(rt; copy.next(), Some(&3));
-    assert_eq!(rt; copy.next(), Some(&4));
-    assert_eq!(rt; copy.next(), None);
-    assert_eq!(rt; walk.next_back(), Some(&4));
-    assert_eq!(rt; walk.next(), Some(&2));
-    assert_eq!(rt; walk.next(), Some(&3));
-    assert_eq!(rt; walk.next(), None);
+    let came = [copy.next(), copy.next(), copy.next(), copy.next()];
+    assert_eq!(rt; came, [Some(&2), Some(&3), Some(&4), None]);
+    let came = [walk.next_back(), walk.next(), walk.next(), walk.next()];
+    assert_eq!(rt; came, [Some(&4), Some(&2), Some(&3), None]);
     Ok(())
 }
 
