@@ -15,6 +15,10 @@ use parts::{append_part, append_parts};
 use std::alloc::{AllocError, Allocator};
 
 /// Appends an answer, and the byte that ends its line.
+///
+/// # Errors
+///
+/// Returns `AllocError` if a request for memory was refused. What was appended until then stays.
 #[tactic(auto, using(crate::proofs::GrowthLemmas::extends_trans))]
 pub fn append_answer<A: Allocator + Copy>(
     alloc: A,
@@ -28,6 +32,10 @@ pub fn append_answer<A: Allocator + Copy>(
 }
 
 /// Appends the answer to a bad line.
+///
+/// # Errors
+///
+/// Returns `AllocError` if a request for memory was refused. Then the output is as it was.
 pub fn append_bad_line<A: Allocator + Clone>(
     alloc: A,
     output: &mut Vec<u8, A>,

@@ -42,6 +42,10 @@ pub enum Answer<'a, A: Allocator> {
 }
 
 /// The answer to a line, or None where the line is bad.
+///
+/// # Errors
+///
+/// Returns `AllocError` if a request for memory was refused.
 pub fn answer_line<'a, A: Allocator + Copy>(
     alloc: A,
     line: &'a [u8],

@@ -231,9 +231,11 @@ fn maps_joined_by_reference_stay(rt: HostRuntime) -> Result<(), Fail> {
     let right = map(rt.alloc(), &[(3, 'y')])?;
     let mut walk = outer_join_maps(&left, &right);
     assert_eq!(rt; walk.size_hint(), (2, Some(3)));
-    assert_eq!(rt; walk.next(), Some((&1, Left(&'a'))));
-    assert_eq!(rt; walk.next(), Some((&3, Both(&'b', &'y'))));
-    assert_eq!(rt; walk.next(), None);
+    let came = [walk.next(), walk.next(), walk.next()];
+    assert_eq!(rt;
+        came,
+        [Some((&1, Left(&'a'))), Some((&3, Both(&'b', &'y'))), None]
+    );
     assert_eq!(rt; left.len(), 2);
     Ok(())
 }
@@ -278,9 +280,10 @@ fn ended_side_is_asked_no_more(rt: HostRuntime) {
     assert_eq!(rt; (left.get(), right.get()), (1, 1));
     assert_eq!(rt; walk.next(), Some((1, Left('a'))));
     assert_eq!(rt; (left.get(), right.get()), (2, 1));
-    assert_eq!(rt; walk.next(), Some((2, Right('x'))));
-    assert_eq!(rt; walk.next(), Some((3, Right('y'))));
-    assert_eq!(rt; walk.next(), None);
-    assert_eq!(rt; walk.next(), None);
+    let came = [walk.next(), walk.next(), walk.next(), walk.next()];
+    assert_eq!(rt;
+        came,
+        [Some((2, Right('x'))), Some((3, Right('y'))), None, None]
+    );
     assert_eq!(rt; (left.get(), right.get()), (2, 3));
 }

@@ -14,6 +14,10 @@ use std::alloc::{AllocError, Allocator};
 const CALLS_AT_A_TIME: usize = 64;
 
 /// Appends what the paired walk over two sides answers to calls of its ends, and how many items it has left.
+///
+/// # Errors
+///
+/// Returns `AllocError` if a request for memory was refused. What was appended until then stays.
 #[tactic(auto, using(crate::proofs::GrowthLemmas::extends_trans))]
 pub fn append_ends<'a, A: Allocator + Copy>(
     alloc: A,

@@ -7,6 +7,10 @@ use eob_lists::EitherOrBoth;
 use std::alloc::{AllocError, Allocator};
 
 /// Appends items, parted by one space, or `-` for none.
+///
+/// # Errors
+///
+/// Returns `AllocError` if a request for memory was refused. What was appended until then stays.
 #[tactic(auto, using(crate::proofs::GrowthLemmas::extends_trans))]
 pub fn append_items<A: Allocator>(output: &mut Vec<u8, A>, items: &[Item]) -> Result<(), AllocError>
     ensures { Extends output.old.items output.new.items }
@@ -24,6 +28,10 @@ pub fn append_items<A: Allocator>(output: &mut Vec<u8, A>, items: &[Item]) -> Re
 }
 
 /// Appends an item as a line has it, `l:W`, `r:W` or `b:W:W`, after the bytes that stand before it.
+///
+/// # Errors
+///
+/// Returns `AllocError` if a request for memory was refused. What was appended until then stays.
 #[inline(always)]
 pub(super) fn append_item<A: Allocator>(
     output: &mut Vec<u8, A>,

@@ -7,6 +7,10 @@ use crate::line::Item;
 use std::alloc::{AllocError, Allocator};
 
 /// Appends each key with its values, parted by one space, or `-` for none.
+///
+/// # Errors
+///
+/// Returns `AllocError` if a request for memory was refused. What was appended until then stays.
 #[tactic(auto, using(crate::proofs::GrowthLemmas::extends_trans))]
 pub fn append_join<A: Allocator>(
     output: &mut Vec<u8, A>,

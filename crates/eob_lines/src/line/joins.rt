@@ -10,6 +10,10 @@ pub type Joined<'a, A> = Vec<(&'a [u8], Item<'a>), A>;
 type Table<'a, A> = Vec<(&'a [u8], &'a [u8]), A>;
 
 /// The join of two tables, parted by the one word `/`, or None where a word is bad or the keys of a table do not rise.
+///
+/// # Errors
+///
+/// Returns `AllocError` if a request for memory was refused.
 pub fn parse_join<'a, A: Allocator + Copy>(
     alloc: A,
     words: &'a [u8],

@@ -67,6 +67,10 @@ fn split_item(bytes: &[u8]) -> Option<(Item<'_>, &[u8])>
 }
 
 /// The items of a line, or None where a word is no item.
+///
+/// # Errors
+///
+/// Returns `AllocError` if a request for memory was refused.
 pub fn parse_items<'a, A: Allocator>(
     alloc: A,
     words: &'a [u8],
@@ -83,6 +87,10 @@ pub fn parse_items<'a, A: Allocator>(
 }
 
 /// The items of a line, collected into vectors, or None where a word is no item.
+///
+/// # Errors
+///
+/// Returns `AllocError` if a request for memory was refused.
 pub fn parse_sides<'a, A: Allocator + Copy>(
     alloc: A,
     words: &'a [u8],
@@ -114,6 +122,10 @@ impl<'a> Calls<'a> {
 }
 
 /// The answer to an `ends` line with these words, or None where one is bad.
+///
+/// # Errors
+///
+/// Returns `AllocError` if a request for memory was refused.
 pub fn parse_ends<'a, A: Allocator + Copy>(
     alloc: A,
     words: &'a [u8],
