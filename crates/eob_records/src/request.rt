@@ -3,7 +3,7 @@
 use crate::fault::{Fault, Reason};
 
 /// How tables are written: the byte between cells, and whether the first row is a header. Where it is not, columns are named by number.
-#[derive(Clone, Copy)]
+#[derive(Clone, Copy, Debug)]
 pub struct Form {
     pub delimiter: u8,
     pub has_header: bool,
@@ -11,7 +11,7 @@ pub struct Form {
 
 /// What all requests may set: how tables are written, the names of the columns that are the key, whether rows come out in the order of the
 /// files and not in that of their keys, whether rows with the same key are a group, and whether tables are read as they rise.
-#[derive(Clone, Copy)]
+#[derive(Clone, Copy, Debug)]
 pub struct Settings<'a> {
     pub form: Form,
     pub key: Option<&'a str>,
@@ -21,7 +21,7 @@ pub struct Settings<'a> {
 }
 
 /// Which rows a join has, of which tables.
-#[derive(Clone, Copy)]
+#[derive(Clone, Copy, Debug)]
 pub enum Kind {
     Outer,
     Inner,
@@ -32,7 +32,7 @@ pub enum Kind {
 }
 
 /// How `diff` writes what changed.
-#[derive(Clone, Copy)]
+#[derive(Clone, Copy, Debug)]
 pub enum Format {
     /// As CSV that `Request::Apply` takes.
     Csv,
@@ -41,7 +41,7 @@ pub enum Format {
 }
 
 /// What is asked for, of files by name.
-#[derive(Clone, Copy)]
+#[derive(Clone, Copy, Debug)]
 pub enum Request<'a> {
     /// What changed.
     Diff {
