@@ -79,7 +79,7 @@ fn kind_of(name: &str) -> Kind {
 // A command below the program's: its name, what it prints, and the files that it takes, each with its help.
 type Below<'a> = (&'a str, &'a str, &'a [(&'a str, &'a str)]);
 
-const COMMANDS: [Below<'static>; 4] = [
+static COMMANDS: [Below<'static>; 4] = [
     (
         "diff",
         "Prints the rows that changed. Status 0: none did, 1: some did, 2: trouble.",
@@ -120,7 +120,7 @@ const COMMANDS: [Below<'static>; 4] = [
 ];
 
 // The options that are set or not: the name of each, and its help.
-const FLAGS: [(&str, &str); 3] = [
+static FLAGS: [(&str, &str); 3] = [
     (
         "no-header",
         "The first row is no header: columns are named 1, 2 and so on",

@@ -1,9 +1,7 @@
-//! Tests of tables of CSV: tables of hundreds of rows made by a rule, changes made again, what is said of inputs that
-//! are bad, and what a command line asks for.
+//! Tests of tables of CSV: tables of hundreds of rows made by a rule, changes made again, and what is said of inputs that
+//! are bad.
 #![tactic(auto)]
 
-#[cfg(test)]
-mod arguments;
 #[cfg(test)]
 mod commands;
 #[cfg(test)]
