@@ -1,3 +1,4 @@
+pub mod ArrangeLemmas
 pub mod BeginningLemmas
 pub mod ClimbLemmas
 pub mod GatherLemmas

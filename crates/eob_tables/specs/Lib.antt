@@ -1,3 +1,4 @@
+pub mod Arranged
 pub mod Beginning
 pub mod Gathered
 pub mod Repeated

@@ -1,26 +1,31 @@
 //! The order in which rows come out: that of their keys, or that of the files.
-ghost use Rattle.std.specs.Prelude.{IfOk, IsPermutation};
+ghost use Rattle.std.specs.Prelude.{◌≡◌, [], None, Some, IfOk, IsPermutation, OnOk};
+ghost use Rattle.eob_tables.specs.Arranged.{AreArranged, IsNoted, noted};
 
 use crate::table::Cells;
+use indexmap::IndexSet;
 use std::alloc::{AllocError, Global};
-use std::collections::HashMap;
 
-/// The place of each key in the files, where rows come out in their order.
+/// The keys of the files, in the order in which they stand there first, where rows come out in their order.
 #[derive(Drop)]
 pub struct Order {
-    places: Option<HashMap<Cells, usize>>,
+    keys: Option<IndexSet<Cells>>,
 }
 
 impl Order {
     /// The order of keys.
-    pub fn by_key() -> Self {
-        Order { places: None }
+    pub fn by_key() -> Self
+        ensures { noted result ≡ None }
+    {
+        Order { keys: None }
     }
 
     /// The order of the files, of which none is read yet.
-    pub fn by_file(alloc: Global) -> Self {
+    pub fn by_file(alloc: Global) -> Self
+        ensures { noted result ≡ Some [] }
+    {
         Order {
-            places: Some(HashMap::new(alloc)),
+            keys: Some(IndexSet::new(alloc)),
         }
     }
 
@@ -29,27 +34,32 @@ impl Order {
     /// # Errors
     ///
     /// Returns `AllocError` if a request for memory was refused.
-    pub fn note(&mut self, key: &Cells) -> Result<(), AllocError> {
-        if let Some(places) = &mut self.places {
-            if !places.contains_key(key) {
-                let place = places.len();
-                places.insert(key.clone()?, place)?;
-            }
+    pub fn note(&mut self, key: &Cells) -> Result<(), AllocError>
+        ensures { OnOk result
+            (IsNoted ⟦<Cells as Ord>⟧.cmp ⟦<Cells as Eq>⟧.eq key.now (noted self.old) (noted self.new)) }
+    {
+        if let Some(keys) = &mut self.keys {
+            keys.insert(key.clone()?)?;
         }
         Ok(())
     }
 
-    /// Rows that are in the order of their keys, put into this order.
+    /// Rows that are in the order of their keys, put into this order. A row whose key was not taken would stand before the others.
     ///
     /// # Errors
     ///
     /// Returns `AllocError` if a request for memory was refused.
     pub fn arrange<V: Drop>(&self, mut rows: Vec<(Cells, V)>) -> Result<Vec<(Cells, V)>, AllocError>
-        ensures { IfOk result (λ arranged. IsPermutation rows.items arranged.items) }
+        ensures same { IfOk result (λ arranged. IsPermutation rows.items arranged.items) }
+        ensures order { IfOk result
+            (λ arranged. AreArranged ⟦<Cells as Eq>⟧.eq (noted self.now) rows.items arranged.items) }
     {
-        if let Some(places) = &self.places {
-            rows.sort_by_cached_key(|row| places.get(&row.0).copied())?;
+        match &self.keys {
+            Some(keys) => {
+                rows.sort_by_cached_key(|row| keys.get_index_of(&row.0))?;
+                Ok(rows)
+            }
+            None => Ok(rows),
         }
-        Ok(rows)
     }
 }
