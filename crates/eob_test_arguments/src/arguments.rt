@@ -35,7 +35,8 @@ fn asked(alloc: Global, line: &str, has_colour: bool) -> Result<String, AllocErr
     }
 }
 
-/// A command line, whether the terminal has colours, and what is asked for.
+/// A command line, whether the terminal has colours, and what is asked for: or `no delimiter` where that is not one byte that may stand
+/// between cells, `wrong` where the words make no request, and `a text` where they ask for help or the version.
 type Asked = (&'static str, bool, &'static str);
 
 // Fails unless each command line asks for what stands beside it.
