@@ -1,4 +1,4 @@
-//! What `eob_diff diff OLD NEW --format csv` does, as a plain Rust program over the crate `csv`.
+//! What `keyed diff OLD NEW --format csv` does, as a plain Rust program over the crate `csv`.
 
 use csv::{ByteRecord, ReaderBuilder, Writer, WriterBuilder};
 use std::cmp::Ordering;

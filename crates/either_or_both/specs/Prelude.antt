@@ -26,7 +26,8 @@ pub use Rattle.std.specs.List.Sorted.{IsStrictlySortedBy}
 pub use Rattle.std.specs.Map.{keys_of, lookup}
 pub use Rattle.std.specs.Set.{is_member, distinct_count}
 pub use Rattle.std.specs.BTreeMap.{is_at}
-pub use Rattle.std.specs.Ordering.{nat_cmp, is_eq, eq_by_cmp}
+pub use Rattle.std.specs.Ordering.{nat_cmp, int_cmp, bool_cmp, int_eq, is_eq, eq_by_cmp}
+pub use Rattle.std.specs.Cmp.Lexicographic.{slice_cmp}
 pub use Rattle.std.specs.declared.cmp.Ordering.TheVariants.{Less, Equal, Greater}
 pub use Rattle.eob_both.specs.declared.either_or_both.EitherOrBoth.{EitherOrBoth}
 pub use Rattle.eob_both.specs.declared.either_or_both.EitherOrBoth.TheVariants.{Left, Both, Right}
@@ -49,6 +50,7 @@ pub use Rattle.either_or_both.specs.declared.either.Either.{Either}
 pub use Rattle.either_or_both.specs.Either.{held, either_of}
 pub use Rattle.either_or_both.specs.EitherStreams.{of_held, HoldsOfHeld, HeldBecomes}
 pub use Rattle.eob_lists.specs.Normal.{regrouped, IsOneSided, IsNormal}
+pub use Rattle.eob_lists.specs.Difference.{agrees, IsFirstDifference, FindsFirstDifference}
 pub use Rattle.eob_lists.specs.Answers.{answers, left_over, from_front, from_back}
 pub use Rattle.eob_lists.specs.Join.{Rising, value_under, SameKeys, IsJoin}
 pub use Rattle.eob_lists.specs.JoinLaws.{flipped, deref_joined, overlaid, AllBoth, shared_keys, HasJoinCounts}

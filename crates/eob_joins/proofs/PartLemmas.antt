@@ -130,10 +130,10 @@ module _ {K V : Type 0} (cmp : K → K → Ordering) where
         let rest = parts_left cmp calls.0 in
         let split : parts_of cmp xs ≡ map deref_pair p.items ++ rest = sym (ap (parts_left cmp) from ∙ e) ∙ calls_take p.items p.from calls.0 calls.1 in
         let all : AreParts cmp xs (map deref_pair p.items ++ rest) = subst (AreParts cmp xs) split (AreParts-parts xs h) in
-        let own = own_parts cmp o (part_under cmp xs) (map deref_pair p.items ++ rest) (λ k. ⊤) (λ j k t l. tt) (λ k t. sym (all.values k)) (up cmp _ all.rises) in (
-          omega (arith, parts_most xs, ap length split, length-append (map deref_pair p.items) rest, length-map p.items deref_pair, p.long),
-          λ b. sym (split ∙ ap (λ r. map deref_pair p.items ++ r) (calls.2 b).1.0 ∙ append-nil (map deref_pair p.items)),
-          rising cmp (λ k. ⊤) (map deref_pair p.items) (up_before cmp o (λ k. ⊤) (map deref_pair p.items) rest (up cmp _ all.rises)),
-          each p (λ g. part_under cmp xs g.0.now ≡ Some g.1.now) (shown_at (λ g. part_under cmp xs g.0 ≡ Some g.1) p.items rest own),
-          (rest, sym split),
-        )
+        let own = own_parts cmp o (part_under cmp xs) (map deref_pair p.items ++ rest) (λ k. ⊤) (λ j k t l. tt) (λ k t. sym (all.values k)) (up cmp _ all.rises) in record {
+          bound = omega (arith, parts_most xs, ap length split, length-append (map deref_pair p.items) rest, length-map p.items deref_pair, p.long);
+          parts = λ b. sym (split ∙ ap (λ r. map deref_pair p.items ++ r) (calls.2 b).1.0 ∙ append-nil (map deref_pair p.items));
+          rises = rising cmp (λ k. ⊤) (map deref_pair p.items) (up_before cmp o (λ k. ⊤) (map deref_pair p.items) rest (up cmp _ all.rises));
+          places = each p (λ g. part_under cmp xs g.0.now ≡ Some g.1.now) (shown_at (λ g. part_under cmp xs g.0 ≡ Some g.1) p.items rest own);
+          begins = (rest, sym split);
+        }

@@ -12,11 +12,10 @@ use Rattle.eob_both.specs.Places.{from_places}
 use Rattle.eob_lists.specs.Join.{value_under}
 use Rattle.eob_lists.proofs.JoinLemmas.{own_head}
 use Rattle.eob_lists.proofs.MergeLemmas.{Up, absent, absent_alike, by_order, flipped_order, up}
-use Rattle.eob_joins.specs.Changes.{PatchedLaw, applied, changed}
+use Rattle.eob_joins.specs.Changes.{ChangedAlikeLaw, PatchedLaw, applied, changed}
 use Rattle.eob_joins.proofs.TableLemmas.{by_test, kept_join}
 
-applied_alike : {V : Type 0} (eq : V → V → Bool) → ((v : V) → eq v v ≡ true) → (m n : Option V)
-    → option_eq eq (option_and_then applied (from_places m (option_and_then (changed eq) (from_places m n)))) n ≡ true
+pub applied_alike : {V : Type 0} (eq : V → V → Bool) → ((v : V) → eq v v ≡ true) → ChangedAlikeLaw eq
 applied_alike eq itself None None = refl
 applied_alike eq itself None (Some w) = itself w
 applied_alike eq itself (Some v) None = refl
@@ -36,7 +35,7 @@ module _ {K V : Type 0} (cmp : K → K → Ordering) (o : IsTotalOrder cmp) (eq 
       (λ f. rw (← alike, f) at e)
 
   -- rising lists that have alike values under each key are alike pair by pair
-  alike_values : (P Q : K → Type 0) (xs ys : List (K × V)) → Up cmp P xs → Up cmp Q ys → ((k : K) → Alike xs ys k)
+  pub alike_values : (P Q : K → Type 0) (xs ys : List (K × V)) → Up cmp P xs → Up cmp Q ys → ((k : K) → Alike xs ys k)
       → AllZip (λ x y. (cmp x.0 y.0 ≡ Equal) × (eq x.1 y.1 ≡ true)) xs ys
   alike_values P Q [] [] g h e = tt
   alike_values P Q [] (y ∷ ys) g h e = let c = rw (own_head cmp o y ys) at (e y.0) in absurd (true≢false (sym c))

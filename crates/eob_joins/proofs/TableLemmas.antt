@@ -15,7 +15,7 @@ use Rattle.eob_lists.proofs.MergeLemmas.{Up, absent_alike, rising, up, up_weaker
 use Rattle.eob_joins.specs.Tables.{Tabulates, SameTableLaw, KeptLaw, IsKeptByKey, kept, both_places, paired_left, paired_right, shared_left, lone_left, unless}
 use Rattle.eob_joins.specs.Tables.{IsKeptOfJoin, IsInnerJoin, IsLeftJoin, IsRightJoin, IsSemiJoin, IsAntiJoin}
 use Rattle.eob_joins.specs.Changes.{ApplyDiffLaw, ChangedValueLaw, applied, changed}
-use Rattle.eob_joins.specs.Laws.{RightLaw, SelfJoinLaw, ThreeJoinsLaw}
+use Rattle.eob_joins.specs.Laws.{RightLaw, SelfJoinLaw, LeftNestedLaw, RightNestedLaw}
 use Rattle.eob_both.specs.declared.either_or_both.EitherOrBoth.TheVariants.{Both}
 
 pub by_test : {G : Type 0} (t : Bool) → (t ≡ true → G) → (t ≡ false → G) → G
@@ -57,13 +57,13 @@ lone_is None (Some b) = refl
 lone_is (Some a) None = refl
 lone_is (Some a) (Some b) = refl
 
-right_is : {A B : Type 0} (m : Option A) (n : Option B) → option_and_then right_place (from_places m n) ≡ n
+pub right_is : {A B : Type 0} (m : Option A) (n : Option B) → option_and_then right_place (from_places m n) ≡ n
 right_is None None = refl
 right_is None (Some b) = refl
 right_is (Some a) None = refl
 right_is (Some a) (Some b) = refl
 
-self_is : {V : Type 0} (m : Option V) → from_places m m ≡ option_and_then (λ v. Some (Both v v)) m
+pub self_is : {V : Type 0} (m : Option V) → from_places m m ≡ option_and_then (λ v. Some (Both v v)) m
 self_is None = refl
 self_is (Some v) = refl
 
@@ -143,11 +143,11 @@ module _ {K : Type 0} (cmp : K → K → Ordering) where
   pub same_table : IsTotalOrder cmp → (V : Type 0) → SameTableLaw cmp V
   same_table o V exact f ys zs g h = same_rows exact ys zs (same_values cmp o (λ k. ⊤) (λ k. ⊤) ys zs (up cmp ys g.rises) (up cmp zs h.rises) (λ k. g.values k ∙ sym (h.values k)))
 
-  pub three_joins : (A B C : Type 0) → ThreeJoinsLaw cmp A B C
-  three_joins A B C p q r zs to_right ys to_left i j k l = (
-    record { rises = j.rises; values = λ key. j.values key ∙ ap (from_places (value_under cmp p key)) (i.values key) },
-    record { rises = l.rises; values = λ key. l.values key ∙ ap (λ m. from_places m (value_under cmp r key)) (k.values key) },
-  )
+  pub right_nested : (A B C : Type 0) → RightNestedLaw cmp A B C
+  right_nested A B C p q r zs rows i j = record { rises = j.rises; values = λ key. j.values key ∙ ap (from_places (value_under cmp p key)) (i.values key) }
+
+  pub left_nested : (A B C : Type 0) → LeftNestedLaw cmp A B C
+  left_nested A B C p q r zs rows i j = record { rises = j.rises; values = λ key. j.values key ∙ ap (λ m. from_places m (value_under cmp r key)) (i.values key) }
 
   pub right_law : IsTotalOrder cmp → (A B : Type 0) → RightLaw cmp A B
   right_law o A B exact p q zs rises j =

@@ -84,7 +84,7 @@ module _ {K : Type 0} (cmp : K → K → Ordering) where
           no_conflict eq (value_under cmp b k) (value_under cmp p k) (value_under cmp q k)
           (sym (clash_table.values k) ∙ ap (λ l. value_under cmp l k) (none_kept (clashes eq) zs none))
 
-  pub merge_law : IsTotalOrder cmp → {V : Type 0} (eq : V → V → Bool) (m : Merged K V) → MergeLaw cmp eq m
+  pub merge_law : IsTotalOrder cmp → {V M : Type 0} (eq : V → V → Bool) (m : Merged K V M) → MergeLaw cmp eq m
   merge_law o eq (Whole rs) b p q h =
       (subst (λ l. Tabulates cmp l (λ k. merged_place eq (value_under cmp b k) (value_under cmp p k) (value_under cmp q k))) (sym h.3) (merged_table o eq b p q h.0 h.1), no_clash o eq b p q h.0 h.1 h.2)
   merge_law o eq (Conflicts cs) b p q h = (

@@ -1,14 +1,13 @@
 -- What changed between two versions of a table, and a table with changes made to it.
 use Rattle.std.specs.Prelude.{◌≡◌, Bool, true, List, Option, Some, None, if◌then◌else◌}
-use Rattle.std.specs.List.{AllZip}
-use Rattle.std.specs.Option.{option_and_then}
+use Rattle.std.specs.Option.{option_and_then, option_eq}
 use Rattle.std.specs.declared.cmp.Ordering.{Ordering}
 use Rattle.std.specs.declared.cmp.Ordering.TheVariants.{Equal}
 use Rattle.eob_both.specs.declared.either_or_both.EitherOrBoth.{EitherOrBoth}
 use Rattle.eob_both.specs.declared.either_or_both.EitherOrBoth.TheVariants.{Left, Both, Right}
 use Rattle.eob_both.specs.Places.{from_places, right_place}
 use Rattle.eob_lists.specs.Join.{Rising}
-use Rattle.eob_joins.specs.Tables.{IsKeptOfJoin}
+use Rattle.eob_joins.specs.Tables.{AlikeRows, IsKeptOfJoin}
 
 -- the two values, unless they are equal
 abbrev pub changed : {V : Type 0} → (V → V → Bool) → EitherOrBoth V V → Option (EitherOrBoth V V)
@@ -27,6 +26,12 @@ abbrev pub ChangedValueLaw : {V : Type 0} → (V → V → Bool) → Type 0
 ChangedValueLaw {V} eq = ((v w : V) → eq v w ≡ true → v ≡ w) → (m n : Option V)
     → option_and_then applied (from_places m (option_and_then (changed eq) (from_places m n))) ≡ n
 
+-- the same up to the equality of values: it gives a value that counts as equal to the one that it is to
+abbrev pub ChangedAlikeLaw : {V : Type 0} → (V → V → Bool) → Type 0
+ChangedAlikeLaw {V} eq = (m n : Option V)
+    → option_eq eq (option_and_then applied (from_places m (option_and_then (changed eq) (from_places m n)))) n
+    ≡ true
+
 module _ {K : Type 0} (cmp : K → K → Ordering) where
   -- the changes from p to q, made to p, give q
   abbrev pub ApplyDiffLaw : {V : Type 0} → (V → V → Bool) → Type 0
@@ -38,4 +43,4 @@ module _ {K : Type 0} (cmp : K → K → Ordering) where
   abbrev pub PatchedLaw : {V : Type 0} → (V → V → Bool) → Type 0
   PatchedLaw {V} eq = (p q rs : List (K × V)) (ds : List (K × EitherOrBoth V V)) → Rising cmp p → Rising cmp q
       → IsKeptOfJoin cmp (changed eq) p q ds → IsKeptOfJoin cmp applied p ds rs
-      → AllZip (λ x y. (cmp x.0 y.0 ≡ Equal) × (eq x.1 y.1 ≡ true)) rs q
+      → AlikeRows cmp eq rs q

@@ -1,13 +1,30 @@
--- What holds of every join: of its right side, of a list with itself, of three lists, and of tables that are cut at a key.
-use Rattle.std.specs.Prelude.{◌≡◌, List, ◌++◌, All, Some}
+-- What holds of every join: of its right side, of a list with itself, of three lists, of tables that are cut at a key, and of numbers.
+use Rattle.std.specs.Prelude.{◌≡◌, ℕ, ◌+◌, Bool, List, ◌++◌, All, Some, sum_by}
 use Rattle.std.specs.Map.{keys_of}
 use Rattle.std.specs.declared.cmp.Ordering.{Ordering}
 use Rattle.std.specs.declared.cmp.Ordering.TheVariants.{Less, Equal}
 use Rattle.eob_both.specs.declared.either_or_both.EitherOrBoth.{EitherOrBoth}
-use Rattle.eob_both.specs.declared.either_or_both.EitherOrBoth.TheVariants.{Both}
+use Rattle.eob_both.specs.declared.either_or_both.EitherOrBoth.TheVariants.{Left, Both, Right}
 use Rattle.eob_both.specs.Places.{from_places, right_place}
+use Rattle.eob_both.specs.Order.{places_eq}
 use Rattle.eob_lists.specs.Join.{Rising, IsJoin, value_under}
-use Rattle.eob_joins.specs.Tables.{Tabulates, kept}
+use Rattle.eob_joins.specs.Tables.{AlikeRows, IsKeptOfJoin, SameRows, Tabulates, kept}
+
+-- a value on both sides
+abbrev pub doubled : {K V : Type 0} → List (K × V) → List (K × EitherOrBoth V V)
+doubled p = kept (λ v. Some (Both v v)) p
+
+-- the numbers of the values that are there, together
+abbrev pub added_by : {A B : Type 0} → (A → ℕ) → (B → ℕ) → EitherOrBoth A B → ℕ
+added_by f g (Left a) = f a
+added_by f g (Both a b) = f a + g b
+added_by f g (Right b) = g b
+
+-- the same of numbers
+abbrev pub added : EitherOrBoth ℕ ℕ → ℕ
+added (Left a) = a
+added (Both a b) = a + b
+added (Right b) = b
 
 module _ {K : Type 0} (cmp : K → K → Ordering) where
   -- what a join has on the right is the right list
@@ -22,16 +39,53 @@ module _ {K : Type 0} (cmp : K → K → Ordering) where
       → (p : List (K × V)) (zs : List (K × EitherOrBoth V V))
       → Rising cmp p → IsJoin cmp p p zs → zs ≡ kept (λ v. Some (Both v v)) p
 
-  -- three lists joined, nested to the right and to the left: both joins have under each key what the three lists have there
-  abbrev pub ThreeJoinsLaw : Type 0 → Type 0 → Type 0 → Type 0
-  ThreeJoinsLaw A B C = (p : List (K × A)) (q : List (K × B)) (r : List (K × C))
-      (zs : List (K × EitherOrBoth B C)) (to_right : List (K × EitherOrBoth A (EitherOrBoth B C)))
-      (ys : List (K × EitherOrBoth A B)) (to_left : List (K × EitherOrBoth (EitherOrBoth A B) C))
-      → IsJoin cmp q r zs → IsJoin cmp p zs to_right → IsJoin cmp p q ys → IsJoin cmp ys r to_left
-      → Tabulates cmp to_right (λ k. from_places (value_under cmp p k)
+  -- what a join has on the right is the right list, as far as keys count as equal
+  abbrev pub RightRowsLaw : Type 0 → Type 0 → Type 0
+  RightRowsLaw A B = (p : List (K × A)) (q : List (K × B)) (zs : List (K × EitherOrBoth A B))
+      → Rising cmp q → IsJoin cmp p q zs → SameRows cmp (kept right_place zs) q
+
+  -- the join of a list with itself, as far as keys count as equal
+  abbrev pub SelfRowsLaw : Type 0 → Type 0
+  SelfRowsLaw V = (p : List (K × V)) (zs : List (K × EitherOrBoth V V))
+      → Rising cmp p → IsJoin cmp p p zs → SameRows cmp zs (doubled p)
+
+  -- the join of a list with one that counts as equal, pair by pair
+  abbrev pub CopyRowsLaw : {V : Type 0} → (V → V → Bool) → Type 0
+  CopyRowsLaw {V} eq = (p q : List (K × V)) (zs : List (K × EitherOrBoth V V))
+      → Rising cmp p → AlikeRows cmp eq p q → IsJoin cmp p q zs
+      → AlikeRows cmp (places_eq eq eq) zs (doubled p)
+
+  -- three lists joined, the first with the join of the others: under each key stands what the three have there
+  abbrev pub RightNestedLaw : Type 0 → Type 0 → Type 0 → Type 0
+  RightNestedLaw A B C = (p : List (K × A)) (q : List (K × B)) (r : List (K × C))
+      (zs : List (K × EitherOrBoth B C)) (rows : List (K × EitherOrBoth A (EitherOrBoth B C)))
+      → IsJoin cmp q r zs → IsJoin cmp p zs rows
+      → Tabulates cmp rows (λ k. from_places (value_under cmp p k)
       (from_places (value_under cmp q k) (value_under cmp r k)))
-      × Tabulates cmp to_left (λ k. from_places (from_places (value_under cmp p k) (value_under cmp q k))
+
+  -- the same of the join of the first two with the third
+  abbrev pub LeftNestedLaw : Type 0 → Type 0 → Type 0 → Type 0
+  LeftNestedLaw A B C = (p : List (K × A)) (q : List (K × B)) (r : List (K × C))
+      (zs : List (K × EitherOrBoth A B)) (rows : List (K × EitherOrBoth (EitherOrBoth A B) C))
+      → IsJoin cmp p q zs → IsJoin cmp zs r rows
+      → Tabulates cmp rows (λ k. from_places (from_places (value_under cmp p k) (value_under cmp q k))
       (value_under cmp r k))
+
+  -- numbers of the values of two lists, added key by key, add up to those of both lists
+  abbrev pub JoinSumByLaw : Type 0 → Type 0 → Type 0
+  JoinSumByLaw A B = (f : A → ℕ) (g : B → ℕ) (p : List (K × A)) (q : List (K × B))
+      (zs : List (K × EitherOrBoth A B)) → Rising cmp p → Rising cmp q → IsJoin cmp p q zs
+      → sum_by (λ z. added_by f g z.1) zs ≡ sum_by (λ x. f x.1) p + sum_by (λ y. g y.1) q
+
+  -- the same of numbers, by the rows of the join and by the table of their sums
+  abbrev pub JoinSumLaw : Type 0
+  JoinSumLaw = (p q : List (K × ℕ)) (zs : List (K × EitherOrBoth ℕ ℕ)) → Rising cmp p → Rising cmp q
+      → IsJoin cmp p q zs → sum_by (λ z. added z.1) zs ≡ sum_by (λ x. x.1) p + sum_by (λ y. y.1) q
+
+  abbrev pub KeptSumLaw : Type 0
+  KeptSumLaw = (p q rows : List (K × ℕ)) → Rising cmp p → Rising cmp q
+      → IsKeptOfJoin cmp (λ v. Some (added v)) p q rows
+      → sum_by (λ z. z.1) rows ≡ sum_by (λ x. x.1) p + sum_by (λ y. y.1) q
 
   -- each of these keys is less than each of those
   abbrev pub AreBelow : List K → List K → Type 0

@@ -30,11 +30,12 @@ module _ {K V : Type 0} (cmp : K → K → Ordering) where
     pub keys : All (λ g. Contains (keys_of xs) g.0) gs
     pub whole : flat_map (λ g. g.1) gs ≡ xs
 
-  -- p showed parts of the table, each with all pairs of its key, no more than the table has pairs; they begin its parts, and are all of
-  -- them where p ended
-  abbrev pub ShowsParts : {S : Type 0} {steps : S → Option (Bor K × Bor (List (K × V))) → S → Type 0}
-      → List (K × V) → Run steps → Type 0
-  ShowsParts xs p = (p.len ≤ length xs) × (p.whole ≡ true → map deref_pair p.items ≡ parts_of xs)
-      × Rising cmp (map deref_pair p.items)
-      × AllItems p (λ g. part_under xs g.0.now ≡ Some g.1.now)
-      × ((rest : List (K × List (K × V))) × (map deref_pair p.items ++ rest ≡ parts_of xs))
+  -- what a run p of an iterator over parts gave: no more parts than the table has pairs, each with all pairs of its key; their keys
+  -- rise, and they begin the parts of the table; where p ended they are all of them
+  pub record ShowsParts {S : Type 0} {steps : S → Option (Bor K × Bor (List (K × V))) → S → Type 0}
+      (xs : List (K × V)) (p : Run steps) : Type 0 where
+    pub bound : p.len ≤ length xs
+    pub parts : p.whole ≡ true → map deref_pair p.items ≡ parts_of xs
+    pub rises : Rising cmp (map deref_pair p.items)
+    pub places : AllItems p (λ g. part_under xs g.0.now ≡ Some g.1.now)
+    pub begins : (rest : List (K × List (K × V))) × (map deref_pair p.items ++ rest ≡ parts_of xs)

@@ -91,14 +91,14 @@ module _ {K : Type 0} (cmp : K → K → Ordering) where
       × (list_any (λ z. clashes eq z.1) zs ≡ true) × (cs ≡ kept (clash eq) zs)
 
   -- the merged table, or the rows in conflict
-  abbrev pub IsMerge : {V : Type 0} → (V → V → Bool) → List (K × V) → List (K × V) → List (K × V) → Merged K V
-      → Type 0
+  abbrev pub IsMerge : {V M : Type 0} → (V → V → Bool) → List (K × V) → List (K × V) → List (K × V)
+      → Merged K V M → Type 0
   IsMerge eq b p q (Whole rs) = IsMergedTable eq b p q rs.items
   IsMerge eq b p q (Conflicts cs) = AreConflicts eq b p q cs.items
 
   -- the same by look-ups
-  abbrev pub IsMergeByKey : {V : Type 0} → (V → V → Bool) → List (K × V) → List (K × V) → List (K × V)
-      → Merged K V → Type 0
+  abbrev pub IsMergeByKey : {V M : Type 0} → (V → V → Bool) → List (K × V) → List (K × V) → List (K × V)
+      → Merged K V M → Type 0
   IsMergeByKey eq b p q (Whole rs) = Tabulates cmp rs.items (λ k. merged_place eq (value_under cmp b k)
       (value_under cmp p k) (value_under cmp q k))
       × ((k : K) → is_conflict (verdict eq (value_under cmp b k) (value_under cmp p k) (value_under cmp q k))
@@ -107,5 +107,5 @@ module _ {K : Type 0} (cmp : K → K → Ordering) where
       (value_under cmp p k) (value_under cmp q k))
       × (0 < length cs.items)
 
-  abbrev pub MergeLaw : {V : Type 0} → (V → V → Bool) → Merged K V → Type 0
-  MergeLaw {V} eq m = (b p q : List (K × V)) → IsMerge eq b p q m → IsMergeByKey eq b p q m
+  abbrev pub MergeLaw : {V M : Type 0} → (V → V → Bool) → Merged K V M → Type 0
+  MergeLaw {V} {M} eq m = (b p q : List (K × V)) → IsMerge eq b p q m → IsMergeByKey eq b p q m

@@ -1,13 +1,14 @@
 //! Two versions of a table: what changed between them, and the new version made again of the old one and the changes.
 ghost use Rattle.std.specs.Prelude.{◌≡◌, IfOk, option_map};
 ghost use Rattle.eob_lists.specs.Join.{Rising};
-ghost use Rattle.eob_joins.specs.Changes.{ApplyDiffLaw, ChangedValueLaw, PatchedLaw, applied, changed};
+ghost use Rattle.eob_joins.specs.Changes.{ApplyDiffLaw, ChangedAlikeLaw, ChangedValueLaw, PatchedLaw};
+ghost use Rattle.eob_joins.specs.Changes.{applied, changed};
 ghost use Rattle.eob_joins.specs.Tables.{IsKeptByKey, IsKeptOfJoin};
 
 use crate::kept::kept_rows;
 use eob_lists::EitherOrBoth;
-use eob_lists::join::outer_join_in;
-use std::alloc::{AllocError, Allocator, Global};
+use eob_lists::join::outer_join;
+use std::alloc::{AllocError, Allocator};
 
 /// What changed under a key: its value went (Left), came (Right), or is another one (Both).
 pub type Change<V> = EitherOrBoth<V, V>;
@@ -30,35 +31,7 @@ pub type Change<V> = EitherOrBoth<V, V>;
 /// let changes = vec![in alloc; (2, Left('b')), (3, Both('c', 'd')), (4, Right('e'))]?;
 /// assert_eq!(rt; diff(alloc, old, new)?, changes);
 /// ```
-pub fn diff<K: Ord + Drop, V: Eq + Drop>(
-    alloc: Global,
-    old: Vec<(K, V)>,
-    new: Vec<(K, V)>,
-) -> Result<Vec<(K, Change<V>)>, AllocError>
-    requires old { Rising K.cmp old.items }
-    requires new { Rising K.cmp new.items }
-    ensures kept { IfOk result (λ rows. IsKeptOfJoin K.cmp (changed V.eq) old.items new.items rows.items) }
-    ensures values { IfOk result (λ rows. IsKeptByKey K.cmp (changed V.eq) old.items new.items rows.items) }
-{
-    diff_in(alloc, old, new)
-}
-
-/// Returns what [`diff`] does, with memory of any allocator.
-///
-/// # Errors
-///
-/// `AllocError` where a request for memory was refused: then both versions are dropped.
-///
-/// # Examples
-///
-/// ```
-/// let old = vec![in alloc; (1, 'a'), (2, 'b'), (3, 'c')]?;
-/// let new = vec![in alloc; (1, 'a'), (3, 'd'), (4, 'e')]?;
-/// assert!(rt; is_rising(&old) && is_rising(&new));
-/// let changes = vec![in alloc; (2, Left('b')), (3, Both('c', 'd')), (4, Right('e'))]?;
-/// assert_eq!(rt; diff_in(alloc, old, new)?, changes);
-/// ```
-pub fn diff_in<K: Ord + Drop, V: Eq + Drop, M: Allocator>(
+pub fn diff<K: Ord + Drop, V: Eq + Drop, M: Allocator>(
     alloc: M,
     old: Vec<(K, V), M>,
     new: Vec<(K, V), M>,
@@ -90,35 +63,7 @@ pub fn diff_in<K: Ord + Drop, V: Eq + Drop, M: Allocator>(
 /// let new = vec![in alloc; (1, 'a'), (3, 'd'), (4, 'e')]?;
 /// assert_eq!(rt; apply(alloc, old, changes)?, new);
 /// ```
-pub fn apply<K: Ord + Drop, V: Drop>(
-    alloc: Global,
-    old: Vec<(K, V)>,
-    changes: Vec<(K, Change<V>)>,
-) -> Result<Vec<(K, V)>, AllocError>
-    requires old { Rising K.cmp old.items }
-    requires changes { Rising K.cmp changes.items }
-    ensures kept { IfOk result (λ rows. IsKeptOfJoin K.cmp applied old.items changes.items rows.items) }
-    ensures values { IfOk result (λ rows. IsKeptByKey K.cmp applied old.items changes.items rows.items) }
-{
-    apply_in(alloc, old, changes)
-}
-
-/// Returns what [`apply`] does, with memory of any allocator.
-///
-/// # Errors
-///
-/// `AllocError` where a request for memory was refused: then the table and the changes are dropped.
-///
-/// # Examples
-///
-/// ```
-/// let old = vec![in alloc; (1, 'a'), (2, 'b'), (3, 'c')]?;
-/// let changes = vec![in alloc; (2, Left('b')), (3, Both('c', 'd')), (4, Right('e'))]?;
-/// assert!(rt; is_rising(&old) && is_rising(&changes));
-/// let new = vec![in alloc; (1, 'a'), (3, 'd'), (4, 'e')]?;
-/// assert_eq!(rt; apply_in(alloc, old, changes)?, new);
-/// ```
-pub fn apply_in<K: Ord + Drop, V: Drop, M: Allocator + Copy>(
+pub fn apply<K: Ord + Drop, V: Drop, M: Allocator + Copy>(
     alloc: M,
     old: Vec<(K, V), M>,
     changes: Vec<(K, Change<V>), M>,
@@ -155,7 +100,7 @@ fn applied_rows<K: Ord + Drop, V: Drop, M: Allocator + Copy>(
     requires changes { Rising K.cmp changes.items }
     ensures { IfOk result (λ rows. IsKeptOfJoin K.cmp applied old.items changes.items rows.items) }
 {
-    let joined = outer_join_in(alloc, old, changes)?;
+    let joined = outer_join(alloc, old, changes)?;
     let mut rows = Vec::new(alloc);
     for row in joined {
         match applied_row(row) {
@@ -204,12 +149,20 @@ fn applied_row<K: Drop, V: Drop>(row: (K, EitherOrBoth<V, Change<V>>)) -> Option
 
 /// A value with the change made to it that leads to another is the other, and so where one of them is absent: where values that count
 /// as equal are equal. With what [`diff`] and [`apply`] say of each key, the changes made to the old version have what the new one has.
+///
+/// Of other values, such as texts and vectors, [`law_changed_alike`] says it.
 pub fn law_changed_value<V: Eq>()
     ensures { ChangedValueLaw V.eq }
 {}
 
+/// A value with the change made to it that leads to another counts as equal to the other, and so where one of them is absent. No premise
+/// on the values is asked, so that it holds of texts and vectors too.
+pub fn law_changed_alike<V: Eq>()
+    ensures { ChangedAlikeLaw V.eq }
+{}
+
 /// The changes from one version of a table to another, made to the first, give the second: where keys that count as equal are equal,
-/// and values too.
+/// and values too. Of other keys and values, such as texts and vectors, [`law_patched`] says it.
 pub fn law_apply_diff<K: Ord, V: Eq>()
     ensures { ApplyDiffLaw K.cmp V.eq }
 {}

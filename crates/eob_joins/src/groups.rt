@@ -9,7 +9,7 @@ ghost use Rattle.eob_joins.specs.Groups.{AreGroups, HasGroupsOf, IsGroupJoin, Or
 ghost use Rattle.eob_joins.specs.Groups.{run_values, shown_group, shown_row};
 
 use eob_lists::EitherOrBoth;
-use eob_lists::join::outer_join_in;
+use eob_lists::join::outer_join;
 use std::alloc::{AllocError, Allocator, Global};
 use std::collections::VecDeque;
 
@@ -34,32 +34,7 @@ pub type GroupRow<K, A, B, M = Global> = (K, EitherOrBoth<Vec<A, M>, Vec<B, M>>)
 /// let text = format!(in alloc; "{rows:?}")?;
 /// assert_eq!(rt; text.as_str(), "[(1, Both(['b', 'a'], ['x'])), (2, Right(['y'])), (3, Left(['c']))]");
 /// ```
-pub fn group_join_unordered<K: Ord + Drop, A: Drop, B: Drop>(
-    alloc: Global,
-    left: Vec<(K, A)>,
-    right: Vec<(K, B)>,
-) -> Result<Vec<GroupRow<K, A, B>>, AllocError>
-    ensures { IfOk result (λ rows. IsGroupJoin K.cmp left.items right.items (map shown_row rows.items)) }
-{
-    group_join_unordered_in(alloc, left, right)
-}
-
-/// Returns what [`group_join_unordered`] does, with memory of any allocator.
-///
-/// # Errors
-///
-/// `AllocError` where a request for memory was refused: then both tables are dropped.
-///
-/// # Examples
-///
-/// ```
-/// let left = vec![in alloc; (3, 'c'), (1, 'b'), (1, 'a')]?;
-/// let right = vec![in alloc; (2, 'y'), (1, 'x')]?;
-/// let rows = group_join_unordered_in(alloc, left, right)?;
-/// let text = format!(in alloc; "{rows:?}")?;
-/// assert_eq!(rt; text.as_str(), "[(1, Both(['b', 'a'], ['x'])), (2, Right(['y'])), (3, Left(['c']))]");
-/// ```
-pub fn group_join_unordered_in<K: Ord + Drop, A: Drop, B: Drop, M: Allocator + Copy>(
+pub fn group_join_unordered<K: Ord + Drop, A: Drop, B: Drop, M: Allocator + Copy>(
     alloc: M,
     left: Vec<(K, A), M>,
     right: Vec<(K, B), M>,
@@ -68,7 +43,7 @@ pub fn group_join_unordered_in<K: Ord + Drop, A: Drop, B: Drop, M: Allocator + C
 {
     let left = in_order(left)?;
     let right = in_order(right)?;
-    let rows = group_join_in(alloc, left, right)?;
+    let rows = group_join(alloc, left, right)?;
     Ok(rows)
 }
 
@@ -91,35 +66,7 @@ pub fn group_join_unordered_in<K: Ord + Drop, A: Drop, B: Drop, M: Allocator + C
 /// let text = format!(in alloc; "{rows:?}")?;
 /// assert_eq!(rt; text.as_str(), "[(1, Both(['a', 'b'], ['x'])), (2, Right(['y'])), (3, Left(['c']))]");
 /// ```
-pub fn group_join<K: Ord + Drop, A: Drop, B: Drop>(
-    alloc: Global,
-    left: Vec<(K, A)>,
-    right: Vec<(K, B)>,
-) -> Result<Vec<GroupRow<K, A, B>>, AllocError>
-    requires left { Ordered K.cmp left.items }
-    requires right { Ordered K.cmp right.items }
-    ensures { IfOk result (λ rows. IsGroupJoin K.cmp left.items right.items (map shown_row rows.items)) }
-{
-    group_join_in(alloc, left, right)
-}
-
-/// Returns what [`group_join`] does, with memory of any allocator.
-///
-/// # Errors
-///
-/// `AllocError` where a request for memory was refused: then both tables are dropped.
-///
-/// # Examples
-///
-/// ```
-/// let left = vec![in alloc; (1, 'a'), (1, 'b'), (3, 'c')]?;
-/// let right = vec![in alloc; (1, 'x'), (2, 'y')]?;
-/// assert!(rt; is_ordered(&left) && is_ordered(&right));
-/// let rows = group_join_in(alloc, left, right)?;
-/// let text = format!(in alloc; "{rows:?}")?;
-/// assert_eq!(rt; text.as_str(), "[(1, Both(['a', 'b'], ['x'])), (2, Right(['y'])), (3, Left(['c']))]");
-/// ```
-pub fn group_join_in<K: Ord + Drop, A: Drop, B: Drop, M: Allocator + Copy>(
+pub fn group_join<K: Ord + Drop, A: Drop, B: Drop, M: Allocator + Copy>(
     alloc: M,
     left: Vec<(K, A), M>,
     right: Vec<(K, B), M>,
@@ -128,9 +75,9 @@ pub fn group_join_in<K: Ord + Drop, A: Drop, B: Drop, M: Allocator + Copy>(
     requires right { Ordered K.cmp right.items }
     ensures { IfOk result (λ rows. IsGroupJoin K.cmp left.items right.items (map shown_row rows.items)) }
 {
-    let left = group_by_key_in(alloc, left)?;
-    let right = group_by_key_in(alloc, right)?;
-    let rows = outer_join_in(alloc, left, right)?;
+    let left = group_by_key(alloc, left)?;
+    let right = group_by_key(alloc, right)?;
+    let rows = outer_join(alloc, left, right)?;
     Ok(rows)
 }
 
@@ -152,33 +99,7 @@ pub fn group_join_in<K: Ord + Drop, A: Drop, B: Drop, M: Allocator + Copy>(
 /// let text = format!(in alloc; "{groups:?}")?;
 /// assert_eq!(rt; text.as_str(), "[(1, ['a', 'b']), (3, ['c'])]");
 /// ```
-pub fn group_by_key<K: Ord + Drop, V: Drop>(
-    alloc: Global,
-    list: Vec<(K, V)>,
-) -> Result<Vec<(K, Vec<V>)>, AllocError>
-    requires { Ordered K.cmp list.items }
-    ensures groups { IfOk result (λ groups. AreGroups K.cmp list.items (map shown_group groups.items)) }
-    ensures rises { IfOk result (λ groups. Rising K.cmp groups.items) }
-{
-    group_by_key_in(alloc, list)
-}
-
-/// Returns what [`group_by_key`] does, with memory of any allocator.
-///
-/// # Errors
-///
-/// `AllocError` where a request for memory was refused: then the table is dropped.
-///
-/// # Examples
-///
-/// ```
-/// let list = vec![in alloc; (1, 'a'), (1, 'b'), (3, 'c')]?;
-/// assert!(rt; is_ordered(&list));
-/// let groups = group_by_key_in(alloc, list)?;
-/// let text = format!(in alloc; "{groups:?}")?;
-/// assert_eq!(rt; text.as_str(), "[(1, ['a', 'b']), (3, ['c'])]");
-/// ```
-pub fn group_by_key_in<K: Ord + Drop, V: Drop, M: Allocator + Copy>(
+pub fn group_by_key<K: Ord + Drop, V: Drop, M: Allocator + Copy>(
     alloc: M,
     list: Vec<(K, V), M>,
 ) -> Result<Vec<(K, Vec<V, M>), M>, AllocError>

@@ -49,9 +49,12 @@ fn join_of<K: Ord + Drop, A: Drop, B: Drop, M: Allocator>(
     outer_join_lazily(left, right)
 }
 
-// The items of an iterator as a vector. Where `collect` asks for memory by the hint, and goes on where that is refused, this pushes each
-// item and stops at the first refused request.
-fn push_all<I: Iterator, M: Allocator>(alloc: M, items: I) -> Result<Vec<I::Item, M>, AllocError>
+/// Returns the items of an iterator as a vector. Where `collect` asks for memory by the hint, and goes on where that is refused, this pushes each
+/// item and stops at the first refused request.
+pub(crate) fn push_all<I: Iterator, M: Allocator>(
+    alloc: M,
+    items: I,
+) -> Result<Vec<I::Item, M>, AllocError>
 where
     I::Item: Drop,
     requires can { I.can_next items }

@@ -15,7 +15,7 @@ ghost use Rattle.eob_joins.specs.MapJoin.{AddsRight, AddsRights, IsMapJoin, IsMa
 
 use eob_lists::EitherOrBoth;
 use indexmap::IndexMap;
-use std::alloc::{AllocError, Allocator, Global};
+use std::alloc::{AllocError, Allocator};
 use std::collections::HashMap;
 use std::hash::{BuildHasher, Hash};
 
@@ -41,41 +41,6 @@ use std::hash::{BuildHasher, Hash};
 /// assert_eq!(rt; text.as_str(), "{3: Left('c'), 1: Both('a', 'x'), 2: Right('y')}");
 /// ```
 pub fn outer_join_index_maps<
-    K: Eq + Hash + Drop,
-    A: Drop,
-    B: Drop,
-    S: BuildHasher + Default + Drop,
-    T: BuildHasher + Drop,
->(
-    alloc: Global,
-    left: IndexMap<K, A, S>,
-    right: IndexMap<K, B, T>,
-) -> Result<IndexMap<K, EitherOrBoth<A, B>, S>, AllocError>
-    ensures { IfOk result (λ rows. IsMapJoin K.eq left.entries right.entries rows.entries) }
-{
-    outer_join_index_maps_in(alloc, left, right)
-}
-
-/// Returns what [`outer_join_index_maps`] does, with memory of any allocator.
-///
-/// # Errors
-///
-/// `AllocError` where a request for memory was refused: then both maps are dropped.
-///
-/// # Examples
-///
-/// ```
-/// let mut left = IndexMap::new(alloc);
-/// left.insert(3, 'c')?;
-/// left.insert(1, 'a')?;
-/// let mut right = IndexMap::new(alloc);
-/// right.insert(2, 'y')?;
-/// right.insert(1, 'x')?;
-/// let rows = outer_join_index_maps_in(alloc, left, right)?;
-/// let text = format!(in alloc; "{rows:?}")?;
-/// assert_eq!(rt; text.as_str(), "{3: Left('c'), 1: Both('a', 'x'), 2: Right('y')}");
-/// ```
-pub fn outer_join_index_maps_in<
     K: Eq + Hash + Drop,
     A: Drop,
     B: Drop,
@@ -118,38 +83,6 @@ pub fn outer_join_hash_maps<
     B: Drop,
     S: BuildHasher + Default + Drop,
     T: BuildHasher + Drop,
->(
-    alloc: Global,
-    left: HashMap<K, A, S>,
-    right: HashMap<K, B, T>,
-) -> Result<IndexMap<K, EitherOrBoth<A, B>, S>, AllocError>
-    ensures { IfOk result (λ rows. IsMapJoin K.eq left.entries right.entries rows.entries) }
-{
-    outer_join_hash_maps_in(alloc, left, right)
-}
-
-/// Returns what [`outer_join_hash_maps`] does, with memory of any allocator.
-///
-/// # Errors
-///
-/// `AllocError` where a request for memory was refused: then both maps are dropped.
-///
-/// # Examples
-///
-/// ```
-/// let mut left = HashMap::new(alloc);
-/// left.insert(1, 'a')?;
-/// let mut right = HashMap::new(alloc);
-/// right.insert(1, 'x')?;
-/// let rows = outer_join_hash_maps_in(alloc, left, right)?;
-/// assert_eq!(rt; rows.get(&1), Some(&Both('a', 'x')));
-/// ```
-pub fn outer_join_hash_maps_in<
-    K: Eq + Hash + Drop,
-    A: Drop,
-    B: Drop,
-    S: BuildHasher + Default + Drop,
-    T: BuildHasher + Drop,
     M: Allocator + Copy,
 >(
     alloc: M,
@@ -185,40 +118,6 @@ pub fn outer_join_hash_maps_in<
 /// assert_eq!(rt; text.as_str(), "{\"port\": 8080, \"depth\": 3, \"width\": 72}");
 /// ```
 pub fn overlay_index_maps<
-    K: Eq + Hash + Drop,
-    V: Drop,
-    S: BuildHasher + Default + Drop,
-    T: BuildHasher + Drop,
->(
-    alloc: Global,
-    base: IndexMap<K, V, S>,
-    over: IndexMap<K, V, T>,
-) -> Result<IndexMap<K, V, S>, AllocError>
-    ensures { IfOk result (λ rows. IsMapOverlay K.eq base.entries over.entries rows.entries) }
-{
-    overlay_index_maps_in(alloc, base, over)
-}
-
-/// Returns what [`overlay_index_maps`] does, with memory of any allocator.
-///
-/// # Errors
-///
-/// `AllocError` where a request for memory was refused: then both maps are dropped.
-///
-/// # Examples
-///
-/// ```
-/// let mut site = IndexMap::new(alloc);
-/// site.insert("port", 80)?;
-/// site.insert("depth", 3)?;
-/// let mut user = IndexMap::new(alloc);
-/// user.insert("width", 72)?;
-/// user.insert("port", 8080)?;
-/// let settings = overlay_index_maps_in(alloc, site, user)?;
-/// let text = format!(in alloc; "{settings:?}")?;
-/// assert_eq!(rt; text.as_str(), "{\"port\": 8080, \"depth\": 3, \"width\": 72}");
-/// ```
-pub fn overlay_index_maps_in<
     K: Eq + Hash + Drop,
     V: Drop,
     S: BuildHasher + Default + Drop,

@@ -8,7 +8,7 @@ ghost use Rattle.eob_joins.specs.Tables.{both_places, lone_left, paired_left, pa
 
 use crate::kept::kept_rows;
 use eob_lists::EitherOrBoth;
-use std::alloc::{AllocError, Allocator, Global};
+use std::alloc::{AllocError, Allocator};
 
 /// Returns the inner join of two lists: each key that both lists have, in order, with both values. Takes one comparison for each key of
 /// either list at most.
@@ -28,35 +28,7 @@ use std::alloc::{AllocError, Allocator, Global};
 /// let rows = vec![in alloc; (3, ('b', 'y'))]?;
 /// assert_eq!(rt; inner_join(alloc, left, right)?, rows);
 /// ```
-pub fn inner_join<K: Ord + Drop, A: Drop, B: Drop>(
-    alloc: Global,
-    left: Vec<(K, A)>,
-    right: Vec<(K, B)>,
-) -> Result<Vec<(K, (A, B))>, AllocError>
-    requires left { Rising K.cmp left.items }
-    requires right { Rising K.cmp right.items }
-    ensures kept { IfOk result (λ rows. IsKeptOfJoin K.cmp both_places left.items right.items rows.items) }
-    ensures values { IfOk result (λ rows. IsInnerJoin K.cmp left.items right.items rows.items) }
-{
-    inner_join_in(alloc, left, right)
-}
-
-/// Returns what [`inner_join`] does, with memory of any allocator.
-///
-/// # Errors
-///
-/// `AllocError` where a request for memory was refused: then both lists are dropped.
-///
-/// # Examples
-///
-/// ```
-/// let left = vec![in alloc; (1, 'a'), (3, 'b')]?;
-/// let right = vec![in alloc; (2, 'x'), (3, 'y')]?;
-/// assert!(rt; is_rising(&left) && is_rising(&right));
-/// let rows = vec![in alloc; (3, ('b', 'y'))]?;
-/// assert_eq!(rt; inner_join_in(alloc, left, right)?, rows);
-/// ```
-pub fn inner_join_in<K: Ord + Drop, A: Drop, B: Drop, M: Allocator>(
+pub fn inner_join<K: Ord + Drop, A: Drop, B: Drop, M: Allocator>(
     alloc: M,
     left: Vec<(K, A), M>,
     right: Vec<(K, B), M>,
@@ -73,7 +45,10 @@ pub fn inner_join_in<K: Ord + Drop, A: Drop, B: Drop, M: Allocator>(
 /// Returns the left join of two lists: each key of the left list, in order, with its value and the right list's, if there is one. Takes
 /// one comparison for each key of either list at most.
 ///
-/// The caller must prove that the keys strictly increase; see [`is_rising`](eob_lists::join::is_rising).
+/// The caller must prove that the keys strictly increase, so that each list has a key once; see
+/// [`is_rising`](eob_lists::join::is_rising). Where the keys of the left list repeat, as those of orders do,
+/// [`lookup_join`](crate::lookup_join) gives each of its items with what a map has; where the keys of both do,
+/// [`group_join`](crate::group_join) gives all values of each key.
 ///
 /// # Errors
 ///
@@ -88,35 +63,7 @@ pub fn inner_join_in<K: Ord + Drop, A: Drop, B: Drop, M: Allocator>(
 /// let rows = vec![in alloc; (1, ('a', None)), (3, ('b', Some('y')))]?;
 /// assert_eq!(rt; left_join(alloc, left, right)?, rows);
 /// ```
-pub fn left_join<K: Ord + Drop, A: Drop, B: Drop>(
-    alloc: Global,
-    left: Vec<(K, A)>,
-    right: Vec<(K, B)>,
-) -> Result<Vec<(K, (A, Option<B>))>, AllocError>
-    requires left { Rising K.cmp left.items }
-    requires right { Rising K.cmp right.items }
-    ensures kept { IfOk result (λ rows. IsKeptOfJoin K.cmp paired_left left.items right.items rows.items) }
-    ensures values { IfOk result (λ rows. IsLeftJoin K.cmp left.items right.items rows.items) }
-{
-    left_join_in(alloc, left, right)
-}
-
-/// Returns what [`left_join`] does, with memory of any allocator.
-///
-/// # Errors
-///
-/// `AllocError` where a request for memory was refused: then both lists are dropped.
-///
-/// # Examples
-///
-/// ```
-/// let left = vec![in alloc; (1, 'a'), (3, 'b')]?;
-/// let right = vec![in alloc; (2, 'x'), (3, 'y')]?;
-/// assert!(rt; is_rising(&left) && is_rising(&right));
-/// let rows = vec![in alloc; (1, ('a', None)), (3, ('b', Some('y')))]?;
-/// assert_eq!(rt; left_join_in(alloc, left, right)?, rows);
-/// ```
-pub fn left_join_in<K: Ord + Drop, A: Drop, B: Drop, M: Allocator>(
+pub fn left_join<K: Ord + Drop, A: Drop, B: Drop, M: Allocator>(
     alloc: M,
     left: Vec<(K, A), M>,
     right: Vec<(K, B), M>,
@@ -133,7 +80,9 @@ pub fn left_join_in<K: Ord + Drop, A: Drop, B: Drop, M: Allocator>(
 /// Returns the right join of two lists: each key of the right list, in order, with the left list's value, if there is one, and its own.
 /// Takes one comparison for each key of either list at most.
 ///
-/// The caller must prove that the keys strictly increase; see [`is_rising`](eob_lists::join::is_rising).
+/// The caller must prove that the keys strictly increase, so that each list has a key once; see
+/// [`is_rising`](eob_lists::join::is_rising). Where the keys of the right list repeat, [`lookup_join`](crate::lookup_join) gives each of
+/// its items with what a map has; where the keys of both do, [`group_join`](crate::group_join) gives all values of each key.
 ///
 /// # Errors
 ///
@@ -148,35 +97,7 @@ pub fn left_join_in<K: Ord + Drop, A: Drop, B: Drop, M: Allocator>(
 /// let rows = vec![in alloc; (2, (None, 'x')), (3, (Some('b'), 'y'))]?;
 /// assert_eq!(rt; right_join(alloc, left, right)?, rows);
 /// ```
-pub fn right_join<K: Ord + Drop, A: Drop, B: Drop>(
-    alloc: Global,
-    left: Vec<(K, A)>,
-    right: Vec<(K, B)>,
-) -> Result<Vec<(K, (Option<A>, B))>, AllocError>
-    requires left { Rising K.cmp left.items }
-    requires right { Rising K.cmp right.items }
-    ensures kept { IfOk result (λ rows. IsKeptOfJoin K.cmp paired_right left.items right.items rows.items) }
-    ensures values { IfOk result (λ rows. IsRightJoin K.cmp left.items right.items rows.items) }
-{
-    right_join_in(alloc, left, right)
-}
-
-/// Returns what [`right_join`] does, with memory of any allocator.
-///
-/// # Errors
-///
-/// `AllocError` where a request for memory was refused: then both lists are dropped.
-///
-/// # Examples
-///
-/// ```
-/// let left = vec![in alloc; (1, 'a'), (3, 'b')]?;
-/// let right = vec![in alloc; (2, 'x'), (3, 'y')]?;
-/// assert!(rt; is_rising(&left) && is_rising(&right));
-/// let rows = vec![in alloc; (2, (None, 'x')), (3, (Some('b'), 'y'))]?;
-/// assert_eq!(rt; right_join_in(alloc, left, right)?, rows);
-/// ```
-pub fn right_join_in<K: Ord + Drop, A: Drop, B: Drop, M: Allocator>(
+pub fn right_join<K: Ord + Drop, A: Drop, B: Drop, M: Allocator>(
     alloc: M,
     left: Vec<(K, A), M>,
     right: Vec<(K, B), M>,
@@ -208,35 +129,7 @@ pub fn right_join_in<K: Ord + Drop, A: Drop, B: Drop, M: Allocator>(
 /// let rows = vec![in alloc; (3, 'b')]?;
 /// assert_eq!(rt; semi_join(alloc, left, right)?, rows);
 /// ```
-pub fn semi_join<K: Ord + Drop, A: Drop, B: Drop>(
-    alloc: Global,
-    left: Vec<(K, A)>,
-    right: Vec<(K, B)>,
-) -> Result<Vec<(K, A)>, AllocError>
-    requires left { Rising K.cmp left.items }
-    requires right { Rising K.cmp right.items }
-    ensures kept { IfOk result (λ rows. IsKeptOfJoin K.cmp shared_left left.items right.items rows.items) }
-    ensures values { IfOk result (λ rows. IsSemiJoin K.cmp left.items right.items rows.items) }
-{
-    semi_join_in(alloc, left, right)
-}
-
-/// Returns what [`semi_join`] does, with memory of any allocator.
-///
-/// # Errors
-///
-/// `AllocError` where a request for memory was refused: then both lists are dropped.
-///
-/// # Examples
-///
-/// ```
-/// let left = vec![in alloc; (1, 'a'), (3, 'b')]?;
-/// let right = vec![in alloc; (2, 'x'), (3, 'y')]?;
-/// assert!(rt; is_rising(&left) && is_rising(&right));
-/// let rows = vec![in alloc; (3, 'b')]?;
-/// assert_eq!(rt; semi_join_in(alloc, left, right)?, rows);
-/// ```
-pub fn semi_join_in<K: Ord + Drop, A: Drop, B: Drop, M: Allocator>(
+pub fn semi_join<K: Ord + Drop, A: Drop, B: Drop, M: Allocator>(
     alloc: M,
     left: Vec<(K, A), M>,
     right: Vec<(K, B), M>,
@@ -268,35 +161,7 @@ pub fn semi_join_in<K: Ord + Drop, A: Drop, B: Drop, M: Allocator>(
 /// let rows = vec![in alloc; (1, 'a')]?;
 /// assert_eq!(rt; anti_join(alloc, left, right)?, rows);
 /// ```
-pub fn anti_join<K: Ord + Drop, A: Drop, B: Drop>(
-    alloc: Global,
-    left: Vec<(K, A)>,
-    right: Vec<(K, B)>,
-) -> Result<Vec<(K, A)>, AllocError>
-    requires left { Rising K.cmp left.items }
-    requires right { Rising K.cmp right.items }
-    ensures kept { IfOk result (λ rows. IsKeptOfJoin K.cmp lone_left left.items right.items rows.items) }
-    ensures values { IfOk result (λ rows. IsAntiJoin K.cmp left.items right.items rows.items) }
-{
-    anti_join_in(alloc, left, right)
-}
-
-/// Returns what [`anti_join`] does, with memory of any allocator.
-///
-/// # Errors
-///
-/// `AllocError` where a request for memory was refused: then both lists are dropped.
-///
-/// # Examples
-///
-/// ```
-/// let left = vec![in alloc; (1, 'a'), (3, 'b')]?;
-/// let right = vec![in alloc; (2, 'x'), (3, 'y')]?;
-/// assert!(rt; is_rising(&left) && is_rising(&right));
-/// let rows = vec![in alloc; (1, 'a')]?;
-/// assert_eq!(rt; anti_join_in(alloc, left, right)?, rows);
-/// ```
-pub fn anti_join_in<K: Ord + Drop, A: Drop, B: Drop, M: Allocator>(
+pub fn anti_join<K: Ord + Drop, A: Drop, B: Drop, M: Allocator>(
     alloc: M,
     left: Vec<(K, A), M>,
     right: Vec<(K, B), M>,

@@ -8,9 +8,11 @@ ghost use Rattle.eob_joins.specs.Versions.{AreConflicts, IsMerge, IsMergeByKey, 
 ghost use Rattle.eob_joins.specs.Versions.{MergeLaw, MergedPlaceLaw, VersionsLaw};
 ghost use Rattle.eob_joins.specs.Versions.{clash, clashes, merged, row_verdict, verdict};
 
+use crate::layers::entries;
 use eob_lists::EitherOrBoth;
-use eob_lists::join::outer_join_in;
+use eob_lists::join::outer_join;
 use std::alloc::{AllocError, Allocator, Global};
+use std::collections::BTreeMap;
 
 /// The values of the three versions under a key, of which at least one is there: the base as left place, and ours and theirs on the
 /// right.
@@ -35,37 +37,7 @@ pub type Versions<V> = EitherOrBoth<V, EitherOrBoth<V, V>>;
 /// let rows = vec![in alloc; (1, Both('a', Both('a', 'd'))), (2, Both('b', Left('c')))]?;
 /// assert_eq!(rt; join_versions(alloc, base, ours, theirs)?, rows);
 /// ```
-pub fn join_versions<K: Ord + Drop, V: Drop>(
-    alloc: Global,
-    base: Vec<(K, V)>,
-    ours: Vec<(K, V)>,
-    theirs: Vec<(K, V)>,
-) -> Result<Vec<(K, Versions<V>)>, AllocError>
-    requires base { Rising K.cmp base.items }
-    requires ours { Rising K.cmp ours.items }
-    requires theirs { Rising K.cmp theirs.items }
-    ensures { IfOk result (λ rows. IsVersionJoin K.cmp base.items ours.items theirs.items rows.items) }
-{
-    join_versions_in(alloc, base, ours, theirs)
-}
-
-/// Returns what [`join_versions`] does, with memory of any allocator.
-///
-/// # Errors
-///
-/// `AllocError` where a request for memory was refused: then the three versions are dropped.
-///
-/// # Examples
-///
-/// ```
-/// let base = vec![in alloc; (1, 'a')]?;
-/// let ours = vec![in alloc; (1, 'b')]?;
-/// let theirs = vec![in alloc; (2, 'c')]?;
-/// assert!(rt; is_rising(&base) && is_rising(&ours) && is_rising(&theirs));
-/// let rows = vec![in alloc; (1, Both('a', Left('b'))), (2, Right(Right('c')))]?;
-/// assert_eq!(rt; join_versions_in(alloc, base, ours, theirs)?, rows);
-/// ```
-pub fn join_versions_in<K: Ord + Drop, V: Drop, M: Allocator + Copy>(
+pub fn join_versions<K: Ord + Drop, V: Drop, M: Allocator + Copy>(
     alloc: M,
     base: Vec<(K, V), M>,
     ours: Vec<(K, V), M>,
@@ -76,8 +48,8 @@ pub fn join_versions_in<K: Ord + Drop, V: Drop, M: Allocator + Copy>(
     requires theirs { Rising K.cmp theirs.items }
     ensures { IfOk result (λ rows. IsVersionJoin K.cmp base.items ours.items theirs.items rows.items) }
 {
-    let sides = outer_join_in(alloc, ours, theirs)?;
-    let rows = outer_join_in(alloc, base, sides)?;
+    let sides = outer_join(alloc, ours, theirs)?;
+    let rows = outer_join(alloc, base, sides)?;
     Ok(rows)
 }
 
@@ -158,15 +130,16 @@ fn judge_values<V: Eq>(base: &V, ours: &V, theirs: &V) -> Verdict
 
 /// The answer of [`merge_versions`].
 #[derive(Debug, PartialEq, Eq, Drop)]
-pub enum Merged<K, V> {
+pub enum Merged<K, V, M: Allocator = Global> {
     /// No row is in conflict: the merged table.
-    Whole(Vec<(K, V)>),
+    Whole(Vec<(K, V), M>),
     /// The rows that are in conflict, at least one, each with its values in the three versions.
-    Conflicts(Vec<(K, Versions<V>)>),
+    Conflicts(Vec<(K, Versions<V>), M>),
 }
 
-/// Returns two versions of a table merged over their base. Where no row is in conflict, the merged table: whatever either
-/// side alone changed is in it as that side has it, and every other row is as it was. Else the rows in conflict, and no others.
+/// Returns two versions of a table merged over their base. Where no row is in conflict, the merged table: whatever one side alone
+/// changed is in it as that side has it, what both changed alike as both have it, and every other row as it was. Else the rows in
+/// conflict, and no others.
 ///
 /// The caller must prove that the keys strictly increase; see [`is_rising`](eob_lists::join::is_rising).
 ///
@@ -184,12 +157,12 @@ pub enum Merged<K, V> {
 /// let whole = Merged::Whole(vec![in alloc; (1, 'd'), (2, 'c'), (3, 'e')]?);
 /// assert_eq!(rt; merge_versions(alloc, base, ours, theirs)?, whole);
 /// ```
-pub fn merge_versions<K: Ord + Drop, V: Eq + Drop>(
-    alloc: Global,
-    base: Vec<(K, V)>,
-    ours: Vec<(K, V)>,
-    theirs: Vec<(K, V)>,
-) -> Result<Merged<K, V>, AllocError>
+pub fn merge_versions<K: Ord + Drop, V: Eq + Drop, M: Allocator + Copy>(
+    alloc: M,
+    base: Vec<(K, V), M>,
+    ours: Vec<(K, V), M>,
+    theirs: Vec<(K, V), M>,
+) -> Result<Merged<K, V, M>, AllocError>
     requires base { Rising K.cmp base.items }
     requires ours { Rising K.cmp ours.items }
     requires theirs { Rising K.cmp theirs.items }
@@ -200,7 +173,8 @@ pub fn merge_versions<K: Ord + Drop, V: Eq + Drop>(
     Ok(merge)
 }
 
-/// Returns what [`merge_versions`] does, with memory of any allocator: the merged table, or the rows in conflict as the error.
+/// Returns two versions of an ordered map merged over their base, as [`merge_versions`] does of lists. The keys of an ordered map
+/// strictly increase, so there is nothing to prove, and so do those of the merged table, which is a list.
 ///
 /// # Errors
 ///
@@ -209,53 +183,50 @@ pub fn merge_versions<K: Ord + Drop, V: Eq + Drop>(
 /// # Examples
 ///
 /// ```
-/// let base = vec![in alloc; (1, 'a'), (2, 'b')]?;
-/// let ours = vec![in alloc; (1, 'a'), (2, 'c')]?;
-/// let theirs = vec![in alloc; (1, 'd'), (2, 'e')]?;
-/// assert!(rt; is_rising(&base) && is_rising(&ours) && is_rising(&theirs));
-/// let found = vec![in alloc; (2, Both('b', Both('c', 'e')))]?;
-/// assert_eq!(rt; merge_versions_in(alloc, base, ours, theirs)?, Err(found));
+/// let mut base = BTreeMap::new(alloc);
+/// base.insert(1, 'a')?;
+/// let ours = BTreeMap::new(alloc);
+/// let mut theirs = BTreeMap::new(alloc);
+/// theirs.insert(1, 'a')?;
+/// theirs.insert(2, 'b')?;
+/// let whole = Merged::Whole(vec![in alloc; (2, 'b')]?);
+/// assert_eq!(rt; merge_version_maps(alloc, base, ours, theirs)?, whole);
 /// ```
-pub fn merge_versions_in<K: Ord + Drop, V: Eq + Drop, M: Allocator + Copy>(
+pub fn merge_version_maps<K: Ord + Drop, V: Eq + Drop, M: Allocator + Copy>(
+    alloc: M,
+    base: BTreeMap<K, V, M>,
+    ours: BTreeMap<K, V, M>,
+    theirs: BTreeMap<K, V, M>,
+) -> Result<Merged<K, V, M>, AllocError>
+    ensures rows { IfOk result (λ m. IsMerge K.cmp V.eq base.entries ours.entries theirs.entries m) }
+    ensures values { IfOk result (λ m. IsMergeByKey K.cmp V.eq base.entries ours.entries theirs.entries m) }
+{
+    let base = entries(alloc, base)?;
+    let ours = entries(alloc, ours)?;
+    let theirs = entries(alloc, theirs)?;
+    let merge = merge_versions(alloc, base, ours, theirs)?;
+    Ok(merge)
+}
+
+// The merged table of three versions, or the rows in conflict.
+fn whole_or_conflicts<K: Ord + Drop, V: Eq + Drop, M: Allocator + Copy>(
     alloc: M,
     base: Vec<(K, V), M>,
     ours: Vec<(K, V), M>,
     theirs: Vec<(K, V), M>,
-) -> Result<Result<Vec<(K, V), M>, Vec<(K, Versions<V>), M>>, AllocError>
-    requires base { Rising K.cmp base.items }
-    requires ours { Rising K.cmp ours.items }
-    requires theirs { Rising K.cmp theirs.items }
-    ensures table { IfOk result (λ m. IfOk m
-        (λ whole. IsMergedTable K.cmp V.eq base.items ours.items theirs.items whole.items)) }
-    ensures conflicts { IfOk result (λ m. IfErr m
-        (λ found. AreConflicts K.cmp V.eq base.items ours.items theirs.items found.items)) }
-{
-    let rows = join_versions_in(alloc, base, ours, theirs)?;
-    if has_conflict(&rows) {
-        let found = conflicts(alloc, rows)?;
-        Ok(Err(found))
-    } else {
-        let whole = merged_rows(alloc, rows)?;
-        Ok(Ok(whole))
-    }
-}
-
-// The merged table of three versions, or the rows in conflict.
-fn whole_or_conflicts<K: Ord + Drop, V: Eq + Drop>(
-    alloc: Global,
-    base: Vec<(K, V)>,
-    ours: Vec<(K, V)>,
-    theirs: Vec<(K, V)>,
-) -> Result<Merged<K, V>, AllocError>
+) -> Result<Merged<K, V, M>, AllocError>
     requires base { Rising K.cmp base.items }
     requires ours { Rising K.cmp ours.items }
     requires theirs { Rising K.cmp theirs.items }
     ensures { IfOk result (λ m. IsMerge K.cmp V.eq base.items ours.items theirs.items m) }
 {
-    let merge = merge_versions_in(alloc, base, ours, theirs)?;
-    match merge {
-        Ok(whole) => Ok(Merged::Whole(whole)),
-        Err(found) => Ok(Merged::Conflicts(found)),
+    let rows = join_versions(alloc, base, ours, theirs)?;
+    if has_conflict(&rows) {
+        let found = conflicts(alloc, rows)?;
+        Ok(Merged::Conflicts(found))
+    } else {
+        let whole = merged_rows(alloc, rows)?;
+        Ok(Merged::Whole(whole))
     }
 }
 
@@ -364,7 +335,7 @@ pub fn law_versions<K: Ord, V>()
 
 /// The answer of a merge by look-ups: under each key of the merged table stands a function of the three values there, and no key is in
 /// conflict; or under each key that is in conflict stand its three values.
-pub fn law_merge<K: Ord, V: Eq>(merge: &Merged<K, V>)
+pub fn law_merge<K: Ord, V: Eq, M: Allocator>(merge: &Merged<K, V, M>)
     ensures { MergeLaw K.cmp V.eq merge.now }
 {}
 

@@ -10,7 +10,7 @@ ghost use Rattle.eob_known_lists.specs.Listed.{AreTakenInTurn, listed_at};
 use crate::listing::{CountedListing, Listing, OwnListing};
 use eob_lists::EitherOrBoth;
 use eob_lists::laws::{Driven, End, drive_chain, drive_swap};
-use std::alloc::{AllocError, Global};
+use std::alloc::{AllocError, Allocator};
 
 /// Calls the ends of `into_iter_swap` over a pair of such values in turn, as [`drive_swap`] does, with nothing for the caller to prove.
 /// The answers hold the items as the iterator returns them, such as the references of slices; the contract reads those by what they
@@ -30,11 +30,11 @@ use std::alloc::{AllocError, Global};
 /// assert_eq!(rt; driven.answers, answers);
 /// assert_eq!(rt; driven.rest, 1);
 /// ```
-pub fn drive_swap_listed<L, R>(
-    alloc: Global,
+pub fn drive_swap_listed<L, R, A: Allocator>(
+    alloc: A,
     pair: EitherOrBoth<L, R>,
     ends: &[End],
-) -> Result<Driven<EitherOrBoth<L::Item, R::Item>>, AllocError>
+) -> Result<Driven<EitherOrBoth<L::Item, R::Item>, A>, AllocError>
 where
     L: CountedListing,
     R: CountedListing,
@@ -67,11 +67,11 @@ where
 /// assert_eq!(rt; driven.answers, answers);
 /// assert_eq!(rt; driven.rest, 1);
 /// ```
-pub fn drive_swap_owned<L, R>(
-    alloc: Global,
+pub fn drive_swap_owned<L, R, A: Allocator>(
+    alloc: A,
     pair: EitherOrBoth<L, R>,
     ends: &[End],
-) -> Result<Driven<EitherOrBoth<L::Item, R::Item>>, AllocError>
+) -> Result<Driven<EitherOrBoth<L::Item, R::Item>, A>, AllocError>
 where
     L: CountedListing + OwnListing,
     R: CountedListing + OwnListing,
@@ -103,11 +103,11 @@ where
 /// let answers = drive_chain_listed(alloc, pair, &[End::Back, End::Front])?;
 /// assert_eq!(rt; answers, vec![in alloc; Some(&4), Some(&1)]?);
 /// ```
-pub fn drive_chain_listed<T>(
-    alloc: Global,
+pub fn drive_chain_listed<T, A: Allocator>(
+    alloc: A,
     pair: EitherOrBoth<T, T>,
     ends: &[End],
-) -> Result<Vec<Option<T::Item>>, AllocError>
+) -> Result<Vec<Option<T::Item>, A>, AllocError>
 where
     T: Listing,
     T::IntoIter: DoubleEndedIterator,
@@ -131,11 +131,11 @@ where
 /// let answers = drive_chain_owned(alloc, pair, &[End::Back, End::Front])?;
 /// assert_eq!(rt; answers, vec![in alloc; Some(4), Some(1)]?);
 /// ```
-pub fn drive_chain_owned<T>(
-    alloc: Global,
+pub fn drive_chain_owned<T, A: Allocator>(
+    alloc: A,
     pair: EitherOrBoth<T, T>,
     ends: &[End],
-) -> Result<Vec<Option<T::Item>>, AllocError>
+) -> Result<Vec<Option<T::Item>, A>, AllocError>
 where
     T: OwnListing,
     T::IntoIter: DoubleEndedIterator,
@@ -147,10 +147,10 @@ where
 }
 
 // Takes from the front and the back of an iterator in turn until they meet.
-fn take_in_turn<I: DoubleEndedIterator + ExactSizeIterator>(
-    alloc: Global,
+fn take_in_turn<I: DoubleEndedIterator + ExactSizeIterator, A: Allocator + Copy>(
+    alloc: A,
     mut walk: I,
-) -> Result<(Vec<I::Item>, Vec<I::Item>), AllocError>
+) -> Result<(Vec<I::Item, A>, Vec<I::Item, A>), AllocError>
 where
     I::Item: Drop,
     requires { (list : Listed I.Item) × CountedToCome I.DoubleEndedIterator list.view list.items walk }
@@ -186,13 +186,13 @@ where
 /// assert_eq!(rt; fronts, vec![in alloc; EitherOrBoth::Both(1, 'a'), EitherOrBoth::Left(2)]?);
 /// assert_eq!(rt; backs, vec![in alloc; EitherOrBoth::Left(3)]?);
 /// ```
-pub fn take_swap_in_turn<L, R>(
-    alloc: Global,
+pub fn take_swap_in_turn<L, R, A: Allocator + Copy>(
+    alloc: A,
     pair: EitherOrBoth<L, R>,
 ) -> Result<
     (
-        Vec<EitherOrBoth<L::Item, R::Item>>,
-        Vec<EitherOrBoth<L::Item, R::Item>>,
+        Vec<EitherOrBoth<L::Item, R::Item>, A>,
+        Vec<EitherOrBoth<L::Item, R::Item>, A>,
     ),
     AllocError,
 >

@@ -3,8 +3,8 @@ use Rattle.std.proofs.Common.{◌≡◌, ℕ, zero, suc, ◌+◌, ◌-◌, ◌<�
 use Rattle.std.proofs.lemmas.Bool.{cases_lt, lt-ltb, le-ltb}
 use Rattle.std.proofs.lemmas.Grind.{reverse_onto}
 use Rattle.std.proofs.lemmas.List.{length-append}
-use Rattle.eob_lists.specs.declared.laws.drive.End.{End}
-use Rattle.eob_lists.specs.declared.laws.drive.End.TheVariants.{Front, Back}
+use Rattle.eob_lists.specs.declared.drive.End.{End}
+use Rattle.eob_lists.specs.declared.drive.End.TheVariants.{Front, Back}
 use Rattle.eob_lists.specs.Answers.{answer_at, answers_after, answers, from_back, from_front, WholeWalkLaw}
 
 nat_lt_no : (a b : ℕ) → b ≤ a → nat_lt a b ≡ false

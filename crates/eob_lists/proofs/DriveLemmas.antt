@@ -5,8 +5,8 @@ use Rattle.std.specs.Option.{option_map}
 use Rattle.std.specs.Iterator.{Count}
 use Rattle.eob_both.specs.Ends.{Ends, ToCome}
 use Rattle.eob_both.proofs.EndsLemmas.{to_come_front, to_come_back}
-use Rattle.eob_lists.specs.declared.laws.drive.End.{End}
-use Rattle.eob_lists.specs.declared.laws.drive.End.TheVariants.{Front, Back}
+use Rattle.eob_lists.specs.declared.drive.End.{End}
+use Rattle.eob_lists.specs.declared.drive.End.TheVariants.{Front, Back}
 use Rattle.eob_lists.specs.Answers.{answers, MatchEnd}
 use Rattle.eob_lists.proofs.AnswersLemmas.{answers-front, answers-back, answers-none}
 

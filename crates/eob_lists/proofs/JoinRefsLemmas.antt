@@ -197,15 +197,15 @@ module _ {S T K A B : Type 0} (cmp : K → K → Ordering) (lefts : S → List (
         let whole : p.whole ≡ true → IsJoin cmp xs ys (map deref_joined p.items) = λ w. subst (IsJoin cmp xs ys) (ap (λ k. map deref_joined p.items ++ k) (ends w) ∙ append-nil (map deref_joined p.items)) is in
         let long = join_length cmp o A B xs ys _ up_x up_y is in
         let parts = length-append (map deref_joined p.items) rest in
-        let rows = length-map p.items deref_joined in (
-          omega (arith, long, parts, rows, p.long),
-          whole,
-          (λ k. subst (λ r. IfSome r (ShowsPlaces cmp xs ys)) (sym (at-is p k)) (places_at cmp xs ys p.items rest (join_places cmp o A B xs ys _ is) k)),
-          rising cmp (λ k. ⊤) (map deref_joined p.items) (up_before cmp (λ k. ⊤) (map deref_joined p.items) rest (up cmp _ is.rises)),
-          begins cmp xs ys _ rest is,
-          (λ w. let all = join_length cmp o A B xs ys _ up_x up_y (whole w) in omega (arith, all, rows, p.long)),
-          λ w. counts_shown cmp xs ys p.items (join_counts cmp o A B xs ys _ up_x up_y (whole w)),
-        )
+        let rows = length-map p.items deref_joined in record {
+          bound = omega (arith, long, parts, rows, p.long);
+          join = whole;
+          places = λ k. subst (λ r. IfSome r (ShowsPlaces cmp xs ys)) (sym (at-is p k)) (places_at cmp xs ys p.items rest (join_places cmp o A B xs ys _ is) k);
+          rises = rising cmp (λ k. ⊤) (map deref_joined p.items) (up_before cmp (λ k. ⊤) (map deref_joined p.items) rest (up cmp _ is.rises));
+          begins = begins cmp xs ys _ rest is;
+          whole_len = λ w. let all = join_length cmp o A B xs ys _ up_x up_y (whole w) in omega (arith, all, rows, p.long);
+          counts = λ w. counts_shown cmp xs ys p.items (join_counts cmp o A B xs ys _ up_x up_y (whole w));
+        }
 
     -- a walk that holds the first items of two lists shows their join
     pub shown_walk : (w : Walk) (s : S) (t : T) → lefts s ≡ xs → rights t ≡ ys → HoldsFirsts firsts seconds s t w → (p : Run (join_steps shown firsts seconds)) → p.from ≡ w → ShowsJoin cmp xs ys p

@@ -6,8 +6,10 @@ pub mod JoinRefsLemmas
 pub mod MergeLemmas
 pub mod OuterJoinLemmas
 pub mod NormalLemmas
+pub mod PairLemmas
 pub mod AlignedLawLemmas
 pub mod AnswersLemmas
 pub mod DriveLemmas
+pub mod DifferenceLemmas
 pub mod ShownLemmas
 pub mod RisingLemmas

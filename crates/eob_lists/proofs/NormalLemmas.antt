@@ -16,19 +16,19 @@ one_more : (n : ℕ) → suc n ≡ 1 + n
 one_more n = omega arith
 
 -- the two lists of a pair, an absent one empty
-abbrev left_list : {A B : Type 0} → EitherOrBoth (List A) (List B) → List A
+abbrev pub left_list : {A B : Type 0} → EitherOrBoth (List A) (List B) → List A
 left_list v = contents_at (λ l. l) (left_place v)
 
-abbrev right_list : {A B : Type 0} → EitherOrBoth (List A) (List B) → List B
+abbrev pub right_list : {A B : Type 0} → EitherOrBoth (List A) (List B) → List B
 right_list v = contents_at (λ l. l) (right_place v)
 
-left_list-pair_of : {A B : Type 0} → (p : List A) (q : List B) → left_list (pair_of p q) ≡ p
+pub left_list-pair_of : {A B : Type 0} → (p : List A) (q : List B) → left_list (pair_of p q) ≡ p
 left_list-pair_of [] [] = refl
 left_list-pair_of (x ∷ p) [] = refl
 left_list-pair_of [] (y ∷ q) = refl
 left_list-pair_of (x ∷ p) (y ∷ q) = refl
 
-right_list-pair_of : {A B : Type 0} → (p : List A) (q : List B) → right_list (pair_of p q) ≡ q
+pub right_list-pair_of : {A B : Type 0} → (p : List A) (q : List B) → right_list (pair_of p q) ≡ q
 right_list-pair_of [] [] = refl
 right_list-pair_of (x ∷ p) [] = refl
 right_list-pair_of [] (y ∷ q) = refl

@@ -3,8 +3,8 @@ use Rattle.std.specs.Prelude.{◌≡◌, ℕ, ◌+◌, ◌-◌, ◌≤◌, min, 
 use Rattle.std.specs.Prelude.{Option, None}
 use Rattle.std.specs.List.{cons_option}
 use Rattle.eob_both.specs.Ends.{Ends, IsExactly, PlaceToCome}
-use Rattle.eob_lists.specs.declared.laws.drive.End.{End}
-use Rattle.eob_lists.specs.declared.laws.drive.End.TheVariants.{Front, Back}
+use Rattle.eob_lists.specs.declared.drive.End.{End}
+use Rattle.eob_lists.specs.declared.drive.End.TheVariants.{Front, Back}
 
 -- P at the front, and Q at the back
 abbrev pub MatchEnd : End → Type 0 → Type 0 → Type 0

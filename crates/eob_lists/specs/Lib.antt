@@ -20,6 +20,7 @@ pub mod Normal
 pub mod Laws
 pub mod AlignedLaws
 pub mod Answers
+pub mod Difference
 pub mod Join
 pub mod JoinLaws
 pub mod OuterJoin

@@ -78,18 +78,20 @@ abbrev pub HoldsFirsts : {S T K A B : Type 0} → (S → Option (K × A) → S �
     → JoinedPairs S T (K × A) (K × B) → Type 0
 HoldsFirsts firsts seconds s t z = firsts s z.left z.lefts × seconds t z.right z.rights
 
--- z is the walk over what x and y were made into: it has asked each for its first item, it ends where those end, and behind each
--- run of it stand runs of those
-abbrev pub JoinsRuns : {X Y S T K A B : Type 0} → (K → K → Ordering) → (X → S → Type 0) → (Y → T → Type 0)
-    → (S → Count) → (T → Count)
-    → (S → Option (K × A) → S → Type 0) → (T → Option (K × B) → T → Type 0) → X → Y
+-- z holds the first items of two iterators of which `left` and `right` hold, and behind each run of it stand runs of those
+abbrev pub JoinsRuns : {S T K A B : Type 0} → (K → K → Ordering) → (S → Type 0) → (T → Type 0)
+    → (S → Option (K × A) → S → Type 0) → (T → Option (K × B) → T → Type 0)
     → JoinedPairs S T (K × A) (K × B) → Type 0
-JoinsRuns {S = S} {T = T} cmp gives others first second firsts seconds x y z = (s : S) × (t : T) × gives x s
-    × others y t
-    × HoldsFirsts firsts seconds s t z × (IsFinite (first s) → IsFinite (second t)
-    → IsFinite (join_remaining first second z))
+JoinsRuns {S} {T} cmp left right firsts seconds z = (s : S) × (t : T) × left s × right t
+    × HoldsFirsts firsts seconds s t z
     × EachRunFrom (join_steps cmp firsts seconds) z
     (λ p. SomeRun firsts s (λ a. SomeRun seconds t (λ b. IsJoinRun cmp p a b)))
+
+-- z ends where two iterators do of which `left` and `right` hold
+abbrev pub JoinEnds : {S T K A B : Type 0} → (S → Type 0) → (T → Type 0) → (S → Count) → (T → Count)
+    → JoinedPairs S T (K × A) (K × B) → Type 0
+JoinEnds {S} {T} left right first second z = (s : S) × (t : T) × left s × right t
+    × (IsFinite (first s) → IsFinite (second t) → IsFinite (join_remaining first second z))
 
 module _ {W S T K A B : Type 0} {steps : W → Option (Bor K × EitherOrBoth (Bor A) (Bor B)) → W → Type 0}
     {firsts : S → Option (Bor K × Bor A) → S → Type 0}
@@ -102,14 +104,11 @@ module _ {W S T K A B : Type 0} {steps : W → Option (Bor K × EitherOrBoth (Bo
       → IsJoin cmp (map deref_pair a.items) (map deref_pair b.items) (map deref_joined p.items))
 
 -- the same as `JoinsRuns` for references
-abbrev pub JoinsShownRuns : {X Y S T K A B : Type 0} → (K → K → Ordering) → (X → S → Type 0)
-    → (Y → T → Type 0) → (S → Count) → (T → Count)
-    → (S → Option (Bor K × Bor A) → S → Type 0) → (T → Option (Bor K × Bor B) → T → Type 0) → X → Y
+abbrev pub JoinsShownRuns : {S T K A B : Type 0} → (K → K → Ordering) → (S → Type 0) → (T → Type 0)
+    → (S → Option (Bor K × Bor A) → S → Type 0) → (T → Option (Bor K × Bor B) → T → Type 0)
     → JoinedPairs S T (Bor K × Bor A) (Bor K × Bor B) → Type 0
-JoinsShownRuns {S = S} {T = T} cmp gives others first second firsts seconds x y z = (s : S) × (t : T)
-    × gives x s × others y t
-    × HoldsFirsts firsts seconds s t z × (IsFinite (first s) → IsFinite (second t)
-    → IsFinite (join_remaining first second z))
+JoinsShownRuns {S} {T} cmp left right firsts seconds z = (s : S) × (t : T) × left s × right t
+    × HoldsFirsts firsts seconds s t z
     × EachRunFrom (join_steps (λ j k. cmp j.now k.now) firsts seconds) z
     (λ p. SomeRun firsts s (λ a. SomeRun seconds t (λ b. IsShownJoinRun cmp p a b)))
 
@@ -139,14 +138,15 @@ abbrev pub BeginsJoinLaw : {K : Type 0} → (K → K → Ordering) → (A B : Ty
 BeginsJoinLaw {K} cmp A B = (xs : List (K × A)) (ys : List (K × B)) (zs : List (K × EitherOrBoth A B))
     → BeginsJoin cmp xs ys zs ↔ ((rest : List (K × EitherOrBoth A B)) × IsJoin cmp xs ys (zs ++ rest))
 
--- p gave no more rows than both lists have; each shows what the two lists have under its key, their keys rise, and they are a
--- beginning of the join; where p ended they are all of it, a row for each key of either list
-abbrev pub ShowsJoin : {W K A B : Type 0}
-    {steps : W → Option (Bor K × EitherOrBoth (Bor A) (Bor B)) → W → Type 0} → (K → K → Ordering)
-    → List (K × A) → List (K × B) → Run steps → Type 0
-ShowsJoin cmp xs ys p = (p.len ≤ length xs + length ys)
-    × (p.whole ≡ true → IsJoin cmp xs ys (map deref_joined p.items))
-    × AllItems p (ShowsPlaces cmp xs ys) × Rising cmp (map deref_joined p.items)
-    × BeginsJoin cmp xs ys (map deref_joined p.items)
-    × (p.whole ≡ true → p.len + shared_keys cmp xs ys ≡ length xs + length ys)
-    × (p.whole ≡ true → HasJoinCounts cmp xs ys p.items)
+-- what a run p of a walk over references gave of the join of xs and ys: no more rows than both lists have; each shows what the two
+-- lists have under its key; their keys rise, and they are a beginning of the join; where p ended they are all of it, a row for each
+-- key of either list
+pub record ShowsJoin {W K A B : Type 0} {steps : W → Option (Bor K × EitherOrBoth (Bor A) (Bor B)) → W → Type 0}
+    (cmp : K → K → Ordering) (xs : List (K × A)) (ys : List (K × B)) (p : Run steps) : Type 0 where
+  pub bound : p.len ≤ length xs + length ys
+  pub join : p.whole ≡ true → IsJoin cmp xs ys (map deref_joined p.items)
+  pub places : AllItems p (ShowsPlaces cmp xs ys)
+  pub rises : Rising cmp (map deref_joined p.items)
+  pub begins : BeginsJoin cmp xs ys (map deref_joined p.items)
+  pub whole_len : p.whole ≡ true → p.len + shared_keys cmp xs ys ≡ length xs + length ys
+  pub counts : p.whole ≡ true → HasJoinCounts cmp xs ys p.items

@@ -18,7 +18,7 @@ pub use laws::{
     law_sorted_rises,
 };
 pub use refs::{PairRefs, outer_join_maps, outer_join_refs, outer_join_slices};
-use std::alloc::{AllocError, Allocator, Global};
+use std::alloc::{AllocError, Allocator};
 use std::cmp::Ordering;
 use std::collections::VecDeque;
 pub use walk::{JoinedPairs, OuterJoin, outer_join_lazily};
@@ -56,34 +56,7 @@ pub fn is_rising<K: Ord, V>(list: &[(K, V)]) -> bool
 /// let joined = vec![in alloc; (1, Left('a')), (2, Right('x')), (3, Both('b', 'y'))]?;
 /// assert_eq!(rt; outer_join(alloc, left, right)?, joined);
 /// ```
-pub fn outer_join<K: Ord + Drop, A: Drop, B: Drop>(
-    alloc: Global,
-    left: Vec<(K, A)>,
-    right: Vec<(K, B)>,
-) -> Result<Vec<(K, EitherOrBoth<A, B>)>, AllocError>
-    requires left { Rising K.cmp left.items }
-    requires right { Rising K.cmp right.items }
-    ensures join { IfOk result (λ joined. IsJoin K.cmp left.items right.items joined.items) }
-    ensures both { SameKeys K.cmp left.items right.items → IfOk result (λ joined. AllBoth joined.items) }
-    ensures counts { IfOk result (λ joined. HasJoinCounts K.cmp left.items right.items joined.items) }
-{
-    outer_join_in(alloc, left, right)
-}
-
-/// Returns the full outer join of two lists whose keys strictly increase, as [`outer_join`] does, with memory of any allocator.
-///
-/// # Errors
-///
-/// `AllocError` where a request for memory was refused: then both lists are dropped.
-///
-/// # Examples
-///
-/// ```
-/// let left = vec![in alloc; (1, 'a')]?;
-/// let right = vec![in alloc; (1, 'x')]?;
-/// assert_eq!(rt; outer_join_in(alloc, left, right)?, vec![in alloc; (1, Both('a', 'x'))]?);
-/// ```
-pub fn outer_join_in<K: Ord + Drop, A: Drop, B: Drop, M: Allocator>(
+pub fn outer_join<K: Ord + Drop, A: Drop, B: Drop, M: Allocator>(
     alloc: M,
     left: Vec<(K, A), M>,
     right: Vec<(K, B), M>,

@@ -1,10 +1,10 @@
 //! `eob_walk`: answers each line of the standard input on the standard output.
 //!
-//! Here the process is handed to the run, which is the library `eob_lines`.
+//! Here the process is handed to the run, which is the library `walk_lines`.
 #![tactic(auto)]
 
-use eob_lines::run;
 use std::process::ExitCode;
+use walk_lines::run;
 
 fn main(rt: HostRuntime) -> ExitCode {
     let mut reader = rt.stdin();

@@ -5,7 +5,7 @@ ghost use Rattle.std.specs.Iterator.Runs.{EachRunFrom};
 ghost use Rattle.std.specs.Iterator.SizeHint.{IsWithinCount};
 ghost use Rattle.std.specs.Map.Iter.{TakesFirst, deref_pair};
 ghost use Rattle.eob_lists.specs.Join.{Rising};
-ghost use Rattle.eob_lists.specs.OuterJoin.{JoinsShownRuns, ShowsJoin, join_can, join_remaining};
+ghost use Rattle.eob_lists.specs.OuterJoin.{JoinEnds, JoinsShownRuns, ShowsJoin, join_can, join_remaining};
 ghost use Rattle.eob_lists.specs.OuterJoin.{join_steps, pairs_left};
 
 use super::{OuterJoin, law_sorted_rises, outer_join_lazily};
@@ -95,9 +95,10 @@ where
     requires left { (it : U.IntoIter) → U.into_iter_gives left it → U.IntoIter.can_next it }
     requires right { (it : V.IntoIter) → V.into_iter_gives right it → V.IntoIter.can_next it }
     ensures can { join_can U.IntoIter.can_next V.IntoIter.can_next result }
-    ensures runs { JoinsShownRuns K.cmp U.into_iter_gives V.into_iter_gives
-        U.IntoIter.remaining V.IntoIter.remaining
-        U.IntoIter.next_gives V.IntoIter.next_gives left right result }
+    ensures ends { JoinEnds (U.into_iter_gives left) (V.into_iter_gives right)
+        U.IntoIter.remaining V.IntoIter.remaining result }
+    ensures runs { JoinsShownRuns K.cmp (U.into_iter_gives left) (V.into_iter_gives right)
+        U.IntoIter.next_gives V.IntoIter.next_gives result }
 {
     outer_join_lazily(left, right)
 }

@@ -2,7 +2,7 @@
 ghost use Rattle.std.specs.Prelude.{◌≡◌, ◌+◌, ◌-◌, ◌^◌, min, max, IfSome, Some};
 ghost use Rattle.std.specs.Iterator.{UpTo};
 ghost use Rattle.std.specs.Iterator.SizeHint.{IsWithinCount};
-ghost use Rattle.eob_lists.specs.OuterJoin.{IsBoundSum, JoinsRuns, held_remaining, join_can};
+ghost use Rattle.eob_lists.specs.OuterJoin.{IsBoundSum, JoinEnds, JoinsRuns, held_remaining, join_can};
 ghost use Rattle.eob_lists.specs.OuterJoin.{join_remaining, join_steps};
 
 use crate::EitherOrBoth;
@@ -54,9 +54,10 @@ where
     requires left { (it : U.IntoIter) → U.into_iter_gives left it → U.IntoIter.can_next it }
     requires right { (it : V.IntoIter) → V.into_iter_gives right it → V.IntoIter.can_next it }
     ensures can { join_can U.IntoIter.can_next V.IntoIter.can_next result }
-    ensures runs { JoinsRuns K.cmp U.into_iter_gives V.into_iter_gives
-        U.IntoIter.remaining V.IntoIter.remaining
-        U.IntoIter.next_gives V.IntoIter.next_gives left right result }
+    ensures ends { JoinEnds (U.into_iter_gives left) (V.into_iter_gives right)
+        U.IntoIter.remaining V.IntoIter.remaining result }
+    ensures runs { JoinsRuns K.cmp (U.into_iter_gives left) (V.into_iter_gives right)
+        U.IntoIter.next_gives V.IntoIter.next_gives result }
 {
     let mut lefts = left.into_iter();
     let mut rights = right.into_iter();

@@ -1,6 +1,13 @@
-//! Further laws of the aligned list, whose other laws stand in `normal` and in `eob_both`.
+//! Laws of the aligned list. Those of its items, of `map` and of references stand in `eob_both`.
 ghost use Rattle.eob_lists.specs.AlignedLaws.{AlignedFlipLaw, AlignedSelfLaw, AlignedThreeLaw};
 ghost use Rattle.eob_lists.specs.AlignedLaws.{LeftsAloneLaw, RightsAloneLaw};
+ghost use Rattle.eob_lists.specs.Laws.{AlignedLaw};
+
+/// The two sides of an aligned list are the lists that were aligned. It is as long as the longer one, and at each index it has the
+/// left list's item there and the right list's, each absent past its end.
+pub fn law_aligned<L, R>()
+    ensures { AlignedLaw L R }
+{}
 
 /// Two lists side by side, with the sides exchanged, have each item flipped.
 pub fn law_aligned_flip<L, R>()

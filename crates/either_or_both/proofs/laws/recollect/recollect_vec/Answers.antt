@@ -1,5 +1,0 @@
-use Rattle.std.proofs.Common.{rules}
-use Rattle.either_or_both.proofs.laws.recollect.recollect_vec.Goals as goal
-
-pub returns : goal.returns
-returns g c = search rules

@@ -1,0 +1,15 @@
+use Rattle.std.proofs.lemmas.Result.{IfOk-weaker}
+use Rattle.eob_both.specs.Collector.{contents_at}
+use Rattle.eob_both.specs.Contents.{AreRisingMembers, AreSameRisingMembers}
+use Rattle.eob_both.specs.Places.{left_place, right_place}
+use Rattle.eob_both.proofs.SameLemmas.{recollected, same_rising_members}
+use Rattle.either_or_both.proofs.recollect.recollect_btree_set.Goals as goal
+
+pub returns : goal.returns
+returns g c =
+    let left = contents_at (λ m. m.keys) (left_place c.args.pair) in
+    let right = contents_at (λ m. m.keys) (right_place c.args.pair) in
+    IfOk-weaker c.recollect_walked.result _ _
+    (λ v h. recollected (λ m. m.keys) (λ m. m.keys) (AreRisingMembers g.K1.Ord.cmp) (AreSameRisingMembers g.K1.Ord.cmp) (AreRisingMembers g.K2.Ord.cmp) (AreSameRisingMembers g.K2.Ord.cmp) h.0 left right v h.1 h.2
+    (λ held. same_rising_members g.K1.Ord.cmp g.met.K1.Ord.total left held h.3) (λ held. same_rising_members g.K2.Ord.cmp g.met.K2.Ord.total right held h.4) h.5)
+    c.recollect_walked.ensures

@@ -1,0 +1,15 @@
+use Rattle.std.proofs.lemmas.Result.{IfOk-weaker}
+use Rattle.eob_both.specs.Collector.{contents_at}
+use Rattle.eob_both.specs.Contents.{IsLastMap, IsSameMap}
+use Rattle.eob_both.specs.Places.{left_place, right_place}
+use Rattle.eob_both.proofs.SameLemmas.{recollected, same_map}
+use Rattle.either_or_both.proofs.recollect.recollect_hash_map.Goals as goal
+
+pub returns : goal.returns
+returns g c =
+    let left = contents_at (λ m. m.entries) (left_place c.args.pair) in
+    let right = contents_at (λ m. m.entries) (right_place c.args.pair) in
+    IfOk-weaker c.recollect_walked.result _ _
+    (λ v h. recollected (λ m. m.entries) (λ m. m.entries) (IsLastMap g.K1.PartialEq.eq) (IsSameMap g.K1.PartialEq.eq) (IsLastMap g.K2.PartialEq.eq) (IsSameMap g.K2.PartialEq.eq) h.0 left right v h.1 h.2
+    (λ held. same_map g.K1.PartialEq.eq g.met.K1.Eq.laws left held h.3) (λ held. same_map g.K2.PartialEq.eq g.met.K2.Eq.laws right held h.4) h.5)
+    c.recollect_walked.ensures

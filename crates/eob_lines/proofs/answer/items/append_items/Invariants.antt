@@ -1,6 +1,0 @@
-use Rattle.eob_lines.specs.Growth.{Extends}
-use Rattle.eob_lines.proofs.answer.items.append_items.Given as goal
-
--- what was there stays
-abbrev pub invariant-loop-item : goal.invariant-loop-item
-invariant-loop-item g l = Extends l.fn.output.items l.output.items

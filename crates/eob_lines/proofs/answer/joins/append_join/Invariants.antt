@@ -1,6 +1,0 @@
-use Rattle.eob_lines.specs.Growth.{Extends}
-use Rattle.eob_lines.proofs.answer.joins.append_join.Given as goal
-
--- what was there stays
-abbrev pub invariant-loop-entry : goal.invariant-loop-entry
-invariant-loop-entry g l = Extends l.fn.output.items l.output.items

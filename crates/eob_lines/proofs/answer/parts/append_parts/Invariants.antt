@@ -1,6 +1,0 @@
-use Rattle.eob_lines.specs.Growth.{Extends}
-use Rattle.eob_lines.proofs.answer.parts.append_parts.Given as goal
-
--- what was there stays
-abbrev pub invariant-loop-part : goal.invariant-loop-part
-invariant-loop-part g l = Extends l.fn.output.items l.output.items

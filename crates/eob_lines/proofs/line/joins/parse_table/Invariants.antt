@@ -1,5 +1,0 @@
-use Rattle.std.proofs.Common.{length}
-use Rattle.eob_lines.proofs.line.joins.parse_table.Given as goal
-
-abbrev pub decreases-loop-entry : goal.decreases-loop-entry
-decreases-loop-entry g l = length l.rest

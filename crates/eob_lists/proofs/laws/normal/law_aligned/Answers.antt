@@ -1,5 +1,0 @@
-use Rattle.eob_lists.proofs.NormalLemmas.{aligned_law}
-use Rattle.eob_lists.proofs.laws.normal.law_aligned.Goals as goal
-
-pub returns : goal.returns
-returns g c = aligned_law

@@ -1,8 +1,0 @@
-use Rattle.std.proofs.Common.{◌≡◌, ◌++◌, map}
-use Rattle.eob_joins.specs.Groups.{shown_group}
-use Rattle.eob_tables.specs.Gathered.{alone}
-use Rattle.eob_tables.proofs.gather.part_rows.Given as goal
-
-abbrev pub invariant-loop-row : goal.invariant-loop-row
-invariant-loop-row l =
-    map shown_group l.pairs.items ++ map (λ row. alone (row.key, row.cells)) l.row-iterator.rest.items ≡ map (λ row. alone (row.key, row.cells)) l.fn.rows.items

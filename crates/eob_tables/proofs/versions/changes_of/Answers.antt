@@ -1,4 +1,0 @@
-use Rattle.eob_tables.proofs.versions.changes_of.Goals as goal
-
-pub returns : goal.returns
-returns g c = c.diff.ensures.kept

@@ -1,4 +1,0 @@
-use Rattle.eob_tables.proofs.versions.patched.Goals as goal
-
-pub returns : goal.returns
-returns g c = c.apply.ensures.kept

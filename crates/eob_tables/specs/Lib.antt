@@ -1,5 +1,0 @@
-pub mod Arranged
-pub mod Beginning
-pub mod Gathered
-pub mod Repeated
-pub mod RisingRows

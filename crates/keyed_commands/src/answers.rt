@@ -1,0 +1,224 @@
+//! The answer to each request, of streams.
+//!
+//! Each has three steps: its headers are read, then the rows under its columns, and then the tables are answered.
+
+use crate::changes::{count_rows, report};
+use crate::job::{Changes, Job, Table};
+use crate::joined::join_as_csv;
+use crate::merged::render_conflicts;
+use crate::patch::misfits;
+use crate::written::write_changes;
+use eob_joins::Merged;
+use keyed_files::{
+    ColumnChanges, Columns, Content, Fault, Format, JoinColumns, Kind, Opened, Reason, Settings,
+    Stream, Two, at, columns_of,
+};
+use keyed_tables::{changes_of, merge_of, patched};
+use std::alloc::Global;
+use std::io::Read;
+
+/// What stands on the output, and the status that the program ends with.
+#[derive(Drop)]
+pub struct Answer {
+    pub bytes: Vec<u8>,
+    pub status: u8,
+}
+
+/// The answer to `diff`.
+///
+/// # Errors
+///
+/// Returns the fault of a table that can't be opened or read, that lacks a column of the key, or in which a key stands twice where keys may
+/// not repeat; also want of memory, as the fault of one of them.
+pub fn diff<'a, R: Read + Drop>(
+    alloc: Global,
+    settings: Settings<'a>,
+    format: Format,
+    old: Stream<'a, R>,
+    new: Stream<'a, R>,
+) -> Result<Answer, Fault<'a>> {
+    let mut versions = Two::new(alloc, settings.form, Content::Rows, old, new)?;
+    let columns = versions.columns(alloc, settings.key)?;
+    diff_files(Job::new(alloc, settings, &columns), format, &mut versions)
+}
+
+fn diff_files<'a, R: Read + Drop>(
+    mut job: Job<'_, Columns>,
+    format: Format,
+    versions: &mut Two<'a, R>,
+) -> Result<Answer, Fault<'a>> {
+    let tables = job.read_both(versions)?;
+    let answer = diff_tables(&job, format, versions.column_changes(), tables);
+    at(versions.next.file, answer)
+}
+
+fn diff_tables(
+    job: &Job<'_, Columns>,
+    format: Format,
+    column_changes: ColumnChanges<'_>,
+    tables: (Table, Table),
+) -> Result<Answer, Reason> {
+    let (old, new) = tables;
+    let rows = count_rows(&old.pairs);
+    let changes = job.order.arrange(changes_of(job.alloc, old, new)?)?;
+    let is_same = changes.is_empty() && !column_changes.has_lone(job.alloc)?;
+    let bytes = match format {
+        Format::Csv => write_changes(job, changes)?,
+        Format::Table { colours } => report(job, colours, column_changes, rows, &changes)?,
+    };
+    Ok(Answer {
+        bytes,
+        status: if is_same { 0 } else { 1 },
+    })
+}
+
+/// The answer to `apply`.
+///
+/// # Errors
+///
+/// Returns the fault of a table that can't be opened or read, that lacks a column of the key, or in which a key stands twice where keys may
+/// not repeat; of changes in which a row begins with no sign; also want of memory, as the fault of one of them.
+pub fn apply<'a, R: Read + Drop>(
+    alloc: Global,
+    settings: Settings<'a>,
+    old: Stream<'a, R>,
+    changes: Stream<'a, R>,
+) -> Result<Answer, Fault<'a>> {
+    let mut inputs = Two::new(alloc, settings.form, Content::Changes, old, changes)?;
+    let columns = inputs.columns(alloc, settings.key)?;
+    apply_files(Job::new(alloc, settings, &columns), &mut inputs)
+}
+
+fn apply_files<'a, R: Read + Drop>(
+    mut job: Job<'_, Columns>,
+    inputs: &mut Two<'a, R>,
+) -> Result<Answer, Fault<'a>> {
+    let tables = job.read_to_change(inputs)?;
+    at(inputs.next.file, apply_tables(&job, tables))
+}
+
+fn apply_tables(job: &Job<'_, Columns>, tables: (Table, Changes)) -> Result<Answer, Reason> {
+    let misfits = misfits(job.alloc, job.columns, &tables.0, &tables.1)?;
+    if misfits.is_empty() {
+        apply_fitting(job, tables)
+    } else {
+        Ok(Answer {
+            bytes: misfits.into_bytes(),
+            status: 1,
+        })
+    }
+}
+
+// The table with changes made to it that fit, as CSV.
+fn apply_fitting(job: &Job<'_, Columns>, tables: (Table, Changes)) -> Result<Answer, Reason> {
+    let (old, changes) = tables;
+    let rows = patched(job.alloc, old, changes)?;
+    Ok(Answer {
+        bytes: job.write_rows(rows)?,
+        status: 0,
+    })
+}
+
+/// The answer to `merge`.
+///
+/// # Errors
+///
+/// Returns the fault of a table that can't be opened or read, that lacks a column of the key, or in which a key stands twice where keys may
+/// not repeat; also want of memory, as the fault of one of them.
+pub fn merge<'a, R: Read + Drop>(
+    alloc: Global,
+    settings: Settings<'a>,
+    base: Stream<'a, R>,
+    ours: Stream<'a, R>,
+    theirs: Stream<'a, R>,
+) -> Result<Answer, Fault<'a>> {
+    let mut base = Opened::new(alloc, settings.form, Content::Rows, base)?;
+    let mut sides = Two::new(alloc, settings.form, Content::Rows, ours, theirs)?;
+    let columns = columns_of_merge(alloc, settings, &base, &sides)?;
+    merge_files(Job::new(alloc, settings, &columns), &mut base, &mut sides)
+}
+
+// The columns of the three tables.
+fn columns_of_merge<'a, R>(
+    alloc: Global,
+    settings: Settings<'a>,
+    base: &Opened<'a, R>,
+    sides: &Two<'a, R>,
+) -> Result<Columns, Fault<'a>> {
+    let headers = [base.header(), sides.first.header(), sides.next.header()];
+    at(base.file, columns_of(alloc, settings.key, &headers))
+}
+
+fn merge_files<'a, R: Read + Drop>(
+    mut job: Job<'_, Columns>,
+    base: &mut Opened<'a, R>,
+    sides: &mut Two<'a, R>,
+) -> Result<Answer, Fault<'a>> {
+    let versions = read_versions(&mut job, base, sides)?;
+    at(sides.next.file, merge_tables(&job, versions))
+}
+
+// The rows of three versions of a table.
+#[derive(Drop)]
+struct ThreeVersions {
+    base: Table,
+    ours: Table,
+    theirs: Table,
+}
+
+// Reads three versions. The base is not written: rows come out in the order of ours, and then in that of theirs.
+fn read_versions<'a, R: Read + Drop>(
+    job: &mut Job<'_, Columns>,
+    base: &mut Opened<'a, R>,
+    sides: &mut Two<'a, R>,
+) -> Result<ThreeVersions, Fault<'a>> {
+    let (ours, theirs) = job.read_both(sides)?;
+    let base = job.unordered().read_table(job.columns, base)?;
+    Ok(ThreeVersions { base, ours, theirs })
+}
+
+fn merge_tables(job: &Job<'_, Columns>, versions: ThreeVersions) -> Result<Answer, Reason> {
+    let ThreeVersions { base, ours, theirs } = versions;
+    match merge_of(job.alloc, base, ours, theirs)? {
+        Merged::Whole(rows) => Ok(Answer {
+            bytes: job.write_rows(rows)?,
+            status: 0,
+        }),
+        Merged::Conflicts(rows) => Ok(Answer {
+            bytes: render_conflicts(
+                job.alloc,
+                job.columns,
+                &job.order.arrange(rows)?,
+            )?.into_bytes(),
+            status: 1,
+        }),
+    }
+}
+
+/// The answer to `join`.
+///
+/// # Errors
+///
+/// Returns the fault of a table that can't be opened or read, that lacks a column of the key, or in which a key stands twice where keys may
+/// not repeat; also want of memory, as the fault of one of them.
+pub fn join<'a, R: Read + Drop>(
+    alloc: Global,
+    settings: Settings<'a>,
+    kind: Kind,
+    left: Stream<'a, R>,
+    right: Stream<'a, R>,
+) -> Result<Answer, Fault<'a>> {
+    let mut sides = Two::new(alloc, settings.form, Content::Rows, left, right)?;
+    let columns = sides.join_columns(alloc, settings.key)?;
+    join_files(Job::new(alloc, settings, &columns), kind, &mut sides)
+}
+
+fn join_files<'a, R: Read + Drop>(
+    mut job: Job<'_, JoinColumns>,
+    kind: Kind,
+    sides: &mut Two<'a, R>,
+) -> Result<Answer, Fault<'a>> {
+    let (left, right) = job.read_sides(sides)?;
+    let bytes = at(sides.next.file, join_as_csv(&job, kind, left, right))?;
+    Ok(Answer { bytes, status: 0 })
+}

@@ -1,0 +1,126 @@
+//! From the files that a request names to its answer.
+
+use crate::answers::{Answer, apply, diff, join, merge};
+use crate::sorted::{diff_sorted, join_sorted};
+use either_or_both::Either;
+use keyed_files::{Command, Fault, Layout, Reason, Request, Settings, SortedRequest, Stream, at};
+use std::io::Write;
+use std::rt::Files;
+use std::{fs, io};
+
+/// Writes the answer to a command, and returns the status.
+///
+/// # Errors
+///
+/// Returns the errors of `write_request` and `stream_request`.
+pub fn write_command<'a, R: Files + Input + AllocGlobal, W: Write>(
+    rt: &R,
+    command: Command<'a>,
+    output: &mut W,
+) -> Result<u8, Fault<'a>> {
+    match command {
+        Command::Whole { settings, request } => write_request(rt, settings, request, output),
+        Command::Sorted { layout, request } => stream_request(rt, layout, request, output),
+    }
+}
+
+/// Writes the answer to a request, all of it or nothing of it where something is wrong with an input, and returns the status.
+///
+/// # Errors
+///
+/// Returns the fault of the first input that is bad, or that of the output, which may then have taken a part of the answer.
+pub fn write_request<'a, R: Files + Input + AllocGlobal, W: Write>(
+    rt: &R,
+    settings: Settings<'a>,
+    request: Request<'a>,
+    output: &mut W,
+) -> Result<u8, Fault<'a>> {
+    let answer = answer_request(rt, settings, request)?;
+    at("the standard output", write_whole(output, &answer.bytes))?;
+    Ok(answer.status)
+}
+
+/// Writes the answer to a request while its tables are read, and returns the status.
+///
+/// # Errors
+///
+/// Returns the fault of the input or the output where it comes up: whole rows may be written by then. Nothing is read or written where a
+/// request names the standard input twice, which is `Reason::TwiceStdin`.
+pub fn stream_request<'a, R: Files + Input + AllocGlobal, W: Write>(
+    rt: &R,
+    layout: Layout<'a>,
+    request: SortedRequest<'a>,
+    output: &mut W,
+) -> Result<u8, Fault<'a>> {
+    request.check_stdin()?;
+    let alloc = rt.alloc();
+    match request {
+        SortedRequest::Diff { old, new } => {
+            let old = stream_of(rt, old);
+            diff_sorted(alloc, layout, old, stream_of(rt, new), output)
+        }
+        SortedRequest::Join { left, right, kind } => {
+            let left = stream_of(rt, left);
+            join_sorted(alloc, layout, kind, left, stream_of(rt, right), output)
+        }
+    }
+}
+
+/// Writes all bytes, as far as the output takes them.
+///
+/// # Errors
+///
+/// Returns the error of the output, which may then have taken a part of the bytes.
+pub fn write_whole<W: Write>(output: &mut W, bytes: &[u8]) -> io::Result<()> {
+    output.write_all(bytes)?;
+    output.flush()
+}
+
+/// The answer to a request, of the files that it names.
+///
+/// # Errors
+///
+/// Returns the fault of the first input that is bad: a file that can't be opened, or one of which the command can't be answered.
+pub fn answer_request<'a, R: Files + Input + AllocGlobal>(
+    rt: &R,
+    settings: Settings<'a>,
+    request: Request<'a>,
+) -> Result<Answer, Fault<'a>> {
+    request.check_stdin()?;
+    let alloc = rt.alloc();
+    match request {
+        Request::Diff { old, new, format } => {
+            let old = stream_of(rt, old);
+            diff(alloc, settings, format, old, stream_of(rt, new))
+        }
+        Request::Apply { old, changes } => {
+            let old = stream_of(rt, old);
+            apply(alloc, settings, old, stream_of(rt, changes))
+        }
+        Request::Merge { base, ours, theirs } => {
+            let base = stream_of(rt, base);
+            let ours = stream_of(rt, ours);
+            merge(alloc, settings, base, ours, stream_of(rt, theirs))
+        }
+        Request::Join { left, right, kind } => {
+            let left = stream_of(rt, left);
+            join(alloc, settings, kind, left, stream_of(rt, right))
+        }
+    }
+}
+
+// A file or the standard input.
+type Reader<R> = Either<<R as Files>::File, <R as Input>::Reader>;
+
+// The file, or the standard input where its name is `-`.
+fn stream_of<'a, R: Files + Input>(rt: &R, file: &'a str) -> Stream<'a, Reader<R>> {
+    let reader = if file == "-" {
+        Ok(Either::Right(rt.reader()))
+    } else {
+        match fs::open(rt, file) {
+            Ok(opened) => Ok(Either::Left(opened)),
+            Err(error) => Err(Reason::Io(error)),
+        }
+    };
+    Stream { file, reader }
+}

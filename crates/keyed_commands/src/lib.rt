@@ -1,0 +1,24 @@
+//! Tables as CSV files, or on any reader and writer: compared, changed, merged and joined by key.
+//!
+//! `write_command` answers a command of the files that it names, `diff`, `apply`, `merge` and `join` one of any readers (`Stream`), and
+//! `diff_sorted` and `join_sorted` write while they read. The core, over tables in memory, is `keyed_tables`; files are read and written
+//! by `keyed_files`.
+#![tactic(auto)]
+
+mod answers;
+mod changes;
+mod files;
+mod job;
+mod joined;
+mod merged;
+mod patch;
+mod sorted;
+mod written;
+
+pub use answers::{Answer, apply, diff, join, merge};
+pub use files::{answer_request, stream_request, write_command, write_request, write_whole};
+pub use keyed_files::{
+    Colours, Command, Delimiter, Fault, Form, Format, Kind, Layout, Reason, Request, Settings,
+    Shown, SortedRequest, Stream, at,
+};
+pub use sorted::{diff_sorted, join_sorted};

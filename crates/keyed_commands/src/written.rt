@@ -1,0 +1,40 @@
+//! Changes written as CSV, whole, in memory.
+
+use crate::job::Job;
+use eob_joins::Change;
+use keyed_files::{Columns, Reason, Sign, Written, begin_table};
+use keyed_rows::{Group, Key};
+
+/// Changes, as `apply` reads them: a row that goes begins with `-`, one that comes with `+`. Each change is dropped once it is written.
+///
+/// # Errors
+///
+/// Returns `CellCount` if a row has more or fewer cells than the first one, and `NoMemory`, or `Io` with the error that the
+/// writer makes of it, if a request for memory was refused.
+pub fn write_changes(
+    job: &Job<'_, Columns>,
+    changes: Vec<(Key, Change<Group>)>,
+) -> Result<Vec<u8>, Reason> {
+    let mut written = begin_table(job.alloc, job.form, Some(b"change"), job.columns)?;
+    for (key, change) in changes {
+        put_change(&mut written, job.columns, &key, &change)?;
+    }
+    written.finish()
+}
+
+// Puts the rows under a key that go, and then those that come.
+fn put_change(
+    written: &mut Written,
+    columns: &Columns,
+    key: &Key,
+    change: &Change<Group>,
+) -> Result<(), Reason> {
+    let (old, new) = change.as_ref().unzip();
+    if let Some(rows) = old {
+        written.put_rows(Some(Sign::Minus), columns, key, rows)?;
+    }
+    if let Some(rows) = new {
+        written.put_rows(Some(Sign::Plus), columns, key, rows)?;
+    }
+    Ok(())
+}

@@ -1,0 +1,3 @@
+pub mod Delimiters
+pub mod Names
+pub mod Picked

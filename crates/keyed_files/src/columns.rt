@@ -1,0 +1,130 @@
+//! The columns of tables: from headers to the columns of what is written.
+ghost use Rattle.std.specs.Prelude.{◌≡◌};
+ghost use Rattle.keyed_files.specs.Names.{place_in};
+
+use crate::names::Names;
+use keyed_rows::Cells;
+use std::alloc::{AllocError, Global};
+
+/// The names of a table's columns: those that are its key, the others, and in which order they are written.
+#[derive(Drop)]
+pub struct Columns {
+    pub key: Cells,
+    pub rest: Cells,
+    pub order: Vec<Place>,
+}
+
+/// Where the cell of a column stands in a row.
+#[derive(Clone, Copy)]
+pub enum Place {
+    /// In the key, at this place.
+    Key(usize),
+    /// Among the other cells, behind that of the last such column.
+    Rest,
+}
+
+impl Columns {
+    /// The columns of all headers under a key, in the order of the headers.
+    ///
+    /// # Errors
+    ///
+    /// Returns `AllocError` if a request for memory was refused.
+    pub fn new(alloc: Global, key: Cells, headers: &[&Cells]) -> Result<Self, AllocError> {
+        let mut seen = Names::new(alloc);
+        let mut rest = Cells::new(alloc);
+        let mut order = Vec::new(alloc);
+        for header in headers {
+            for name in *header {
+                if seen.add(alloc, name)? {
+                    order.push(put_name(&key, &mut rest, name)?)?;
+                }
+            }
+        }
+        Ok(Columns { key, rest, order })
+    }
+}
+
+// Where a name stands among others first.
+pub(crate) fn place_of(names: &Cells, name: &[u8]) -> Option<usize>
+    ensures { result ≡ place_in names.now name.now }
+{
+    names.iter().position(|other| name == other)
+}
+
+// The place of the next column, whose name goes behind the others unless it is one of the key.
+fn put_name(key: &Cells, rest: &mut Cells, name: &[u8]) -> Result<Place, AllocError> {
+    match place_of(key, name) {
+        Some(place) => Ok(Place::Key(place)),
+        None => {
+            rest.push(name)?;
+            Ok(Place::Rest)
+        }
+    }
+}
+
+/// The names of the columns of both tables, whose keys have the same names.
+#[derive(Drop)]
+pub struct JoinColumns {
+    pub left: Columns,
+    pub right: Columns,
+}
+
+/// The columns of all tables, with the key that is set or else the first column.
+///
+/// # Errors
+///
+/// Returns `AllocError` if a request for memory was refused.
+pub fn columns_of(
+    alloc: Global,
+    key: Option<&str>,
+    headers: &[&Cells],
+) -> Result<Columns, AllocError> {
+    Columns::new(alloc, key_of(alloc, key, headers)?, headers)
+}
+
+/// The columns of each of two tables, with the key that is set or else the first column: that of the left table, or of the right one where
+/// the left one is an empty file and so has none.
+///
+/// # Errors
+///
+/// Returns `AllocError` if a request for memory was refused.
+pub fn join_columns(
+    alloc: Global,
+    key: Option<&str>,
+    left: &Cells,
+    right: &Cells,
+) -> Result<JoinColumns, AllocError> {
+    let left_key = key_of(alloc, key, &[left, right])?;
+    let right_key = left_key.clone()?;
+    let left = Columns::new(alloc, left_key, &[left])?;
+    let right = Columns::new(alloc, right_key, &[right])?;
+    Ok(JoinColumns { left, right })
+}
+
+// The names of the key: those that are set, or that of the first column.
+fn key_of(alloc: Global, key: Option<&str>, headers: &[&Cells]) -> Result<Cells, AllocError> {
+    match key {
+        Some(names) => split_names(alloc, names),
+        None => first_name(alloc, headers),
+    }
+}
+
+fn split_names(alloc: Global, names: &str) -> Result<Cells, AllocError> {
+    let mut key = Cells::new(alloc);
+    for name in names.split(',') {
+        key.push(name.as_bytes())?;
+    }
+    Ok(key)
+}
+
+// The first column, if there is one: an empty file with no header has none.
+fn first_name(alloc: Global, headers: &[&Cells]) -> Result<Cells, AllocError> {
+    let mut key = Cells::new(alloc);
+    for header in headers {
+        if let Some(name) = header.iter().next() {
+            key.push(name)?;
+            break;
+        }
+    }
+    Ok(key)
+}

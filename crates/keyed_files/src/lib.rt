@@ -1,0 +1,35 @@
+//! The records of CSV files: what is asked of files and how they are written, a header and the rows under the columns that are asked for,
+//! read one by one or part by part, tables and the rows of a join written, cells lined up for a person, and what can be wrong with a file.
+//!
+//! Tables by key stand above this crate, in `keyed_commands`.
+#![tactic(auto)]
+
+mod by_line;
+mod column_changes;
+mod columns;
+mod fault;
+mod joined_rows;
+mod lined_up;
+mod names;
+mod opened;
+mod parts;
+mod request;
+mod sign;
+mod source;
+mod written;
+
+pub use column_changes::ColumnChanges;
+pub use columns::{Columns, JoinColumns, Place, columns_of, join_columns};
+pub use fault::{Fault, Reason};
+pub use joined_rows::Sides;
+pub use lined_up::{
+    Colour, Grid, Line, Shown, heading, line_under, line_up, put_both, put_shown, put_version,
+};
+pub use opened::{Opened, Stream, Two, at};
+pub use parts::Parts;
+pub use request::{
+    Colours, Command, Delimiter, Form, Format, Kind, Layout, Request, Settings, SortedRequest,
+};
+pub use sign::{Sign, SignedRow};
+pub use source::{Content, Places, Source};
+pub use written::{Written, begin_table, write_table};

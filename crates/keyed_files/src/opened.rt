@@ -1,0 +1,121 @@
+//! Files whose headers are read, and what is wrong with them.
+
+use crate::column_changes::ColumnChanges;
+use crate::columns::{Columns, JoinColumns, columns_of, join_columns};
+use crate::fault::{Fault, Reason};
+use crate::request::Form;
+use crate::source::{Content, Source};
+use keyed_rows::Cells;
+use std::alloc::Global;
+use std::io::Read;
+
+/// A file by its name, with what its bytes are read from, or why it can't be opened.
+#[derive(Drop)]
+pub struct Stream<'a, R> {
+    pub file: &'a str,
+    pub reader: Result<R, Reason>,
+}
+
+/// A table whose header is read.
+#[derive(Drop)]
+pub struct Opened<'a, R> {
+    pub file: &'a str,
+    pub source: Box<Source<R>>,
+}
+
+/// The outcome, with the file that it is of.
+///
+/// # Errors
+///
+/// Returns the error of the outcome, as a fault of the file.
+pub fn at<'a, T: Drop, E: Drop>(file: &'a str, outcome: Result<T, E>) -> Result<T, Fault<'a>>
+where
+    Reason: From<E>,
+{
+    match outcome {
+        Ok(value) => Ok(value),
+        Err(error) => Err(Fault {
+            file,
+            reason: Reason::from(error),
+        }),
+    }
+}
+
+impl<R> Opened<'_, R> {
+    /// The names of the columns.
+    pub fn header(&self) -> &Cells {
+        &self.source.header
+    }
+}
+
+impl<'a, R: Read + Drop> Opened<'a, R> {
+    /// Reads the header of a table or of changes.
+    ///
+    /// # Errors
+    ///
+    /// Returns why the file can't be opened, or the error of `Source::open`, as a fault of the file.
+    pub fn new(
+        alloc: Global,
+        form: Form,
+        content: Content,
+        stream: Stream<'a, R>,
+    ) -> Result<Self, Fault<'a>> {
+        let file = stream.file;
+        let reader = at(file, stream.reader)?;
+        let source = at(file, Source::open(alloc, reader, form, content))?;
+        Ok(Opened { file, source })
+    }
+}
+
+/// Two tables, or a table and the changes to be made to it.
+#[derive(Drop)]
+pub struct Two<'a, R> {
+    pub first: Opened<'a, R>,
+    pub next: Opened<'a, R>,
+}
+
+impl<'a, R> Two<'a, R> {
+    /// The columns of both, in the order of the first header and then of the next one.
+    ///
+    /// # Errors
+    ///
+    /// Returns want of memory, as a fault of the first file.
+    pub fn columns(&self, alloc: Global, key: Option<&str>) -> Result<Columns, Fault<'a>> {
+        let headers = [self.first.header(), self.next.header()];
+        at(self.first.file, columns_of(alloc, key, &headers))
+    }
+
+    /// The columns of each, for a join of both.
+    ///
+    /// # Errors
+    ///
+    /// Returns want of memory, as a fault of the first file.
+    pub fn join_columns(&self, alloc: Global, key: Option<&str>) -> Result<JoinColumns, Fault<'a>> {
+        let columns = join_columns(alloc, key, self.first.header(), self.next.header());
+        at(self.first.file, columns)
+    }
+
+    /// What became of the columns from the first to the next one.
+    pub fn column_changes(&self) -> ColumnChanges<'_> {
+        ColumnChanges::new(self.first.header(), self.next.header())
+    }
+}
+
+impl<'a, R: Read + Drop> Two<'a, R> {
+    /// Reads the header of a table, and then that of another or of changes.
+    ///
+    /// # Errors
+    ///
+    /// Returns the first fault of `Opened::new`.
+    pub fn new(
+        alloc: Global,
+        form: Form,
+        content: Content,
+        first: Stream<'a, R>,
+        next: Stream<'a, R>,
+    ) -> Result<Self, Fault<'a>> {
+        let first = Opened::new(alloc, form, Content::Rows, first)?;
+        let next = Opened::new(alloc, form, content, next)?;
+        Ok(Two { first, next })
+    }
+}

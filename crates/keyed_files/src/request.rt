@@ -1,0 +1,206 @@
+//! What a command asks for of which tables, and how they are read and written.
+ghost use Rattle.std.specs.Prelude.{◌≡◌, ◌↔◌, IfSome, IsSome};
+ghost use Rattle.keyed_text.specs.Texts.{PartsCells};
+ghost use Rattle.keyed_files.specs.Delimiters.{PartsCells-prop};
+
+use crate::fault::{Fault, Reason};
+
+/// A byte that may stand between cells: an ASCII character that neither ends rows nor quotes cells.
+#[derive(Clone, Copy, Debug)]
+pub struct Delimiter {
+    byte: u8,
+    ghost parts: { PartsCells byte } by { PartsCells-prop byte },
+}
+
+impl Delimiter {
+    /// A comma.
+    pub const COMMA: Delimiter = Delimiter { byte: b',' };
+
+    /// A semicolon.
+    pub const SEMICOLON: Delimiter = Delimiter { byte: b';' };
+
+    /// A tabulator.
+    pub const TAB: Delimiter = Delimiter { byte: b'\t' };
+
+    /// The byte as a delimiter, if it may be one.
+    pub fn new(byte: u8) -> Option<Self>
+        ensures parts { IsSome result ↔ PartsCells byte }
+        ensures value { IfSome result (λ delimiter. delimiter.byte ≡ byte) }
+    {
+        match byte {
+            b'"' | b'\r' | b'\n' | 128..=255 => None,
+            _ => Some(Delimiter { byte }),
+        }
+    }
+
+    /// The byte.
+    pub fn byte(self) -> u8
+        ensures { result ≡ self.byte }
+    {
+        self.byte
+    }
+}
+
+/// How tables are written: the byte between cells, and whether the first row is a header. Where it is not, columns are named by number.
+#[derive(Clone, Copy, Debug)]
+pub struct Form {
+    pub delimiter: Delimiter,
+    pub has_header: bool,
+}
+
+/// How the tables of a command are laid out: their form, and the names of the columns that are the key, with commas between them, or None
+/// for the first column.
+#[derive(Clone, Copy, Debug)]
+pub struct Layout<'a> {
+    pub form: Form,
+    pub key: Option<&'a str>,
+}
+
+/// What a command may set that reads whole tables: their layout, whether rows come out in the order of the files and not in that of their
+/// keys, and whether rows with the same key are a group.
+#[derive(Clone, Copy, Debug)]
+pub struct Settings<'a> {
+    pub form: Form,
+    pub key: Option<&'a str>,
+    pub keeps_order: bool,
+    pub groups: bool,
+}
+
+impl<'a> Settings<'a> {
+    /// The layout of the tables.
+    pub fn layout(self) -> Layout<'a> {
+        Layout {
+            form: self.form,
+            key: self.key,
+        }
+    }
+}
+
+/// Which rows a join has, of which tables.
+#[derive(Clone, Copy, Debug)]
+pub enum Kind {
+    Outer,
+    Inner,
+    Left,
+    Right,
+    Semi,
+    Anti,
+}
+
+/// Whether what a person reads in a terminal has colours.
+#[derive(Clone, Copy, Debug)]
+pub enum Colours {
+    On,
+    Off,
+}
+
+/// How `diff` writes what changed.
+#[derive(Clone, Copy, Debug)]
+pub enum Format {
+    /// As CSV that `Request::Apply` takes.
+    Csv,
+    /// As a table that a person reads, each row in the colour of its change where there are colours.
+    Table { colours: Colours },
+}
+
+/// What is asked for of whole tables, in files by name, of which `-` is the standard input.
+#[derive(Clone, Copy, Debug)]
+pub enum Request<'a> {
+    /// What changed.
+    Diff {
+        old: &'a str,
+        new: &'a str,
+        format: Format,
+    },
+    /// A table with changes made to it.
+    Apply {
+        old: &'a str,
+        changes: &'a str,
+    },
+    /// Two versions of a table merged over their base.
+    Merge {
+        base: &'a str,
+        ours: &'a str,
+        theirs: &'a str,
+    },
+    /// Two tables joined by key.
+    Join {
+        left: &'a str,
+        right: &'a str,
+        kind: Kind,
+    },
+}
+
+/// What is asked for of two tables whose keys are strictly increasing, in files by name, of which `-` is the standard input. The answer is
+/// CSV, and is written while they are read.
+#[derive(Clone, Copy, Debug)]
+pub enum SortedRequest<'a> {
+    /// What changed, as `Request::Apply` takes it.
+    Diff {
+        old: &'a str,
+        new: &'a str,
+    },
+    /// Two tables joined by key.
+    Join {
+        left: &'a str,
+        right: &'a str,
+        kind: Kind,
+    },
+}
+
+/// What a command line asks for.
+#[derive(Clone, Copy, Debug)]
+pub enum Command<'a> {
+    /// An answer that is written once all of it is known.
+    Whole {
+        settings: Settings<'a>,
+        request: Request<'a>,
+    },
+    /// An answer that is written while its tables are read.
+    Sorted {
+        layout: Layout<'a>,
+        request: SortedRequest<'a>,
+    },
+}
+
+impl Request<'_> {
+    /// Tells that no more than one of the files is the standard input.
+    ///
+    /// # Errors
+    ///
+    /// Returns `TwiceStdin` if the standard input is named twice.
+    pub fn check_stdin<'a>(self) -> Result<(), Fault<'a>> {
+        match self {
+            Request::Diff { old, new, .. } => check_files(&[old, new]),
+            Request::Apply { old, changes } => check_files(&[old, changes]),
+            Request::Merge { base, ours, theirs } => check_files(&[base, ours, theirs]),
+            Request::Join { left, right, .. } => check_files(&[left, right]),
+        }
+    }
+}
+
+impl SortedRequest<'_> {
+    /// Tells that no more than one of the files is the standard input.
+    ///
+    /// # Errors
+    ///
+    /// Returns `TwiceStdin` if both are.
+    pub fn check_stdin<'a>(self) -> Result<(), Fault<'a>> {
+        match self {
+            SortedRequest::Diff { old, new } => check_files(&[old, new]),
+            SortedRequest::Join { left, right, .. } => check_files(&[left, right]),
+        }
+    }
+}
+
+// Tells that no more than one of the files is the standard input.
+fn check_files<'a>(files: &[&str]) -> Result<(), Fault<'a>> {
+    if files.iter().filter(|file| **file == "-").count() > 1 {
+        Err(Fault {
+            file: "-",
+            reason: Reason::TwiceStdin,
+        })
+    } else {
+        Ok(())
+    }
+}

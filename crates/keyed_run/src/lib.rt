@@ -1,0 +1,99 @@
+//! A run of `keyed`: from the words of the command line to the request, and from its answer to the output, the standard error and the
+//! status. What the command line asks for stands in the crate `keyed_arguments`, how a request is answered in `keyed_commands`.
+#![tactic(auto)]
+
+use keyed_arguments::{ParseError, parse};
+use keyed_commands::{Colours, Command, Fault, Reason, Shown, write_command};
+use std::alloc::{AllocError, Global};
+use std::env::FillError;
+use std::io::{IsTerminal, Write};
+use std::rt::{Env, Files};
+
+// The status of trouble.
+const TROUBLE: u8 = 2;
+
+/// Answers the command line of a runtime on the output, and returns the status. Unless tables are read as they rise, nothing is written
+/// before the whole answer is known. What is wrong is said on the standard error.
+pub fn run<R: Files + Env + Input + Print + Eprint + AllocGlobal, W: Write + IsTerminal>(
+    rt: &R,
+    output: &mut W,
+) -> u8 {
+    match words_of(rt) {
+        Ok(words) => answer_words(rt, &words, output),
+        Err(reason) => trouble(rt, "the command line", reason),
+    }
+}
+
+fn words_of<R: Env + AllocGlobal>(rt: &R) -> Result<Vec<String>, Reason> {
+    let words = std::env::args(rt)?;
+    Ok(words.collect(rt.alloc())?)
+}
+
+fn answer_words<R: Files + Env + Input + Print + Eprint + AllocGlobal, W: Write + IsTerminal>(
+    rt: &R,
+    words: &[String],
+    output: &mut W,
+) -> u8 {
+    let colours = if output.is_terminal() && !has_text(rt, "NO_COLOR") {
+        Colours::On
+    } else {
+        Colours::Off
+    };
+    match parse(rt.alloc(), words, colours) {
+        Ok(command) => answer(rt, command, output),
+        Err(error) => refuse(rt, words, error),
+    }
+}
+
+// Says why words make no command, and returns the status. What is said of them may repeat a word, and so is of the words as they are
+// shown, so that none of them begins a line or moves a terminal's text.
+fn refuse<R: Print + Eprint + AllocGlobal>(rt: &R, words: &[String], error: ParseError) -> u8 {
+    let error = match error {
+        ParseError::Words(_) => match shown_error(rt.alloc(), words) {
+            Ok(error) => error,
+            Err(AllocError) => return trouble(rt, "the command line", Reason::NoMemory),
+        },
+        error => error,
+    };
+    let _ = error.print(rt);
+    if error.use_stderr() { TROUBLE } else { 0 }
+}
+
+// The error of the words as they are shown. Where these make a command, it was memory that the words as they are lacked.
+fn shown_error(alloc: Global, words: &[String]) -> Result<ParseError, AllocError> {
+    let mut shown = Vec::new(alloc);
+    for word in words {
+        shown.push(format!(in alloc; "{}", Shown(word.as_bytes()))?)?;
+    }
+    match parse(alloc, &shown, Colours::Off) {
+        Err(ParseError::Words(error)) => Ok(ParseError::Words(error)),
+        _ => Err(AllocError),
+    }
+}
+
+fn answer<R: Files + Input + Eprint + AllocGlobal, W: Write>(
+    rt: &R,
+    command: Command<'_>,
+    output: &mut W,
+) -> u8 {
+    match write_command(rt, command, output) {
+        Ok(status) => status,
+        Err(fault) => trouble(rt, fault.file, fault.reason),
+    }
+}
+
+// Whether a variable is set and not empty.
+fn has_text<R: Env>(rt: &R, name: &str) -> bool {
+    match rt.var(name, &mut [0]) {
+        Ok(length) => length > 0,
+        Err(FillError::NotPresent) => false,
+        Err(FillError::TooLong) => true,
+    }
+}
+
+// Says what is wrong, and returns the status of trouble.
+fn trouble<R: Eprint>(rt: &R, file: &str, reason: Reason) -> u8 {
+    let fault = Fault { file, reason };
+    let _ = eprintln!(rt; "keyed: {fault}");
+    TROUBLE
+}

@@ -1,0 +1,6 @@
+pub mod ArrangeLemmas
+pub mod ClimbLemmas
+pub mod GatherLemmas
+pub mod KeyLemmas
+pub mod OrderLemmas
+pub mod RepeatLemmas

@@ -1,0 +1,4 @@
+pub mod Arranged
+pub mod Gathered
+pub mod Repeated
+pub mod RisingRows

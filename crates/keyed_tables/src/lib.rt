@@ -1,0 +1,15 @@
+//! Tables in memory, as rows by key: gathered from the rows of a file, compared, changed, merged, and put into an order.
+//!
+//! That the keys of a table rise is kept in its type, so that each join of `eob_joins` may be called on it. How a table is read and
+//! written stands above this crate.
+#![tactic(auto)]
+
+mod gather;
+mod order;
+mod table;
+mod versions;
+
+pub use gather::{grouped_rows, unique_rows};
+pub use order::Order;
+pub use table::Rows;
+pub use versions::{changes_of, merge_of, paired, patched};

@@ -1,0 +1,65 @@
+//! The order in which rows come out: that of their keys, or that of the files.
+ghost use Rattle.std.specs.Prelude.{◌≡◌, [], None, Some, IfOk, IsPermutation, OnOk};
+ghost use Rattle.keyed_tables.specs.Arranged.{AreArranged, IsNoted, noted};
+
+use indexmap::IndexSet;
+use keyed_rows::{Cells, Key};
+use std::alloc::{AllocError, Global};
+
+/// The keys of the files, in the order in which they stand there first, where rows come out in their order.
+#[derive(Drop)]
+pub struct Order {
+    keys: Option<IndexSet<Cells>>,
+}
+
+impl Order {
+    /// The order of keys.
+    pub fn by_key() -> Self
+        ensures { noted result ≡ None }
+    {
+        Order { keys: None }
+    }
+
+    /// The order of the files, of which none is read yet.
+    pub fn by_file(alloc: Global) -> Self
+        ensures { noted result ≡ Some [] }
+    {
+        Order {
+            keys: Some(IndexSet::new(alloc)),
+        }
+    }
+
+    /// Takes the key that is read next. One that was read before keeps its place.
+    ///
+    /// # Errors
+    ///
+    /// Returns `AllocError` if a request for memory was refused.
+    pub fn note(&mut self, key: &Key) -> Result<(), AllocError>
+        ensures { OnOk result
+            (IsNoted ⟦<Key as Ord>⟧.cmp ⟦<Key as Eq>⟧.eq key.now (noted self.old) (noted self.new)) }
+    {
+        if let Some(keys) = &mut self.keys {
+            keys.insert(key.cells().clone()?)?;
+        }
+        Ok(())
+    }
+
+    /// Rows that are in the order of their keys, put into this order. A row whose key was not taken would stand before the others.
+    ///
+    /// # Errors
+    ///
+    /// Returns `AllocError` if a request for memory was refused.
+    pub fn arrange<V: Drop>(&self, mut rows: Vec<(Key, V)>) -> Result<Vec<(Key, V)>, AllocError>
+        ensures same { IfOk result (λ arranged. IsPermutation rows.items arranged.items) }
+        ensures order { IfOk result
+            (λ arranged. AreArranged ⟦<Key as Eq>⟧.eq (noted self.now) rows.items arranged.items) }
+    {
+        match &self.keys {
+            Some(keys) => {
+                rows.sort_by_cached_key(|row| keys.get_index_of(row.0.cells()))?;
+                Ok(rows)
+            }
+            None => Ok(rows),
+        }
+    }
+}

@@ -1,0 +1,34 @@
+-- What follows of every text that is written or read.
+use Rattle.std.specs.Prelude.{◌≡◌, ◌≢◌, ℕ, List, [], ◌∷◌, All, Option}
+use Rattle.csv.specs.Reading.{strip_bom}
+use Rattle.keyed_text.specs.Texts.{AreRows, BeginsComments, PartsCells, ReadsAs, rows_text}
+
+-- a row of at least one cell
+abbrev pub HasCells : List (List ℕ) → Type 0
+HasCells row = row ≢ []
+
+-- the first cell, where there is one
+abbrev pub first_of : List (List ℕ) → List ℕ
+first_of [] = []
+first_of (cell ∷ row) = cell
+
+-- a row whose first cell begins with no byte order mark
+abbrev pub HasNoMark : List (List ℕ) → Type 0
+HasNoMark row = strip_bom (first_of row) ≡ first_of row
+
+-- what is written of a header and rows reads back as them, and as nothing else
+abbrev pub ReadsBackLaw : Type 0
+ReadsBackLaw = (d : ℕ) (c : Option ℕ) → PartsCells d → BeginsComments d c → (header : List (List ℕ)) (rows : List (List (List ℕ)))
+    → HasNoMark header → All HasCells (header ∷ rows)
+    → ReadsAs d c (rows_text d c (header ∷ rows)) header rows
+    × ((names : List (List ℕ)) (found : List (List (List ℕ))) → ReadsAs d c (rows_text d c (header ∷ rows)) names found
+    → (names ≡ header) × (found ≡ rows))
+
+-- a text has one list of rows
+abbrev pub ReadsOnceLaw : Type 0
+ReadsOnceLaw = (d : ℕ) (c : Option ℕ) (text : List ℕ) (rows others : List (List (List ℕ)))
+    → AreRows d c text rows → AreRows d c text others → rows ≡ others
+
+-- and each of them has a cell
+abbrev pub RowsHaveCellsLaw : Type 0
+RowsHaveCellsLaw = (d : ℕ) (c : Option ℕ) (text : List ℕ) (rows : List (List (List ℕ))) → AreRows d c text rows → All HasCells rows

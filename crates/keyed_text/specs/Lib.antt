@@ -1,0 +1,4 @@
+pub mod Texts
+pub mod Laws
+pub mod Streams
+pub mod Quotes

@@ -1,0 +1,12 @@
+//! What a text of CSV says: its rows, and the text that is written of rows, with any byte between cells.
+//!
+//! The words stand in `specs/`, and the laws here. Reading and writing files is `keyed_files`' part.
+#![tactic(auto)]
+
+mod laws;
+mod quotes;
+mod strict;
+
+pub use laws::{law_reads_back, law_reads_once, law_rows_have_cells};
+pub use quotes::{Marks, Place};
+pub use strict::{QuoteFault, Strict};

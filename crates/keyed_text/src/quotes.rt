@@ -1,0 +1,177 @@
+//! A reader that passes a text on while its quotes are in order: each quote that opens a cell is closed, and the cell ends right behind
+//! the closing one. The kit's reader of CSV takes any text, so that a quote which is never closed would swallow the rest of a file.
+ghost use Rattle.std.specs.Prelude.{◌≡◌, ◌↔◌, IsTrue};
+ghost use Rattle.keyed_text.specs.Quotes.{cell_place, closed_place, ends_line, place_after, place_behind};
+ghost use Rattle.keyed_text.specs.Quotes.{IsOutside, place_behind_plain, plain_place, row_place};
+
+use memchr::memchr;
+
+/// The bytes that a text is parted by: the one between cells, and the one that begins lines which are passed over, if there is one.
+#[derive(Clone, Copy, Debug)]
+pub struct Marks {
+    pub delimiter: u8,
+    pub comment: Option<u8>,
+}
+
+/// Where a text stands behind some of its bytes, as far as quotes go.
+#[derive(Clone, Copy, Debug, PartialEq, Eq)]
+pub enum Place {
+    /// At its beginning, where a byte order mark may stand.
+    Top,
+    /// Behind the first byte of what may be a byte order mark.
+    FirstOfMark,
+    /// Behind the second one.
+    SecondOfMark,
+    /// At the beginning of a row.
+    Row,
+    /// At the beginning of a cell that is not the first of its row.
+    Cell,
+    /// In a cell that is not quoted, where a quote is a byte like any other.
+    Bare,
+    /// Between quotes.
+    Quoted,
+    /// Behind a quote between quotes: the closing one, or the first of two that stand for one.
+    Closed,
+    /// In a line that is passed over.
+    Comment,
+}
+
+impl Marks {
+    /// Returns the place behind one more byte, or `None` where the byte stands between a closing quote and the end of its cell.
+    pub fn after(self, place: Place, byte: u8) -> Option<Place>
+        ensures { result ≡ place_after self place byte }
+    {
+        match place {
+            Place::Top => Some(if byte == 0xEF {
+                Place::FirstOfMark
+            } else {
+                self.row(byte)
+            }),
+            Place::FirstOfMark => Some(if byte == 0xBB {
+                Place::SecondOfMark
+            } else {
+                self.plain(byte)
+            }),
+            Place::SecondOfMark => Some(if byte == 0xBF {
+                Place::Row
+            } else {
+                self.plain(byte)
+            }),
+            Place::Row => Some(self.row(byte)),
+            Place::Cell => Some(self.cell(byte)),
+            Place::Bare => Some(self.plain(byte)),
+            Place::Quoted => Some(if byte == b'"' {
+                Place::Closed
+            } else {
+                Place::Quoted
+            }),
+            Place::Closed => self.closed(byte),
+            Place::Comment => Some(if byte == b'\n' {
+                Place::Row
+            } else {
+                Place::Comment
+            }),
+        }
+    }
+
+    /// Returns the place behind more bytes, or `None` where one of them stands between a closing quote and the end of its cell.
+    ///
+    /// Bytes with no quote among them, outside of quotes, take next to no time.
+    pub fn behind(self, place: Place, bytes: &[u8]) -> Option<Place>
+        ensures { result ≡ place_behind self place bytes.now }
+    {
+        if self.is_outside(place) && memchr(b'"', bytes).is_none() {
+            Some(self.behind_plain(place, bytes))
+        } else {
+            self.behind_each(place, bytes)
+        }
+    }
+
+    // Whether bytes without quotes lead to a place that the last of them decides.
+    fn is_outside(self, place: Place) -> bool
+        ensures { IsTrue result ↔ IsOutside self place }
+    {
+        match place {
+            Place::Row | Place::Cell | Place::Bare => self.comment.is_none(),
+            _ => false,
+        }
+    }
+
+    // The place behind bytes with no quote among them.
+    fn behind_plain(self, place: Place, bytes: &[u8]) -> Place
+        ensures { result ≡ place_behind_plain self place bytes.now }
+    {
+        match bytes.last() {
+            Some(byte) => self.plain(*byte),
+            None => place,
+        }
+    }
+
+    // The place behind more bytes, one by one.
+    fn behind_each(self, place: Place, bytes: &[u8]) -> Option<Place>
+        ensures { result ≡ place_behind self place bytes.now }
+    {
+        let mut place = place;
+        for byte in bytes {
+            place = self.after(place, *byte)?;
+        }
+        Some(place)
+    }
+
+    // The place behind the first byte of a row.
+    fn row(self, byte: u8) -> Place
+        ensures { result ≡ row_place self byte }
+    {
+        if self.comment == Some(byte) {
+            Place::Comment
+        } else {
+            self.cell(byte)
+        }
+    }
+
+    // The place behind the first byte of a cell.
+    fn cell(self, byte: u8) -> Place
+        ensures { result ≡ cell_place self byte }
+    {
+        if byte == b'"' {
+            Place::Quoted
+        } else {
+            self.plain(byte)
+        }
+    }
+
+    // The place behind a byte of a cell that is not quoted.
+    fn plain(self, byte: u8) -> Place
+        ensures { result ≡ plain_place self byte }
+    {
+        if byte == self.delimiter {
+            Place::Cell
+        } else if ends_line(byte) {
+            Place::Row
+        } else {
+            Place::Bare
+        }
+    }
+
+    // The place behind a byte that follows a quote between quotes.
+    fn closed(self, byte: u8) -> Option<Place>
+        ensures { result ≡ closed_place self byte }
+    {
+        if byte == b'"' {
+            Some(Place::Quoted)
+        } else if byte == self.delimiter {
+            Some(Place::Cell)
+        } else if ends_line(byte) {
+            Some(Place::Row)
+        } else {
+            None
+        }
+    }
+}
+
+// Whether a byte ends a line.
+fn ends_line(byte: u8) -> bool
+    ensures { result ≡ ends_line byte }
+{
+    byte == b'\r' || byte == b'\n'
+}

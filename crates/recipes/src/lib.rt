@@ -1,0 +1,26 @@
+//! `recipes`: what a program does with both enums. Each recipe is a file of a few lines under a contract that says what is wanted
+//! of it; none has a proof of its own. `test_recipes` has an answer of each.
+#![tactic(auto)]
+
+pub mod changes;
+pub mod closures;
+pub mod grouped;
+pub mod keys;
+pub mod layers;
+pub mod ledger;
+pub mod lined_up;
+pub mod matched;
+pub mod merged;
+pub mod orders;
+pub mod origins;
+pub mod own_join;
+pub mod patched;
+pub mod readers;
+pub mod readme;
+pub mod serialized;
+pub mod settings;
+pub mod stock;
+pub mod three_tables;
+pub mod upsert;
+pub mod verdicts;
+pub mod writing;

@@ -1,0 +1,150 @@
+//! Tests: what the words of a command line ask for.
+
+use keyed_arguments::{ParseError, parse};
+use keyed_files::Colours::{Off, On};
+use keyed_files::{Colours, Command, Layout};
+use std::alloc::{AllocError, Global};
+use std::test::Fail;
+
+// The words of a command line, which a space parts here, behind the name of the program.
+fn words_of(alloc: Global, line: &str) -> Result<Vec<String>, AllocError> {
+    let mut words = Vec::new(alloc);
+    words.push("keyed".to_string(alloc)?)?;
+    for word in line.split(' ') {
+        words.push(word.to_string(alloc)?)?;
+    }
+    Ok(words)
+}
+
+// What a command line asks for where the terminal has colours or has none: the byte between cells, the key, and whether there is a header,
+// rows come in the order of the files, rows with the same key are a group, and tables are read as they rise; and then the request.
+fn asked(alloc: Global, line: &str, terminal: Colours) -> Result<String, AllocError> {
+    match parse(alloc, &words_of(alloc, line)?, terminal) {
+        Ok(Command::Whole { settings, request }) => {
+            let (keeps_order, groups) = (settings.keeps_order as u8, settings.groups as u8);
+            let layout = show_layout(alloc, settings.layout())?;
+            format!(in alloc; "{layout}, {keeps_order}, {groups}, 0] {request:?}")
+        }
+        Ok(Command::Sorted { layout, request }) => {
+            let layout = show_layout(alloc, layout)?;
+            format!(in alloc; "{layout}, 0, 0, 1] {request:?}")
+        }
+        Err(ParseError::Words(error)) if error.use_stderr() => "wrong".to_string(alloc),
+        Err(ParseError::Words(_)) => "a text".to_string(alloc),
+        Err(error) => format!(in alloc; "{error}"),
+    }
+}
+
+fn show_layout(alloc: Global, layout: Layout<'_>) -> Result<String, AllocError> {
+    let form = layout.form;
+    let (cells, key) = (form.delimiter.byte() as char, layout.key);
+    format!(in alloc; "{cells:?} {key:?} [{}", form.has_header as u8)
+}
+
+/// A command line, whether the terminal has colours, and what is asked for: or what is said where the words set what can't be, `wrong`
+/// where they make no command for another reason, and `a text` where they ask for help or the version.
+type Asked = (&'static str, Colours, &'static str);
+
+// Fails unless each command line asks for what stands beside it.
+fn expect<R: AllocGlobal>(rt: &R, lines: &[Asked]) -> Result<(), Fail> {
+    let alloc = rt.alloc();
+    for (line, terminal, want) in lines {
+        let came = asked(alloc, line, *terminal)?;
+        if came.as_str() != *want {
+            return Err(Fail::new(format_args!("{line}: {came}")));
+        }
+    }
+    Ok(())
+}
+
+#[rattlefmt::skip]
+static REQUESTS: [Asked; 14] = [
+    ("diff a b",                On,  r#"',' None [1, 0, 0, 0] Diff { old: "a", new: "b", format: Table { colours: On } }"#),
+    ("diff a b --color auto",   Off, r#"',' None [1, 0, 0, 0] Diff { old: "a", new: "b", format: Table { colours: Off } }"#),
+    ("diff a b --color never",  On,  r#"',' None [1, 0, 0, 0] Diff { old: "a", new: "b", format: Table { colours: Off } }"#),
+    ("diff --color always a b", Off, r#"',' None [1, 0, 0, 0] Diff { old: "a", new: "b", format: Table { colours: On } }"#),
+    ("diff a - --format table", Off, r#"',' None [1, 0, 0, 0] Diff { old: "a", new: "-", format: Table { colours: Off } }"#),
+    ("diff - b --format csv",   On,  r#"',' None [1, 0, 0, 0] Diff { old: "-", new: "b", format: Csv }"#),
+    ("apply a b",               On,  r#"',' None [1, 0, 0, 0] Apply { old: "a", changes: "b" }"#),
+    ("merge a b c",             On,  r#"',' None [1, 0, 0, 0] Merge { base: "a", ours: "b", theirs: "c" }"#),
+    ("join a b",                On,  r#"',' None [1, 0, 0, 0] Join { left: "a", right: "b", kind: Outer }"#),
+    ("join a b --kind inner",   On,  r#"',' None [1, 0, 0, 0] Join { left: "a", right: "b", kind: Inner }"#),
+    ("join a b --kind left",    On,  r#"',' None [1, 0, 0, 0] Join { left: "a", right: "b", kind: Left }"#),
+    ("join a b --kind right",   On,  r#"',' None [1, 0, 0, 0] Join { left: "a", right: "b", kind: Right }"#),
+    ("join a b --kind semi",    On,  r#"',' None [1, 0, 0, 0] Join { left: "a", right: "b", kind: Semi }"#),
+    ("join --kind=anti a b",    On,  r#"',' None [1, 0, 0, 0] Join { left: "a", right: "b", kind: Anti }"#),
+];
+
+/// A command takes its files in order, and what it is asked to write.
+#[test]
+fn command_takes_its_files_and_options(rt: HostRuntime) -> Result<(), Fail> {
+    expect(&rt, &REQUESTS)
+}
+
+#[rattlefmt::skip]
+static SETTINGS: [Asked; 11] = [
+    ("diff a b --format csv --key id",  On,  r#"',' Some("id") [1, 0, 0, 0] Diff { old: "a", new: "b", format: Csv }"#),
+    ("apply a b --key id,day",          On,  r#"',' Some("id,day") [1, 0, 0, 0] Apply { old: "a", changes: "b" }"#),
+    ("apply a b --delimiter ;",         On,  r#"';' None [1, 0, 0, 0] Apply { old: "a", changes: "b" }"#),
+    ("merge a b c --no-header",         On,  r#"',' None [0, 0, 0, 0] Merge { base: "a", ours: "b", theirs: "c" }"#),
+    ("merge a b c --keep-order",        On,  r#"',' None [1, 1, 0, 0] Merge { base: "a", ours: "b", theirs: "c" }"#),
+    ("join a b --group",                On,  r#"',' None [1, 0, 1, 0] Join { left: "a", right: "b", kind: Outer }"#),
+    ("join a b --sorted",               On,  r#"',' None [1, 0, 0, 1] Join { left: "a", right: "b", kind: Outer }"#),
+    ("diff a b --format csv --sorted",  On,  r#"',' None [1, 0, 0, 1] Diff { old: "a", new: "b" }"#),
+    ("join a b --kind semi --sorted",   On,  r#"',' None [1, 0, 0, 1] Join { left: "a", right: "b", kind: Semi }"#),
+    ("join --kind=anti a b --key id,x", On,  r#"',' Some("id,x") [1, 0, 0, 0] Join { left: "a", right: "b", kind: Anti }"#),
+    ("join --group a --keep-order --no-header --delimiter=| b --key=2",
+                                        On,  r#"'|' Some("2") [0, 1, 1, 0] Join { left: "a", right: "b", kind: Outer }"#),
+];
+
+/// Each option sets what it says, and nothing else.
+#[test]
+fn option_sets_what_it_says(rt: HostRuntime) -> Result<(), Fail> {
+    expect(&rt, &SETTINGS)
+}
+
+const NO_DELIMITER: &str = "keyed: --delimiter: not one byte that may stand between cells\n";
+
+#[rattlefmt::skip]
+static DELIMITERS: [Asked; 5] = [
+    ("diff a b --delimiter ;;", On,  NO_DELIMITER),
+    ("diff a b --delimiter \"", On,  NO_DELIMITER),
+    ("diff a b --delimiter \n", On,  NO_DELIMITER),
+    ("diff a b --delimiter \r", On,  NO_DELIMITER),
+    ("diff a b --delimiter é",  On,  NO_DELIMITER),
+];
+
+/// What is no one byte that may stand between cells is told apart from words that ask for nothing.
+#[test]
+fn delimiter_is_one_byte_that_parts_cells(rt: HostRuntime) -> Result<(), Fail> {
+    expect(&rt, &DELIMITERS)
+}
+
+const SORTED_TABLE: &str = "keyed: diff --sorted needs --format csv\n";
+
+#[rattlefmt::skip]
+static REFUSED: [Asked; 16] = [
+    ("compare a b",                    On,  "wrong"),
+    ("diff a",                         On,  "wrong"),
+    ("diff a b c",                     On,  "wrong"),
+    ("merge a b",                      On,  "wrong"),
+    ("diff a b --color red",           On,  "wrong"),
+    ("diff a b --format json",         On,  "wrong"),
+    ("join a b --kind cross",          On,  "wrong"),
+    ("join a b --format csv",          On,  "wrong"),
+    ("apply a b --sorted",             On,  "wrong"),
+    ("join a b --sorted --group",      On,  "wrong"),
+    ("diff a b --sorted",              On,  SORTED_TABLE),
+    ("diff a b --sorted --color never --format table",
+                                       On,  SORTED_TABLE),
+    ("diff a b --keep-order --sorted", On,  "wrong"),
+    ("--version",                      On,  "a text"),
+    ("--help",                         On,  "a text"),
+    ("diff --help",                    On,  "a text"),
+];
+
+/// Words that ask for nothing are an error, on the standard error unless they ask for help or the version.
+#[test]
+fn words_that_make_no_request_are_refused(rt: HostRuntime) -> Result<(), Fail> {
+    expect(&rt, &REFUSED)
+}

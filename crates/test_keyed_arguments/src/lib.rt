@@ -1,0 +1,5 @@
+//! Tests alone: what the words of a command line of `keyed` ask for.
+#![tactic(auto)]
+
+#[cfg(test)]
+mod arguments;

@@ -1,0 +1,368 @@
+//! Each command on tables that are texts, and on readers and writers. What the tests know of the calls of `keyed_commands` stands here.
+
+use keyed_commands::{
+    Answer, Colours, Delimiter, Fault, Form, Format, Kind, Request, Settings, SortedRequest,
+    Stream, apply, at, diff, diff_sorted, join, join_sorted, merge, stream_request, write_request,
+    write_whole,
+};
+use std::alloc::Global;
+use std::io::{Read, Write};
+use std::rt::Files;
+use std::test::Fail;
+
+pub const COMMAS: Form = Form {
+    delimiter: Delimiter::COMMA,
+    has_header: true,
+};
+
+pub const PLAIN: Settings<'static> = Settings {
+    form: COMMAS,
+    key: None,
+    keeps_order: false,
+    groups: false,
+};
+
+/// Tables with no header.
+pub const HEADLESS: Settings<'static> = Settings {
+    form: Form {
+        delimiter: Delimiter::COMMA,
+        has_header: false,
+    },
+    ..PLAIN
+};
+
+/// Keys may repeat.
+pub const GROUPED: Settings<'static> = Settings {
+    groups: true,
+    ..PLAIN
+};
+
+/// Rows come out in the order of the files.
+pub const ORDERED: Settings<'static> = Settings {
+    keeps_order: true,
+    ..PLAIN
+};
+
+/// A table that a person reads, with no colour.
+pub const TEXT: Format = Format::Table {
+    colours: Colours::Off,
+};
+
+/// All kinds of joins.
+pub const KINDS: [Kind; 6] = [
+    Kind::Outer,
+    Kind::Inner,
+    Kind::Left,
+    Kind::Right,
+    Kind::Semi,
+    Kind::Anti,
+];
+
+/// Columns by these names are the key.
+pub fn under(key: &str) -> Settings<'_> {
+    Settings {
+        key: Some(key),
+        ..PLAIN
+    }
+}
+
+/// This byte stands between cells. Fails where it may not.
+pub fn between(byte: u8) -> Result<Settings<'static>, Fail> {
+    match Delimiter::new(byte) {
+        Some(delimiter) => Ok(Settings {
+            form: Form {
+                delimiter,
+                has_header: true,
+            },
+            ..PLAIN
+        }),
+        None => Err(Fail::new("no delimiter")),
+    }
+}
+
+/// A command whose answer is CSV. `join` is of the kind `outer`.
+#[derive(Clone, Copy, Debug)]
+pub enum Command {
+    Diff,
+    Apply,
+    Merge,
+    Join,
+    SortedDiff,
+    SortedJoin,
+}
+
+/// All of them.
+pub const COMMANDS: [Command; 6] = [
+    Command::Diff,
+    Command::Apply,
+    Command::Merge,
+    Command::Join,
+    Command::SortedDiff,
+    Command::SortedJoin,
+];
+
+impl Command {
+    /// The names of its inputs, as faults have them.
+    pub fn names(self) -> &'static [&'static str] {
+        match self {
+            Command::Diff | Command::SortedDiff => &["old", "new"],
+            Command::Apply => &["old", "changes"],
+            Command::Merge => &["base", "ours", "theirs"],
+            Command::Join | Command::SortedJoin => &["left", "right"],
+        }
+    }
+
+    /// The command of these files.
+    pub fn of<'a>(self, files: [&'a str; 3]) -> Request<'a> {
+        let [first, next, last] = files;
+        match self {
+            Command::Diff | Command::SortedDiff => Request::Diff {
+                old: first,
+                new: next,
+                format: Format::Csv,
+            },
+            Command::Apply => Request::Apply {
+                old: first,
+                changes: next,
+            },
+            Command::Merge => Request::Merge {
+                base: first,
+                ours: next,
+                theirs: last,
+            },
+            Command::Join | Command::SortedJoin => Request::Join {
+                left: first,
+                right: next,
+                kind: Kind::Outer,
+            },
+        }
+    }
+}
+
+// What a file of this name has.
+fn stream<R>(file: &str, reader: R) -> Stream<'_, R> {
+    Stream {
+        file,
+        reader: Ok(reader),
+    }
+}
+
+/// Writes the answer of a command on an output, and returns the status. Each input comes from a reader, of which the third is that of
+/// `theirs`.
+pub fn write_answer<'a, R: Read + Drop, W: Write>(
+    alloc: Global,
+    settings: Settings<'a>,
+    command: Command,
+    inputs: (R, R, R),
+    output: &mut W,
+) -> Result<u8, Fault<'a>> {
+    let (first, next, last) = inputs;
+    let (old, new) = (stream("old", first), stream("new", next));
+    match command {
+        Command::Diff => write_whole_answer(diff(alloc, settings, Format::Csv, old, new), output),
+        Command::SortedDiff => diff_sorted(alloc, settings.layout(), old, new, output),
+        Command::Apply => {
+            let changes = named("changes", new);
+            write_whole_answer(apply(alloc, settings, old, changes), output)
+        }
+        Command::Merge => {
+            let (base, ours) = (named("base", old), named("ours", new));
+            let theirs = stream("theirs", last);
+            write_whole_answer(merge(alloc, settings, base, ours, theirs), output)
+        }
+        Command::Join => {
+            let (left, right) = (named("left", old), named("right", new));
+            write_whole_answer(join(alloc, settings, Kind::Outer, left, right), output)
+        }
+        Command::SortedJoin => {
+            let (left, right) = (named("left", old), named("right", new));
+            join_sorted(alloc, settings.layout(), Kind::Outer, left, right, output)
+        }
+    }
+}
+
+// A file by another name.
+fn named<'a, R>(file: &'a str, of: Stream<'a, R>) -> Stream<'a, R> {
+    Stream {
+        file,
+        reader: of.reader,
+    }
+}
+
+fn write_whole_answer<'a, W: Write>(
+    outcome: Result<Answer, Fault<'a>>,
+    output: &mut W,
+) -> Result<u8, Fault<'a>> {
+    let answer = outcome?;
+    at("the standard output", write_whole(output, &answer.bytes))?;
+    Ok(answer.status)
+}
+
+/// Writes the answer of a command on an output, and returns the status. The inputs are files by name.
+pub fn write_answer_of_files<'a, R: Files + Input + AllocGlobal, W: Write>(
+    rt: &R,
+    settings: Settings<'a>,
+    command: Command,
+    files: [&'a str; 3],
+    output: &mut W,
+) -> Result<u8, Fault<'a>> {
+    let [first, next, _] = files;
+    match command {
+        Command::SortedDiff => {
+            let request = SortedRequest::Diff {
+                old: first,
+                new: next,
+            };
+            stream_request(rt, settings.layout(), request, output)
+        }
+        Command::SortedJoin => {
+            let request = SortedRequest::Join {
+                left: first,
+                right: next,
+                kind: Kind::Outer,
+            };
+            stream_request(rt, settings.layout(), request, output)
+        }
+        _ => write_request(rt, settings, command.of(files), output),
+    }
+}
+
+/// Writes the answer to `diff` of files as a person reads it, and returns the status.
+pub fn write_report_of_files<'a, R: Files + Input + AllocGlobal, W: Write>(
+    rt: &R,
+    settings: Settings<'a>,
+    files: [&'a str; 3],
+    output: &mut W,
+) -> Result<u8, Fault<'a>> {
+    let [old, new, _] = files;
+    let format = TEXT;
+    write_request(rt, settings, Request::Diff { old, new, format }, output)
+}
+
+/// The answer of a command on tables that are texts.
+pub fn asked<'a>(
+    alloc: Global,
+    settings: Settings<'a>,
+    command: Command,
+    inputs: [&[u8]; 3],
+) -> Result<Answer, Fault<'a>> {
+    let [first, next, last] = inputs;
+    let mut bytes = Vec::new(alloc);
+    let status = write_answer(alloc, settings, command, (first, next, last), &mut bytes)?;
+    Ok(Answer { bytes, status })
+}
+
+/// The answer to `diff`.
+pub fn compared<'a>(
+    alloc: Global,
+    settings: Settings<'a>,
+    format: Format,
+    old: &[u8],
+    new: &[u8],
+) -> Result<Answer, Fault<'a>> {
+    diff(
+        alloc,
+        settings,
+        format,
+        stream("old", old),
+        stream("new", new),
+    )
+}
+
+/// The answer to `diff` of sorted tables.
+pub fn compared_in_parts<'a>(
+    alloc: Global,
+    settings: Settings<'a>,
+    old: &[u8],
+    new: &[u8],
+) -> Result<Answer, Fault<'a>> {
+    asked(alloc, settings, Command::SortedDiff, [old, new, b""])
+}
+
+/// The answer to `apply`.
+pub fn applied<'a>(
+    alloc: Global,
+    settings: Settings<'a>,
+    old: &[u8],
+    changes: &[u8],
+) -> Result<Answer, Fault<'a>> {
+    asked(alloc, settings, Command::Apply, [old, changes, b""])
+}
+
+/// The answer to `merge`.
+pub fn merged<'a>(
+    alloc: Global,
+    settings: Settings<'a>,
+    base: &[u8],
+    ours: &[u8],
+    theirs: &[u8],
+) -> Result<Answer, Fault<'a>> {
+    asked(alloc, settings, Command::Merge, [base, ours, theirs])
+}
+
+/// The answer to `join`.
+pub fn joined<'a>(
+    alloc: Global,
+    settings: Settings<'a>,
+    kind: Kind,
+    left: &[u8],
+    right: &[u8],
+) -> Result<Answer, Fault<'a>> {
+    let (left, right) = (stream("left", left), stream("right", right));
+    join(alloc, settings, kind, left, right)
+}
+
+/// The answer to `join` of sorted tables.
+pub fn joined_in_parts<'a>(
+    alloc: Global,
+    settings: Settings<'a>,
+    kind: Kind,
+    left: &[u8],
+    right: &[u8],
+) -> Result<Answer, Fault<'a>> {
+    let mut bytes = Vec::new(alloc);
+    let (left, right) = (stream("left", left), stream("right", right));
+    let status = join_sorted(alloc, settings.layout(), kind, left, right, &mut bytes)?;
+    Ok(Answer { bytes, status })
+}
+
+/// The answer of a command whose inputs are good.
+pub fn answered(outcome: Result<Answer, Fault<'_>>) -> Result<Answer, Fail> {
+    match outcome {
+        Ok(answer) => Ok(answer),
+        Err(fault) => Err(Fail::new(fault)),
+    }
+}
+
+/// Fails unless the answer has this status and these bytes.
+pub fn expect(outcome: Result<Answer, Fault<'_>>, status: u8, bytes: &[u8]) -> Result<(), Fail> {
+    let answer = answered(outcome)?;
+    if answer.status == status && answer.bytes.as_slice() == bytes {
+        Ok(())
+    } else {
+        let text = str::from_utf8(&answer.bytes);
+        Err(Fail::new(format_args!("status {}: {text:?}", answer.status)))
+    }
+}
+
+/// What is said of an input or an output that is bad.
+pub fn said<T: Drop>(alloc: Global, outcome: Result<T, Fault<'_>>) -> Result<String, Fail> {
+    match outcome {
+        Ok(_) => Err(Fail::new("no fault")),
+        Err(fault) => Ok(format!(in alloc; "{fault}")?),
+    }
+}
+
+/// Fails unless the fault has this line.
+pub fn expect_fault<T: Drop>(
+    alloc: Global,
+    outcome: Result<T, Fault<'_>>,
+    wanted: &str,
+) -> Result<(), Fail> {
+    let line = said(alloc, outcome)?;
+    if line.as_str() == wanted {
+        Ok(())
+    } else {
+        Err(Fail::new(format_args!("{line}, not {wanted}")))
+    }
+}

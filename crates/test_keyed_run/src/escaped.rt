@@ -1,0 +1,181 @@
+//! Tests: no character that moves a terminal's text reaches a person. It is escaped in each place that prints for one.
+
+use crate::process::World;
+use crate::runs::{Case, PLAIN, expect};
+use std::alloc::{AllocError, Global};
+use std::test::Fail;
+
+// In these texts `@` stands for a character, and `%` for the line on which the second row of `again` begins: its first has the character
+// twice.
+static FILES: [(&str, &str); 11] = [
+    ("old", "id,name\n1,\"a@b\"\n"),
+    ("new", "id,name\n1,\"c@\"\n"),
+    ("ours", "id,name\n1,\"@\"\n"),
+    ("changes", "change,id,name\n-,1,\"x@\"\n"),
+    ("named", "id,\"n@\"\n1,a\n"),
+    ("named later", "id,\"n@\"\n1,b\n"),
+    ("bare", "id\n"),
+    ("bare and named", "id,\"n@\"\n"),
+    ("named twice", "id,\"n@\",\"n@\"\n"),
+    ("again", "id,name,kind\n\"k@\",a,\"@\"\n\"k@\",b,\"@\"\n"),
+    ("again @", "id,name\n1,a\n1,b\n"),
+];
+
+// What is asked, and what is printed or said: the table for a person of each command, each thing that is said of columns, faults with a
+// file's name, a column's name or a key, and what is said of a word of the command line.
+#[rattlefmt::skip]
+static PLACES: [Case<'static>; 20] = [
+    ("diff|old|new", 1,
+        "         id  name\nchanged  1   a@b -> c@\n0 added, 0 removed, 1 changed, 0 the same\n", ""),
+    ("apply|old|changes", 1, "        id  name\ntable   1   a@b\nchange  1   x@\n", ""),
+    ("merge|old|new|ours", 1, "        id  name\nbase    1   a@b\nours    1   c@\ntheirs  1   @\n", ""),
+    ("diff|named|named later", 1,
+        "         id  n@\nchanged  1   a -> b\n0 added, 0 removed, 1 changed, 0 the same\n", ""),
+    ("diff|bare|bare and named", 1, "column n@ added\n0 added, 0 removed, 0 changed, 0 the same\n", ""),
+    ("diff|bare and named|bare", 1, "column n@ removed\n0 added, 0 removed, 0 changed, 0 the same\n", ""),
+    ("diff|named|named twice", 2, "", "keyed: named twice: line 1: two columns n@\n"),
+    ("diff|old|new|--key|n@", 2, "", "keyed: old: line 1: no column n@\n"),
+    ("diff|again|new", 2, "", "keyed: again: line %: the key k@ stands on line 2 too\n"),
+    ("diff|again|new|--key|id,kind", 2, "", "keyed: again: line %: the key k@,@ stands on line 2 too\n"),
+    ("diff|none @|new", 2, "", "keyed: none @: No such file or directory (os error 2)\n"),
+    ("join|old|again @", 2, "", "keyed: again @: line 3: the key 1 stands on line 2 too\n"),
+    ("join|old|again @|--sorted", 2, "",
+        "keyed: again @: line 3: the key is not greater than the one before it\n"),
+    ("compare@", 2, "",
+        "error: unrecognized subcommand 'compare@'\n\nUsage: k@d <COMMAND>\n\nFor more information, try '--help'.\n"),
+    ("diff|old|new|third@", 2, "",
+        "error: unexpected argument 'third@' found\n\nUsage: k@d diff [OPTIONS] <OLD> <NEW>\n\n\
+         For more information, try '--help'.\n"),
+    ("diff|old|new|--th@ird", 2, "",
+        "error: unexpected argument '--th@ird' found\n\n  tip: to pass '--th@ird' as a value, use '-- --th@ird'\n\n\
+         Usage: k@d diff <OLD> <NEW>\n\nFor more information, try '--help'.\n"),
+    ("diff|old|new|--color|x@", 2, "",
+        "error: invalid value 'x@' for '--color <auto|always|never>'\n  [possible values: auto, always, never]\n\n\
+         For more information, try '--help'.\n"),
+    ("join|old|new|--kind=x@", 2, "",
+        "error: invalid value 'x@' for '--kind <KIND>'\n  [possible values: outer, inner, left, right, semi, anti]\n\n\
+         For more information, try '--help'.\n"),
+    ("diff|old|new|--sorted=@", 2, "",
+        "error: unexpected value '@' for '--sorted' found; no more were expected\n\n\
+         Usage: k@d diff --sorted <OLD> <NEW>\n\nFor more information, try '--help'.\n"),
+    ("", 2, "",
+        "error: unrecognized subcommand ''\n\nUsage: k@d <COMMAND>\n\nFor more information, try '--help'.\n"),
+];
+
+// A text with something in the place of each mark.
+fn replaced(alloc: Global, text: &str, mark: char, with: &str) -> Result<String, AllocError> {
+    let mut made = String::new(alloc);
+    for (place, part) in text.split(mark).enumerate() {
+        if place > 0 {
+            made.push_str(with)?;
+        }
+        made.push_str(part)?;
+    }
+    Ok(made)
+}
+
+// The files with a character in each place.
+fn files_with(alloc: Global, c: &str) -> Result<Vec<(String, String)>, AllocError> {
+    let mut files = Vec::new(alloc);
+    for (name, text) in FILES {
+        files.push((
+            replaced(alloc, name, '@', c)?,
+            replaced(alloc, text, '@', c)?,
+        ))?;
+    }
+    Ok(files)
+}
+
+// Fails unless a character stands escaped in each place.
+fn expect_escaped(alloc: Global, c: char, escape: &str) -> Result<(), Fail> {
+    let second_line = if c == '\n' || c == '\r' { "5" } else { "3" };
+    let c = c.to_string(alloc)?;
+    let owned = files_with(alloc, &c)?;
+    let mut files: Vec<(&str, &str)> = Vec::new(alloc);
+    for (name, text) in &owned {
+        files.push((name.as_str(), text.as_str()))?;
+    }
+    let program = replaced(alloc, "/bin/k@d", '@', &c)?;
+    let world = World {
+        program: &program,
+        files: &files,
+        ..PLAIN
+    };
+    for (line, status, output, said) in PLACES {
+        let line = replaced(alloc, line, '@', &c)?;
+        let output = replaced(alloc, output, '@', escape)?;
+        let said = replaced(alloc, said, '@', escape)?;
+        let said = replaced(alloc, &said, '%', second_line)?;
+        expect(alloc, world, &[(&line, status, &output, &said)])?;
+    }
+    Ok(())
+}
+
+// Characters that have an escape of their own.
+static NAMED: [(char, &str); 4] = [('\0', "\\0"), ('\t', "\\t"), ('\n', "\\n"), ('\r', "\\r")];
+
+/// A line end, a tab and a zero byte of a cell, of a name or of a word stand escaped.
+#[test]
+fn control_character_with_a_name_is_escaped(rt: HostRuntime) -> Result<(), Fail> {
+    for (c, escape) in NAMED {
+        expect_escaped(rt.alloc(), c, escape)?;
+    }
+    Ok(())
+}
+
+// The other control characters, and the marks that end a line or turn the direction of text: the first and the last of each range.
+static NUMBERED: [(u32, u32); 9] = [
+    (0x1, 0x8),
+    (0xb, 0xc),
+    (0xe, 0x1f),
+    (0x7f, 0x9f),
+    (0x61c, 0x61c),
+    (0x200e, 0x200f),
+    (0x2028, 0x2029),
+    (0x202a, 0x202e),
+    (0x2066, 0x2069),
+];
+
+/// Each other character that moves or turns a terminal's text stands as its number.
+#[test]
+fn character_that_moves_text_is_escaped(rt: HostRuntime) -> Result<(), Fail> {
+    let alloc = rt.alloc();
+    for (first, last) in NUMBERED {
+        for code in first..last + 1 {
+            if let Some(c) = char::from_u32(code) {
+                let escape = format!(in alloc; "\\u{{{code:x}}}")?;
+                expect_escaped(alloc, c, &escape)?;
+            }
+        }
+    }
+    Ok(())
+}
+
+/// What moves nothing is shown as it is, and so is a byte that is no text as its number.
+#[test]
+fn other_text_is_shown_as_it_is(rt: HostRuntime) -> Result<(), Fail> {
+    let alloc = rt.alloc();
+    for c in [
+        ' ',
+        '\\',
+        '~',
+        '\u{a0}',
+        '\u{e9}',
+        '\u{301}',
+        '\u{200d}',
+        '\u{feff}',
+        '\u{65e5}',
+        '\u{1f600}',
+    ] {
+        let same = c.to_string(alloc)?;
+        expect_escaped(alloc, c, &same)?;
+    }
+    let world = World {
+        files: &[("old", "id,name\n1,a\n")],
+        stdin: b"id,name\n1,\x80\xe9\xff\n",
+        ..PLAIN
+    };
+    let output =
+        "         id  name\nchanged  1   a -> \\x80\\xe9\\xff\n0 added, 0 removed, 1 changed, 0 the same\n";
+    expect(alloc, world, &[("diff|old|-", 1, output, "")])
+}

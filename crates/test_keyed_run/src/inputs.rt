@@ -1,0 +1,136 @@
+//! Tests: the files of each command in their places, and the standard input in each of them.
+
+use crate::process::World;
+use crate::runs::{Case, PLAIN, expect, run_words};
+use std::alloc::{AllocError, Global};
+use std::test::Fail;
+
+static FILES: World<'static> = World {
+    files: &[
+        ("old", "id,name\n2,pear\n7,fig\n"),
+        ("new", "id,name\n13,medlar\n2,quince\n"),
+        (
+            "changes",
+            "change,id,name\n+,13,medlar\n-,2,pear\n+,2,quince\n-,7,fig\n",
+        ),
+        ("base", "id,name\n2,pear\n7,fig\n"),
+        ("sized", "id,size,name\n7,2,fig\n2,3,pear\n"),
+        ("coloured", "colour,id,name\n,7,fig\n,2,pear\nblue,9,sloe\n"),
+        ("red", "colour,id,name\nred,7,fig\n,2,pear\n"),
+        ("mine", "id,size\n7,a\n2,a\n"),
+        ("yours", "id,size\n2,b\n7,b\n"),
+        ("theirs too", "id,size\n2,c\n7,c\n"),
+        ("by two", "a,b,v\nx,1,p\nx,2,q\ny,1,r\n"),
+        ("by two later", "b,v,a\n1,p,x\n2,s,x\n2,t,y\n"),
+        ("by two alone", "b,a\n2,y\n1,x\n"),
+    ],
+    ..PLAIN
+};
+
+#[rattlefmt::skip]
+static ANSWERS: [Case<'static>; 26] = [
+    ("diff|old|new", 1,
+        "         id  name\nadded    13  medlar\nchanged  2   pear -> quince\nremoved  7   fig\n\
+         1 added, 1 removed, 1 changed, 0 the same\n", ""),
+    ("diff|old|new|--format|csv", 1, "change,id,name\n+,13,medlar\n-,2,pear\n+,2,quince\n-,7,fig\n", ""),
+    ("diff|old|new|--format|csv|--sorted", 1, "change,id,name\n+,13,medlar\n-,2,pear\n+,2,quince\n-,7,fig\n", ""),
+    ("diff|new|old|--format|csv|--keep-order", 1, "change,id,name\n-,13,medlar\n-,2,quince\n+,2,pear\n+,7,fig\n", ""),
+    ("apply|old|changes", 0, "id,name\n13,medlar\n2,quince\n", ""),
+    ("apply|old|changes|--keep-order", 0, "id,name\n2,quince\n13,medlar\n", ""),
+    ("apply|new|changes", 1,
+        "        id  name\ntable   13  medlar\nchange  13  (no row)\ntable   2   quince\nchange  2   pear\n\
+         table   7   (no row)\nchange  7   fig\n", ""),
+    ("merge|base|new|old", 0, "id,name\n13,medlar\n2,quince\n", ""),
+    ("merge|base|old|new|--keep-order", 0, "id,name\n2,quince\n13,medlar\n", ""),
+    ("merge|old|sized|coloured", 0, "id,name,size,colour\n2,pear,3,\n7,fig,2,\n9,sloe,,blue\n", ""),
+    ("merge|sized|old|coloured", 0, "id,size,name,colour\n2,,pear,\n7,,fig,\n9,,sloe,blue\n", ""),
+    ("merge|old|coloured|sized|--keep-order", 0, "id,name,colour,size\n7,fig,,2\n2,pear,,3\n9,sloe,blue,\n", ""),
+    ("merge|old|sized|red", 1,
+        "        id  name  size  colour\nbase    7   fig         \nours    7   fig   2     \n\
+         theirs  7   fig         red\n", ""),
+    ("merge|mine|yours|theirs too", 1,
+        "        id  size\nbase    2   a\nours    2   b\ntheirs  2   c\nbase    7   a\nours    7   b\ntheirs  7   c\n", ""),
+    ("merge|yours|mine|theirs too|--keep-order", 1,
+        "        id  size\nbase    7   b\nours    7   a\ntheirs  7   c\nbase    2   b\nours    2   a\ntheirs  2   c\n", ""),
+    ("join|old|new", 0, "side,id,left.name,right.name\nright,13,,medlar\nboth,2,pear,quince\nleft,7,fig,\n", ""),
+    ("join|old|new|--sorted", 0, "side,id,left.name,right.name\nright,13,,medlar\nboth,2,pear,quince\nleft,7,fig,\n", ""),
+    ("join|old|new|--kind|inner", 0, "id,left.name,right.name\n2,pear,quince\n", ""),
+    ("join|old|new|--kind|left", 0, "id,left.name,right.name\n2,pear,quince\n7,fig,\n", ""),
+    ("join|old|new|--kind|right|--sorted", 0, "id,left.name,right.name\n13,,medlar\n2,pear,quince\n", ""),
+    ("join|old|new|--kind|semi", 0, "id,name\n2,pear\n", ""),
+    ("join|old|new|--kind|anti", 0, "id,name\n7,fig\n", ""),
+    ("join|new|old|--kind|anti|--sorted", 0, "id,name\n13,medlar\n", ""),
+    ("diff|by two|by two later|--format|csv|--key|a,b", 1,
+        "change,a,b,v\n-,x,2,q\n+,x,2,s\n-,y,1,r\n+,y,2,t\n", ""),
+    ("join|by two|by two later|--kind|inner|--key|b,a", 0, "b,a,left.v,right.v\n1,x,p,p\n2,x,q,s\n", ""),
+    ("join|by two|by two alone|--kind|semi|--key|a,b", 0, "a,b,v\nx,1,p\n", ""),
+];
+
+/// Each command takes its files in the order in which they are named, and what it writes says which is which.
+#[test]
+fn command_takes_its_files_in_order(rt: HostRuntime) -> Result<(), Fail> {
+    expect(rt.alloc(), FILES, &ANSWERS)
+}
+
+// The same answers, with the standard input in the place of one file after the other. Returns how many times that was asked.
+fn ask_of_stdin(alloc: Global, case: &Case<'_>) -> Result<usize, Fail> {
+    let (line, status, output, _) = *case;
+    let mut asked = 0;
+    for (name, text) in FILES.files {
+        let words = replaced(alloc, line, name)?;
+        if words.iter().any(|word| *word == "-") {
+            let world = World {
+                stdin: text.as_bytes(),
+                ..FILES
+            };
+            let came = run_words(alloc, &words, world)?;
+            if came.0 != status || came.1.as_slice() != output.as_bytes() || !came.2.is_empty() {
+                return Err(Fail::new(format_args!("{line}, - for {name}: {:?}", came.2)));
+            }
+            asked += 1;
+        }
+    }
+    Ok(asked)
+}
+
+// The words of a line, with `-` in the place of a file.
+fn replaced<'a>(alloc: Global, line: &'a str, name: &str) -> Result<Vec<&'a str>, AllocError> {
+    let mut words = vec![in alloc; PLAIN.program]?;
+    for word in line.split('|') {
+        words.push(if word == name { "-" } else { word })?;
+    }
+    Ok(words)
+}
+
+/// Each file of each command may be the standard input.
+#[test]
+fn each_file_may_be_the_standard_input(rt: HostRuntime) -> Result<(), Fail> {
+    for case in &ANSWERS {
+        let asked = ask_of_stdin(rt.alloc(), case)?;
+        assert!(rt; asked > 1, "{}", case.0);
+    }
+    Ok(())
+}
+
+#[rattlefmt::skip]
+static TWICE: [Case<'static>; 9] = [
+    ("diff|-|-",                          2, "", "keyed: -: the standard input is one table only\n"),
+    ("diff|-|-|--format|csv|--sorted",    2, "", "keyed: -: the standard input is one table only\n"),
+    ("apply|-|-",                         2, "", "keyed: -: the standard input is one table only\n"),
+    ("merge|-|-|old",                     2, "", "keyed: -: the standard input is one table only\n"),
+    ("merge|-|old|-",                     2, "", "keyed: -: the standard input is one table only\n"),
+    ("merge|old|-|-",                     2, "", "keyed: -: the standard input is one table only\n"),
+    ("merge|-|-|-",                       2, "", "keyed: -: the standard input is one table only\n"),
+    ("join|-|-",                          2, "", "keyed: -: the standard input is one table only\n"),
+    ("join|-|-|--sorted",                 2, "", "keyed: -: the standard input is one table only\n"),
+];
+
+/// No two files are the standard input.
+#[test]
+fn standard_input_is_one_file_only(rt: HostRuntime) -> Result<(), Fail> {
+    let world = World {
+        stdin: b"id,name\n2,pear\n",
+        ..FILES
+    };
+    expect(rt.alloc(), world, &TWICE)
+}

@@ -1,0 +1,18 @@
+//! Tests of whole runs of `keyed` over a runtime of their own: the words of a command line and the texts of files, and what comes of them
+//! on the output, on the standard error and as the status.
+#![tactic(auto)]
+
+#[cfg(test)]
+mod command_lines;
+#[cfg(test)]
+mod escaped;
+#[cfg(test)]
+mod faults;
+#[cfg(test)]
+mod inputs;
+#[cfg(test)]
+mod process;
+#[cfg(test)]
+mod runs;
+#[cfg(test)]
+mod tables;

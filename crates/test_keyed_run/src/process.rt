@@ -1,0 +1,298 @@
+//! A process in memory: its words, variables, files and standard input are texts that a test has, and what it prints and says is kept.
+
+ghost use Rattle.std.specs.Prelude.{◌≡◌, ◌+◌, IfOk, string_len};
+ghost use Rattle.std.specs.Io.{WritesAtMost};
+
+use std::alloc::{Allocator, Global};
+use std::cell::RefCell;
+use std::env::FillError;
+use std::fmt::{Display, Write as WriteText};
+use std::fs::{Metadata, OpenFile, OpenOptions};
+use std::io;
+use std::io::{BufRead, ErrorKind, IsTerminal, Lines, Read, Seek, SeekFrom, Write};
+use std::rt::{Env, Files};
+
+/// What a process finds around it.
+#[derive(Clone, Copy)]
+pub struct World<'a> {
+    /// The first word of the command line.
+    pub program: &'a str,
+    /// The variable `NO_COLOR`, if it is set.
+    pub no_color: Option<&'a str>,
+    /// Files by name, with their texts.
+    pub files: &'a [(&'a str, &'a str)],
+    /// The bytes of the standard input.
+    pub stdin: &'a [u8],
+    /// Whether the standard output is a terminal.
+    pub is_terminal: bool,
+    /// How many bytes the standard output takes before it is full.
+    pub room: usize,
+}
+
+/// A process with its words, and what it has said so far.
+#[derive(Drop)]
+pub struct Process<'a> {
+    alloc: Global,
+    words: &'a [&'a str],
+    world: World<'a>,
+    printed: RefCell<String>,
+    said: RefCell<String>,
+}
+
+impl<'a> Process<'a> {
+    /// A process that has said nothing.
+    pub fn new(alloc: Global, words: &'a [&'a str], world: World<'a>) -> Self {
+        Process {
+            alloc,
+            words,
+            world,
+            printed: RefCell::new(String::new(alloc)),
+            said: RefCell::new(String::new(alloc)),
+        }
+    }
+
+    /// What stands on the standard output beside the answer, and on the standard error.
+    pub fn into_texts(self) -> (String, String) {
+        (self.printed.into_inner(), self.said.into_inner())
+    }
+}
+
+// Puts a value behind a text, and an end behind it.
+fn put<D: Display + Drop>(text: &RefCell<String>, value: D, end: &str) -> io::Result<()> {
+    let mut text = text.try_borrow_mut()?;
+    write!(*text, "{value}{end}")?;
+    Ok(())
+}
+
+impl Alloc for Process<'_> {
+    type A = Global;
+
+    fn alloc(&self) -> Global {
+        self.alloc
+    }
+}
+
+impl Print for Process<'_> {
+    fn print<D: Display + Drop>(&self, value: D) -> io::Result<()> {
+        put(&self.printed, value, "")
+    }
+
+    fn println<D: Display + Drop>(&self, value: D) -> io::Result<()> {
+        put(&self.printed, value, "\n")
+    }
+
+    fn write_all(&self, _bytes: &[u8]) -> io::Result<()> {
+        Err(io::Error::from(ErrorKind::Unsupported))
+    }
+}
+
+impl Eprint for Process<'_> {
+    fn eprint<D: Display + Drop>(&self, value: D) -> io::Result<()> {
+        put(&self.said, value, "")
+    }
+
+    fn eprintln<D: Display + Drop>(&self, value: D) -> io::Result<()> {
+        put(&self.said, value, "\n")
+    }
+}
+
+// Copies a text to the start of a buffer, if it is long enough.
+fn fill(text: Option<&str>, buf: &mut [u8]) -> Result<usize, FillError>
+    ensures { WritesAtMost result buf.new }
+{
+    let bytes = match text {
+        Some(text) => text.as_bytes(),
+        None => return Err(FillError::NotPresent),
+    };
+    if buf.len() < bytes.len() {
+        return Err(FillError::TooLong);
+    }
+    buf[..bytes.len()].copy_from_slice(bytes);
+    Ok(bytes.len())
+}
+
+impl Env for Process<'_> {
+    fn arg(&self, i: usize, buf: &mut [u8]) -> Result<usize, FillError> {
+        fill(self.words.get(i).copied(), buf)
+    }
+
+    fn var(&self, name: &str, buf: &mut [u8]) -> Result<usize, FillError> {
+        if name == "NO_COLOR" {
+            fill(self.world.no_color, buf)
+        } else {
+            Err(FillError::NotPresent)
+        }
+    }
+
+    fn var_at(&self, _i: usize, _buf: &mut [u8]) -> Result<usize, FillError> {
+        Err(FillError::NotPresent)
+    }
+}
+
+impl<'a> Input for Process<'a> {
+    type Reader = &'a [u8];
+
+    fn read_line<A: Allocator + Clone>(&self, buf: &mut String<A>) -> io::Result<usize>
+        ensures ok { IfOk result (λ n. string_len buf.new ≡ string_len buf.old + n) }
+    {
+        self.reader().read_line(buf)
+    }
+
+    fn lines<A: Allocator>(&self, alloc: A) -> Lines<&'a [u8], A> {
+        self.reader().lines(alloc)
+    }
+
+    fn reader(&self) -> &'a [u8] {
+        self.world.stdin
+    }
+}
+
+/// A file that is open for reading. One that is broken fails where its bytes end.
+#[derive(Drop)]
+pub struct File<'a> {
+    bytes: &'a [u8],
+    is_broken: bool,
+}
+
+// The system's errors: no such file, and a device that fails.
+const NO_FILE: i32 = 2;
+
+const BROKEN: i32 = 5;
+
+const FULL: i32 = 28;
+
+impl Read for File<'_> {
+    fn read(&mut self, buf: &mut [u8]) -> io::Result<usize> {
+        if self.bytes.is_empty() && self.is_broken {
+            return Err(io::Error::from_raw_os_error(BROKEN));
+        }
+        self.bytes.read(buf)
+    }
+}
+
+impl Write for File<'_> {
+    fn write(&mut self, _buf: &[u8]) -> io::Result<usize> {
+        Err(io::Error::from(ErrorKind::Unsupported))
+    }
+
+    fn flush(&mut self) -> io::Result<()> {
+        Err(io::Error::from(ErrorKind::Unsupported))
+    }
+}
+
+impl Seek for File<'_> {
+    fn seek(&mut self, _to: SeekFrom) -> io::Result<u64> {
+        Err(io::Error::from(ErrorKind::Unsupported))
+    }
+}
+
+impl OpenFile for File<'_> {
+    fn metadata(&self) -> io::Result<Metadata> {
+        Err(io::Error::from(ErrorKind::Unsupported))
+    }
+
+    fn set_len(&self, _size: u64) -> io::Result<()> {
+        Err(io::Error::from(ErrorKind::Unsupported))
+    }
+
+    fn sync_all(&self) -> io::Result<()> {
+        Err(io::Error::from(ErrorKind::Unsupported))
+    }
+
+    fn sync_data(&self) -> io::Result<()> {
+        Err(io::Error::from(ErrorKind::Unsupported))
+    }
+}
+
+impl<'a> Files for Process<'a> {
+    type File = File<'a>;
+
+    type Dir = &'a [u8];
+
+    fn open_file(&self, _how: &OpenOptions, path: &str) -> io::Result<File<'a>> {
+        match self.world.files.iter().find(|file| file.0 == path) {
+            Some(file) => Ok(File {
+                bytes: file.1.as_bytes(),
+                is_broken: path.starts_with("broken"),
+            }),
+            None => Err(io::Error::from_raw_os_error(NO_FILE)),
+        }
+    }
+
+    fn open_dir(&self, _path: &str) -> io::Result<&'a [u8]> {
+        Err(io::Error::from(ErrorKind::Unsupported))
+    }
+
+    fn metadata(&self, _path: &str) -> io::Result<Metadata> {
+        Err(io::Error::from(ErrorKind::Unsupported))
+    }
+
+    fn symlink_metadata(&self, _path: &str) -> io::Result<Metadata> {
+        Err(io::Error::from(ErrorKind::Unsupported))
+    }
+
+    fn copy(&self, _from: &str, _to: &str) -> io::Result<u64> {
+        Err(io::Error::from(ErrorKind::Unsupported))
+    }
+
+    fn rename(&self, _from: &str, _to: &str) -> io::Result<()> {
+        Err(io::Error::from(ErrorKind::Unsupported))
+    }
+
+    fn remove_file(&self, _path: &str) -> io::Result<()> {
+        Err(io::Error::from(ErrorKind::Unsupported))
+    }
+
+    fn create_dir(&self, _path: &str) -> io::Result<()> {
+        Err(io::Error::from(ErrorKind::Unsupported))
+    }
+
+    fn remove_dir(&self, _path: &str) -> io::Result<()> {
+        Err(io::Error::from(ErrorKind::Unsupported))
+    }
+
+    fn remove_dir_all<B: Allocator>(&self, _alloc: B, _path: &str) -> io::Result<()> {
+        Err(io::Error::from(ErrorKind::Unsupported))
+    }
+}
+
+/// The standard output of a process: what it took, whether it is a terminal, and how many bytes it still takes.
+#[derive(Drop)]
+pub struct Output {
+    pub bytes: Vec<u8>,
+    is_terminal: bool,
+    room: usize,
+}
+
+impl Output {
+    /// The output of a process in this world, with nothing on it.
+    pub fn new(alloc: Global, world: World<'_>) -> Self {
+        Output {
+            bytes: Vec::new(alloc),
+            is_terminal: world.is_terminal,
+            room: world.room,
+        }
+    }
+}
+
+impl Write for Output {
+    fn write(&mut self, buf: &[u8]) -> io::Result<usize> {
+        let count = buf.len().min(self.room);
+        if count == 0 {
+            return Err(io::Error::from_raw_os_error(FULL));
+        }
+        self.bytes.extend_from_slice(&buf[..count])?;
+        self.room = self.room.saturating_sub(count);
+        Ok(count)
+    }
+
+    fn flush(&mut self) -> io::Result<()> {
+        Ok(())
+    }
+}
+
+impl IsTerminal for Output {
+    fn is_terminal(&self) -> bool {
+        self.is_terminal
+    }
+}

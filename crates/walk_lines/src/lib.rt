@@ -1,0 +1,10 @@
+//! The answers of the program `eob_walk`, as a library: each line of a reader is answered on a writer.
+//!
+//! [`run`] goes over a reader and a writer. What a line is answered stands in `line`, and how an answer is written in `answer`.
+#![tactic(auto)]
+
+mod answer;
+mod line;
+mod session;
+
+pub use session::{Outcome, run};
