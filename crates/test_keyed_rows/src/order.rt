@@ -44,48 +44,52 @@ fn check_two(
     Ok(())
 }
 
-// Rows that differ in the number of their cells, in an empty one, in a byte before, at or behind the eighth, in a zero that is a byte or
-// is none, and in a length that takes one byte or nine.
+// Rows that differ in the number of their cells, in an empty one, in a byte before, at or behind the eighth, and in a zero that is a byte
+// or is none.
+static SHORT: [&[&[u8]]; 28] = [
+    &[],
+    &[b""],
+    &[b"", b""],
+    &[b"", b"a"],
+    &[b"\0"],
+    &[b"\0\0"],
+    &[b"\0", b""],
+    &[b"\x01"],
+    &[b"a"],
+    &[b"a", b""],
+    &[b"a", b"b"],
+    &[b"a\0"],
+    &[b"a\0\0\0\0\0\0\0"],
+    &[b"a\0\0\0\0\0\0\0\0"],
+    &[b"aa"],
+    &[b"ab"],
+    &[b"b"],
+    &[b"customer"],
+    &[b"customer", b"a"],
+    &[b"customer\0"],
+    &[b"customer1"],
+    &[b"customer10"],
+    &[b"customer2"],
+    &[b"customes"],
+    &[b"\xfe"],
+    &[b"\xff"],
+    &[b"\xff\xff\xff\xff\xff\xff\xff\xff"],
+    &[b"\xff\xff\xff\xff\xff\xff\xff\xff\xff"],
+];
+
+// The short rows, and rows that differ in a length that takes one byte or nine.
 fn rows(alloc: Global) -> Result<Vec<Vectors>, AllocError> {
-    let long: Vec<u8> = vec![in alloc; b'a'; 254]?;
-    let longer: Vec<u8> = vec![in alloc; b'a'; 255]?;
-    let longest: Vec<u8> = vec![in alloc; b'a'; 300]?;
-    let cells: [&[&[u8]]; 31] = [
-        &[],
-        &[b""],
-        &[b"", b""],
-        &[b"", b"a"],
-        &[b"\0"],
-        &[b"\0\0"],
-        &[b"\0", b""],
-        &[b"\x01"],
-        &[b"a"],
-        &[b"a", b""],
-        &[b"a", b"b"],
-        &[b"a\0"],
-        &[b"a\0\0\0\0\0\0\0"],
-        &[b"a\0\0\0\0\0\0\0\0"],
-        &[b"aa"],
-        &[b"ab"],
-        &[b"b"],
-        &[b"customer"],
-        &[b"customer", b"a"],
-        &[b"customer\0"],
-        &[b"customer1"],
-        &[b"customer10"],
-        &[b"customer2"],
-        &[b"customes"],
-        &[b"\xfe"],
-        &[b"\xff"],
-        &[b"\xff\xff\xff\xff\xff\xff\xff\xff"],
-        &[b"\xff\xff\xff\xff\xff\xff\xff\xff\xff"],
-        &[&long],
-        &[&longer],
-        &[&longest, b"a"],
-    ];
     let mut rows = Vec::new(alloc);
-    for row in cells {
+    for row in SHORT {
         rows.push(vectors(alloc, row)?)?;
+    }
+    for length in [254, 255, 300] {
+        let mut row = Vec::new(alloc);
+        row.push(vec![in alloc; b'a'; length]?)?;
+        if length == 300 {
+            row.push(Vec::from_slice(alloc, b"a")?)?;
+        }
+        rows.push(row)?;
     }
     Ok(rows)
 }

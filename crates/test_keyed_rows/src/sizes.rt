@@ -45,19 +45,34 @@ fn rows_of_no_cell_and_of_many(rt: HostRuntime) -> Result<(), AllocError> {
     Ok(())
 }
 
+// Whether the row has the long cell between two others.
+fn check_cells(rt: &impl Abort, row: &Cells, long: &[u8]) {
+    let mut places: usize = 0;
+    for cell in row {
+        let is_right = match places {
+            0 => cell.is_empty(),
+            2 => cell == b"x".as_slice(),
+            _ => cell == long,
+        };
+        assert!(rt; is_right);
+        places = places.saturating_add(1);
+    }
+    assert!(rt; places == 4 && row.len() == 4 && row.get(4).is_none());
+    assert!(rt; row.get(1).is_some_and(|cell| cell == long));
+}
+
 // A row of the long cell between two others, made in both ways.
 fn check_long(rt: &impl Abort, alloc: Global, long: &[u8]) -> Result<(), AllocError> {
-    let row = Cells::from_slices(alloc, &[b"", long, b"x", long])?;
     let mut pushed = Cells::new(alloc);
     pushed.push(b"")?;
     pushed.push(long)?;
     pushed.push(b"x")?;
     pushed.push(long)?;
-    assert!(rt; row == pushed && row.clone()? == pushed && row.len() == 4);
-    assert!(rt; row.get(0) == Some(b"") && row.get(1) == Some(long) && row.get(2) == Some(b"x"));
-    assert!(rt; row.get(3) == Some(long) && row.get(4).is_none());
-    let cells: Vec<&[u8]> = row.iter().collect(alloc)?;
-    assert!(rt; cells.len() == 4 && cells[1] == long && cells[3] == long);
+    check_cells(rt, &pushed, long);
+    check_cells(rt, &pushed.clone()?, long);
+    let made = Cells::from_slices(alloc, &[&[], long, &[b'x'], long])?;
+    check_cells(rt, &made, long);
+    assert!(rt; made == pushed);
     Ok(())
 }
 
