@@ -1,10 +1,10 @@
 //! Tests: command lines that make no request, options that do not go together, and where colours come from.
 
-use crate::process::World;
-use crate::runs::{Case, PLAIN, expect, run_words};
+use crate::process::{Given, World};
+use crate::runs::{Case, PLAIN, PROGRAM, Run, expect, run_given};
 use std::test::Fail;
 
-static FILES: World<'static> = World {
+static FILES: World = World {
     files: &[
         ("old", "id,name\n2,pear\n7,fig\n8,nut\n"),
         ("new", "id,name\n13,medlar\n2,quince\n8,nut\n"),
@@ -182,7 +182,14 @@ fn command_line_that_makes_no_request_is_refused(rt: HostRuntime) -> Result<(), 
 #[test]
 fn command_is_required(rt: HostRuntime) -> Result<(), Fail> {
     let alloc = rt.alloc();
-    let (status, output, said) = run_words(alloc, &["keyed"], FILES)?;
+    let mut words = Vec::new(alloc);
+    words.push(String::from_str(alloc, PROGRAM)?)?;
+    let files = Vec::new(alloc);
+    let Run {
+        status,
+        output,
+        said,
+    } = run_given(alloc, &Given { words, files }, FILES)?;
     assert_eq!(rt; status, 2);
     assert!(rt; output.is_empty());
     let first = "error: 'keyed' requires a subcommand but one was not provided\n";

@@ -1,7 +1,7 @@
 //! Tests: no character that moves a terminal's text reaches a person. It is escaped in each place that prints for one.
 
-use crate::process::World;
-use crate::runs::{Case, PLAIN, expect};
+use crate::process::{Given, World};
+use crate::runs::{Case, PLAIN, Run, expect, expect_run, words_of};
 use std::alloc::{AllocError, Global};
 use std::test::Fail;
 
@@ -86,27 +86,31 @@ fn files_with(alloc: Global, c: &str) -> Result<Vec<(String, String)>, AllocErro
     Ok(files)
 }
 
+// What one of the places comes to, with the escape in the place of each mark.
+fn wanted(alloc: Global, place: &Case<'_>, escape: &str, line: &str) -> Result<Run, AllocError> {
+    let (_, status, output, said) = *place;
+    let said = replaced(alloc, said, '@', escape)?;
+    Ok(Run {
+        status,
+        output: replaced(alloc, output, '@', escape)?.into_bytes(),
+        said: replaced(alloc, &said, '%', line)?,
+    })
+}
+
 // Fails unless a character stands escaped in each place.
 fn expect_escaped(alloc: Global, c: char, escape: &str) -> Result<(), Fail> {
     let second_line = if c == '\n' || c == '\r' { "5" } else { "3" };
     let c = c.to_string(alloc)?;
-    let owned = files_with(alloc, &c)?;
-    let mut files: Vec<(&str, &str)> = Vec::new(alloc);
-    for (name, text) in &owned {
-        files.push((name.as_str(), text.as_str()))?;
-    }
     let program = replaced(alloc, "/bin/k@d", '@', &c)?;
-    let world = World {
-        program: &program,
-        files: &files,
-        ..PLAIN
+    let mut given = Given {
+        words: Vec::new(alloc),
+        files: files_with(alloc, &c)?,
     };
-    for (line, status, output, said) in PLACES {
-        let line = replaced(alloc, line, '@', &c)?;
-        let output = replaced(alloc, output, '@', escape)?;
-        let said = replaced(alloc, said, '@', escape)?;
-        let said = replaced(alloc, &said, '%', second_line)?;
-        expect(alloc, world, &[(&line, status, &output, &said)])?;
+    for place in &PLACES {
+        let line = replaced(alloc, place.0, '@', &c)?;
+        given.words = words_of(alloc, &program, &line)?;
+        let want = wanted(alloc, place, escape, second_line)?;
+        expect_run(alloc, &given, PLAIN, &want)?;
     }
     Ok(())
 }

@@ -4,7 +4,7 @@ use crate::process::World;
 use crate::runs::{Case, PLAIN, expect};
 use std::test::Fail;
 
-static FILES: World<'static> = World {
+static FILES: World = World {
     files: &[
         ("old", "id,name\n2,pear\n7,fig\n"),
         ("new", "id,name\n13,medlar\n2,quince\n"),

@@ -1,11 +1,11 @@
 //! Tests: the files of each command in their places, and the standard input in each of them.
 
-use crate::process::World;
-use crate::runs::{Case, PLAIN, expect, run_words};
+use crate::process::{Given, World};
+use crate::runs::{Case, PLAIN, PROGRAM, Run, expect, expect_run, files_of, words_of};
 use std::alloc::{AllocError, Global};
 use std::test::Fail;
 
-static FILES: World<'static> = World {
+static FILES: World = World {
     files: &[
         ("old", "id,name\n2,pear\n7,fig\n"),
         ("new", "id,name\n13,medlar\n2,quince\n"),
@@ -75,29 +75,36 @@ fn command_takes_its_files_in_order(rt: HostRuntime) -> Result<(), Fail> {
 // The same answers, with the standard input in the place of one file after the other. Returns how many times that was asked.
 fn ask_of_stdin(alloc: Global, case: &Case<'_>) -> Result<usize, Fail> {
     let (line, status, output, _) = *case;
-    let mut asked = 0;
+    let mut asked: usize = 0;
     for (name, text) in FILES.files {
-        let words = replaced(alloc, line, name)?;
-        if words.iter().any(|word| *word == "-") {
+        let given = Given {
+            words: replaced(alloc, line, name)?,
+            files: files_of(alloc, FILES)?,
+        };
+        if given.words.iter().any(|word| word.as_str() == "-") {
             let world = World {
                 stdin: text.as_bytes(),
                 ..FILES
             };
-            let came = run_words(alloc, &words, world)?;
-            if came.0 != status || came.1.as_slice() != output.as_bytes() || !came.2.is_empty() {
-                return Err(Fail::new(format_args!("{line}, - for {name}: {:?}", came.2)));
-            }
-            asked += 1;
+            let want = Run {
+                status,
+                output: Vec::from_slice(alloc, output.as_bytes())?,
+                said: String::new(alloc),
+            };
+            expect_run(alloc, &given, world, &want)?;
+            asked = asked.saturating_add(1);
         }
     }
     Ok(asked)
 }
 
 // The words of a line, with `-` in the place of a file.
-fn replaced<'a>(alloc: Global, line: &'a str, name: &str) -> Result<Vec<&'a str>, AllocError> {
-    let mut words = vec![in alloc; PLAIN.program]?;
-    for word in line.split('|') {
-        words.push(if word == name { "-" } else { word })?;
+fn replaced(alloc: Global, line: &str, name: &str) -> Result<Vec<String>, AllocError> {
+    let mut words = words_of(alloc, PROGRAM, line)?;
+    for word in &mut words {
+        if word.as_str() == name {
+            *word = String::from_str(alloc, "-")?;
+        }
     }
     Ok(words)
 }

@@ -14,37 +14,42 @@ use std::rt::{Env, Files};
 
 /// What a process finds around it.
 #[derive(Clone, Copy)]
-pub struct World<'a> {
-    /// The first word of the command line.
-    pub program: &'a str,
+pub struct World {
     /// The variable `NO_COLOR`, if it is set.
-    pub no_color: Option<&'a str>,
+    pub no_color: Option<&'static str>,
     /// Files by name, with their texts.
-    pub files: &'a [(&'a str, &'a str)],
+    pub files: &'static [(&'static str, &'static str)],
     /// The bytes of the standard input.
-    pub stdin: &'a [u8],
+    pub stdin: &'static [u8],
     /// Whether the standard output is a terminal.
     pub is_terminal: bool,
     /// How many bytes the standard output takes before it is full.
     pub room: usize,
 }
 
-/// A process with its words, and what it has said so far.
+/// The words of a command line, the program's name first, and the files that a run may open, by name with their texts.
+#[derive(Drop)]
+pub struct Given {
+    pub words: Vec<String>,
+    pub files: Vec<(String, String)>,
+}
+
+/// A process with what it is given, and what it has said so far.
 #[derive(Drop)]
 pub struct Process<'a> {
     alloc: Global,
-    words: &'a [&'a str],
-    world: World<'a>,
+    given: &'a Given,
+    world: World,
     printed: RefCell<String>,
     said: RefCell<String>,
 }
 
 impl<'a> Process<'a> {
-    /// A process that has said nothing.
-    pub fn new(alloc: Global, words: &'a [&'a str], world: World<'a>) -> Self {
+    /// A process that has said nothing. It opens the files of `given`, and those of `world` are none of its own.
+    pub fn new(alloc: Global, given: &'a Given, world: World) -> Self {
         Process {
             alloc,
-            words,
+            given,
             world,
             printed: RefCell::new(String::new(alloc)),
             said: RefCell::new(String::new(alloc)),
@@ -113,7 +118,10 @@ fn fill(text: Option<&str>, buf: &mut [u8]) -> Result<usize, FillError>
 
 impl Env for Process<'_> {
     fn arg(&self, i: usize, buf: &mut [u8]) -> Result<usize, FillError> {
-        fill(self.words.get(i).copied(), buf)
+        match self.given.words.get(i) {
+            Some(word) => fill(Some(word), buf),
+            None => fill(None, buf),
+        }
     }
 
     fn var(&self, name: &str, buf: &mut [u8]) -> Result<usize, FillError> {
@@ -129,8 +137,8 @@ impl Env for Process<'_> {
     }
 }
 
-impl<'a> Input for Process<'a> {
-    type Reader = &'a [u8];
+impl Input for Process<'_> {
+    type Reader = &'static [u8];
 
     fn read_line<A: Allocator + Clone>(&self, buf: &mut String<A>) -> io::Result<usize>
         ensures ok { IfOk result (λ n. string_len buf.new ≡ string_len buf.old + n) }
@@ -138,11 +146,11 @@ impl<'a> Input for Process<'a> {
         self.reader().read_line(buf)
     }
 
-    fn lines<A: Allocator>(&self, alloc: A) -> Lines<&'a [u8], A> {
+    fn lines<A: Allocator>(&self, alloc: A) -> Lines<&'static [u8], A> {
         self.reader().lines(alloc)
     }
 
-    fn reader(&self) -> &'a [u8] {
+    fn reader(&self) -> &'static [u8] {
         self.world.stdin
     }
 }
@@ -210,7 +218,7 @@ impl<'a> Files for Process<'a> {
     type Dir = &'a [u8];
 
     fn open_file(&self, _how: &OpenOptions, path: &str) -> io::Result<File<'a>> {
-        match self.world.files.iter().find(|file| file.0 == path) {
+        match self.given.files.iter().find(|file| file.0.as_str() == path) {
             Some(file) => Ok(File {
                 bytes: file.1.as_bytes(),
                 is_broken: path.starts_with("broken"),
@@ -266,7 +274,7 @@ pub struct Output {
 
 impl Output {
     /// The output of a process in this world, with nothing on it.
-    pub fn new(alloc: Global, world: World<'_>) -> Self {
+    pub fn new(alloc: Global, world: World) -> Self {
         Output {
             bytes: Vec::new(alloc),
             is_terminal: world.is_terminal,

@@ -4,7 +4,7 @@ use crate::process::World;
 use crate::runs::{Case, PLAIN, expect};
 use std::test::Fail;
 
-static FILES: World<'static> = World {
+static FILES: World = World {
     files: &[
         // Two wide characters, a letter with a mark of its own, an emoji, one with a colour of skin, and a mark that takes no width.
         (
