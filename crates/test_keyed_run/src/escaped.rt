@@ -97,8 +97,8 @@ fn wanted(alloc: Global, place: &Case<'_>, escape: &str, line: &str) -> Result<R
     })
 }
 
-// Fails unless a character stands escaped in each place.
-fn expect_escaped(alloc: Global, c: char, escape: &str) -> Result<(), Fail> {
+// Fails unless a character stands escaped in each of the places.
+fn expect_escaped(alloc: Global, c: char, escape: &str, places: &[Case<'_>]) -> Result<(), Fail> {
     let second_line = if c == '\n' || c == '\r' { "5" } else { "3" };
     let c = c.to_string(alloc)?;
     let program = replaced(alloc, "/bin/k@d", '@', &c)?;
@@ -106,7 +106,7 @@ fn expect_escaped(alloc: Global, c: char, escape: &str) -> Result<(), Fail> {
         words: Vec::new(alloc),
         files: files_with(alloc, &c)?,
     };
-    for place in &PLACES {
+    for place in places {
         let line = replaced(alloc, place.0, '@', &c)?;
         given.words = words_of(alloc, &program, &line)?;
         let want = wanted(alloc, place, escape, second_line)?;
@@ -122,7 +122,7 @@ static NAMED: [(char, &str); 4] = [('\0', "\\0"), ('\t', "\\t"), ('\n', "\\n"), 
 #[test]
 fn control_character_with_a_name_is_escaped(rt: HostRuntime) -> Result<(), Fail> {
     for (c, escape) in NAMED {
-        expect_escaped(rt.alloc(), c, escape)?;
+        expect_escaped(rt.alloc(), c, escape, &PLACES)?;
     }
     Ok(())
 }
@@ -140,7 +140,8 @@ static NUMBERED: [(u32, u32); 9] = [
     (0x2066, 0x2069),
 ];
 
-/// Each other character that moves or turns a terminal's text stands as its number.
+/// Each other character that moves or turns a terminal's text stands as its number: all of them in a cell, the first and the last of each
+/// range in every place.
 #[test]
 fn character_that_moves_text_is_escaped(rt: HostRuntime) -> Result<(), Fail> {
     let alloc = rt.alloc();
@@ -148,7 +149,12 @@ fn character_that_moves_text_is_escaped(rt: HostRuntime) -> Result<(), Fail> {
         for code in first..last + 1 {
             if let Some(c) = char::from_u32(code) {
                 let escape = format!(in alloc; "\\u{{{code:x}}}")?;
-                expect_escaped(alloc, c, &escape)?;
+                let places = if code == first || code == last {
+                    &PLACES[..]
+                } else {
+                    &PLACES[..1]
+                };
+                expect_escaped(alloc, c, &escape, places)?;
             }
         }
     }
@@ -172,7 +178,7 @@ fn other_text_is_shown_as_it_is(rt: HostRuntime) -> Result<(), Fail> {
         '\u{1f600}',
     ] {
         let same = c.to_string(alloc)?;
-        expect_escaped(alloc, c, &same)?;
+        expect_escaped(alloc, c, &same, &PLACES)?;
     }
     let world = World {
         files: &[("old", "id,name\n1,a\n")],
