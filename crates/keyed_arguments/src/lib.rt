@@ -1,9 +1,12 @@
 //! What the command line of `keyed` asks for.
 #![tactic(auto)]
 
+mod form;
+
 use clap::{Arg, ArgAction, ArgMatches};
+use form::form_of;
 use keyed_files::{
-    Colours, Command, Delimiter, Form, Format, Kind, Request, Settings, SortedRequest,
+    Colours, Command, Format, Kind, Reason, Request, Settings, SortedRequest, key_names,
 };
 use std::alloc::{AllocError, Global};
 use std::{fmt, io};
@@ -13,8 +16,13 @@ use std::{fmt, io};
 pub enum ParseError {
     /// They are not such as the commands take, they ask for help or the version, or a request for memory was refused.
     Words(clap::Error),
-    /// What is given for the byte between cells is not one byte that may stand there.
-    Delimiter,
+    /// What is given for an option is none of its values.
+    Value {
+        option: &'static str,
+        wrong: &'static str,
+    },
+    /// What is given for the columns of the key is not such.
+    Key(Reason),
     /// Tables are to be compared as they are read, and the answer to be lined up, for which all its rows must be known.
     SortedTable,
 }
@@ -36,7 +44,7 @@ impl ParseError {
     pub fn use_stderr(&self) -> bool {
         match self {
             ParseError::Words(error) => error.use_stderr(),
-            ParseError::Delimiter | ParseError::SortedTable => true,
+            ParseError::Value { .. } | ParseError::Key(_) | ParseError::SortedTable => true,
         }
     }
 
@@ -58,9 +66,8 @@ impl fmt::Display for ParseError {
     fn fmt<W: fmt::Write>(&self, f: &mut fmt::Formatter<W>) -> fmt::Result {
         match self {
             ParseError::Words(error) => write!(f, "{error}"),
-            ParseError::Delimiter => {
-                f.write_str("keyed: --delimiter: not one byte that may stand between cells\n")
-            }
+            ParseError::Value { option, wrong } => writeln!(f, "keyed: --{option}: {wrong}"),
+            ParseError::Key(reason) => writeln!(f, "keyed: --key: {reason}"),
             ParseError::SortedTable => f.write_str("keyed: diff --sorted needs --format csv\n"),
         }
     }
@@ -80,18 +87,19 @@ pub fn parse<'a>(
 ) -> Result<Command<'a>, ParseError> {
     let matches = command(alloc)?.try_get_matches_from(words)?;
     match matches.subcommand() {
-        Some((name, matches)) => command_of(name, matches, terminal),
+        Some((name, matches)) => command_of(alloc, name, matches, terminal),
         None => Err(ParseError::from(AllocError)),
     }
 }
 
 fn command_of<'a>(
+    alloc: Global,
     name: &str,
     matches: &ArgMatches<'a>,
     terminal: Colours,
 ) -> Result<Command<'a>, ParseError> {
-    let settings = settings_of(matches)?;
     let request = request_of(name, matches, terminal);
+    let settings = settings_of(alloc, matches, request)?;
     if !matches.get_flag("sorted") {
         return Ok(Command::Whole { settings, request });
     }
@@ -169,28 +177,23 @@ fn kind_of(name: &str) -> Kind {
     }
 }
 
-fn settings_of<'a>(matches: &ArgMatches<'a>) -> Result<Settings<'a>, ParseError> {
-    let delimiter = delimiter_of(matches.get_str("delimiter").unwrap_or(","))?;
+fn settings_of<'a>(
+    alloc: Global,
+    matches: &ArgMatches<'a>,
+    request: Request<'a>,
+) -> Result<Settings<'a>, ParseError> {
+    let key = matches.get_str("key");
+    if let Some(names) = key {
+        if let Err(reason) = key_names(alloc, names) {
+            return Err(ParseError::Key(reason));
+        }
+    }
     Ok(Settings {
-        form: Form {
-            delimiter,
-            has_header: !matches.get_flag("no-header"),
-        },
-        key: matches.get_str("key"),
+        form: form_of(matches, request)?,
+        key,
         keeps_order: matches.get_flag("keep-order"),
         groups: matches.get_flag("group"),
     })
-}
-
-fn delimiter_of(text: &str) -> Result<Delimiter, ParseError> {
-    let delimiter = match text.as_bytes() {
-        [byte] => Delimiter::new(*byte),
-        _ => None,
-    };
-    match delimiter {
-        Some(delimiter) => Ok(delimiter),
-        None => Err(ParseError::Delimiter),
-    }
 }
 
 // A command below the program's: its name, what it prints, and the files that it takes, each with its help.
@@ -236,11 +239,57 @@ static COMMANDS: [Below<'static>; 4] = [
     ),
 ];
 
+// The options of all commands that take a text: the name of each, what stands for the text in the help, and its help.
+static TEXTS: [(&str, &str, &str); 4] = [
+    (
+        "key",
+        "COLUMN[,COLUMN..]",
+        "The columns that are the key, as a record of CSV; the first column else",
+    ),
+    (
+        "delimiter",
+        "BYTE",
+        "The byte between cells, or tab; a tab else in files named .tsv or .tab, and a comma in others",
+    ),
+    (
+        "comment",
+        "BYTE",
+        "Lines that begin with this byte are passed over",
+    ),
+    (
+        "skip",
+        "N",
+        "So many lines at the top of each file are passed over",
+    ),
+];
+
+// Those of commands that take two files.
+static TEXTS_OF_TWO: [(&str, &str, &str); 2] = [
+    (
+        "left-delimiter",
+        "BYTE",
+        "The byte between the cells of the first file, and of what is written",
+    ),
+    (
+        "right-delimiter",
+        "BYTE",
+        "The byte between the cells of the second file",
+    ),
+];
+
 // The options that are set or not: the name of each, and its help.
-static FLAGS: [(&str, &str); 3] = [
+static FLAGS: [(&str, &str); 5] = [
     (
         "no-header",
         "The first row is no header: columns are named 1, 2 and so on",
+    ),
+    (
+        "ragged",
+        "A short row has empty cells behind, and a long one may have empty ones",
+    ),
+    (
+        "lenient",
+        "Quotes that are not in order are taken as they are",
     ),
     (
         "keep-order",
@@ -289,7 +338,7 @@ fn args_of<'a>(
         )?;
     }
     put_options(alloc, &mut args, name)?;
-    put_settings(alloc, &mut args)?;
+    put_settings(alloc, &mut args, name)?;
     Ok(args)
 }
 
@@ -355,9 +404,20 @@ fn sorted<'a>(alloc: Global) -> Result<Arg<'a>, AllocError> {
     sorted.conflicts_with("group")?.conflicts_with("keep-order")
 }
 
-fn put_settings<'a>(alloc: Global, args: &mut Vec<Arg<'a>>) -> Result<(), AllocError> {
-    put(args, key(alloc))?;
-    put(args, delimiter(alloc))?;
+// Puts the settings of all commands, and those of commands that take two files.
+fn put_settings<'a>(
+    alloc: Global,
+    args: &mut Vec<Arg<'a>>,
+    command: &str,
+) -> Result<(), AllocError> {
+    for (name, value, help) in &TEXTS {
+        put(args, text(alloc, name, value, help))?;
+    }
+    if command != "merge" {
+        for (name, value, help) in &TEXTS_OF_TWO {
+            put(args, text(alloc, name, value, help))?;
+        }
+    }
     for (name, help) in &FLAGS {
         put(args, flag(alloc, name, help))?;
     }
@@ -370,19 +430,11 @@ fn put<T: Drop>(items: &mut Vec<T>, item: T) -> Result<(), AllocError> {
     Ok(())
 }
 
-fn key<'a>(alloc: Global) -> Arg<'a> {
-    Arg::new(alloc, "key")
-        .long("key")
-        .value_name("COLUMN[,COLUMN..]")
-        .help("The columns that are the key; the first column else")
-}
-
-fn delimiter<'a>(alloc: Global) -> Arg<'a> {
-    Arg::new(alloc, "delimiter")
-        .long("delimiter")
-        .value_name("BYTE")
-        .default_value(",")
-        .help("The byte between cells")
+fn text<'a>(alloc: Global, name: &'a str, value: &'a str, help: &'a str) -> Arg<'a> {
+    Arg::new(alloc, name)
+        .long(name)
+        .value_name(value)
+        .help(help)
 }
 
 fn flag<'a>(alloc: Global, name: &'a str, help: &'a str) -> Arg<'a> {

@@ -3,7 +3,9 @@
 use crate::answers::{Answer, apply, diff, join, merge};
 use crate::sorted::{diff_sorted, join_sorted};
 use either_or_both::Either;
-use keyed_files::{Command, Fault, Layout, Reason, Request, Settings, SortedRequest, Stream, at};
+use keyed_files::{
+    Command, Delimiter, Fault, Layout, Reason, Request, Settings, SortedRequest, Stream, at,
+};
 use std::io::Write;
 use std::rt::Files;
 use std::{fs, io};
@@ -54,14 +56,16 @@ pub fn stream_request<'a, R: Files + Input + AllocGlobal, W: Write>(
 ) -> Result<u8, Fault<'a>> {
     request.check_stdin()?;
     let alloc = rt.alloc();
+    let next = layout.form.reading.next;
     match request {
         SortedRequest::Diff { old, new } => {
-            let old = stream_of(rt, old);
-            diff_sorted(alloc, layout, old, stream_of(rt, new), output)
+            let old = stream_of(rt, old, None);
+            diff_sorted(alloc, layout, old, stream_of(rt, new, next), output)
         }
         SortedRequest::Join { left, right, kind } => {
-            let left = stream_of(rt, left);
-            join_sorted(alloc, layout, kind, left, stream_of(rt, right), output)
+            let left = stream_of(rt, left, None);
+            let right = stream_of(rt, right, next);
+            join_sorted(alloc, layout, kind, left, right, output)
         }
     }
 }
@@ -88,23 +92,25 @@ pub fn answer_request<'a, R: Files + Input + AllocGlobal>(
 ) -> Result<Answer, Fault<'a>> {
     request.check_stdin()?;
     let alloc = rt.alloc();
+    let next = settings.form.reading.next;
     match request {
         Request::Diff { old, new, format } => {
-            let old = stream_of(rt, old);
-            diff(alloc, settings, format, old, stream_of(rt, new))
+            let old = stream_of(rt, old, None);
+            diff(alloc, settings, format, old, stream_of(rt, new, next))
         }
         Request::Apply { old, changes } => {
-            let old = stream_of(rt, old);
-            apply(alloc, settings, old, stream_of(rt, changes))
+            let old = stream_of(rt, old, None);
+            apply(alloc, settings, old, stream_of(rt, changes, next))
         }
         Request::Merge { base, ours, theirs } => {
-            let base = stream_of(rt, base);
-            let ours = stream_of(rt, ours);
-            merge(alloc, settings, base, ours, stream_of(rt, theirs))
+            let base = stream_of(rt, base, None);
+            let ours = stream_of(rt, ours, next);
+            let theirs = stream_of(rt, theirs, settings.form.reading.last);
+            merge(alloc, settings, base, ours, theirs)
         }
         Request::Join { left, right, kind } => {
-            let left = stream_of(rt, left);
-            join(alloc, settings, kind, left, stream_of(rt, right))
+            let left = stream_of(rt, left, None);
+            join(alloc, settings, kind, left, stream_of(rt, right, next))
         }
     }
 }
@@ -112,8 +118,12 @@ pub fn answer_request<'a, R: Files + Input + AllocGlobal>(
 // A file or the standard input.
 type Reader<R> = Either<<R as Files>::File, <R as Input>::Reader>;
 
-// The file, or the standard input where its name is `-`.
-fn stream_of<'a, R: Files + Input>(rt: &R, file: &'a str) -> Stream<'a, Reader<R>> {
+// The file, or the standard input where its name is `-`, with the byte between its cells where that is not the one of the first file.
+fn stream_of<'a, R: Files + Input>(
+    rt: &R,
+    file: &'a str,
+    delimiter: Option<Delimiter>,
+) -> Stream<'a, Reader<R>> {
     let reader = if file == "-" {
         Ok(Either::Right(rt.reader()))
     } else {
@@ -122,5 +132,9 @@ fn stream_of<'a, R: Files + Input>(rt: &R, file: &'a str) -> Stream<'a, Reader<R
             Err(error) => Err(Reason::Io(error)),
         }
     };
-    Stream { file, reader }
+    Stream {
+        file,
+        delimiter,
+        reader,
+    }
 }

@@ -4,7 +4,7 @@ use crate::job::{Job, Table};
 use either_or_both::EitherOrBoth;
 use either_or_both::join::outer_join;
 use eob_joins::{anti_join, inner_join, left_join, right_join, semi_join};
-use keyed_files::{JoinColumns, Kind, Reason, Sides, Written, write_table};
+use keyed_files::{JoinColumns, Kind, Reason, Sides, Written, quote_first, write_table};
 use keyed_rows::{Group, Key};
 use std::alloc::AllocError;
 
@@ -102,7 +102,8 @@ fn write_joined<T: JoinedRow + Drop>(
     for (key, row) in rows {
         written.put_joined(job.columns, &key, row.sides())?;
     }
-    written.finish()
+    let text = written.finish()?;
+    Ok(quote_first(job.alloc, text, job.form.delimiter)?)
 }
 
 // Rows of the left table, if there was memory for them.

@@ -18,7 +18,7 @@ mod written;
 pub use answers::{Answer, apply, diff, join, merge};
 pub use files::{answer_request, stream_request, write_command, write_request, write_whole};
 pub use keyed_files::{
-    Colours, Command, Delimiter, Fault, Form, Format, Kind, Layout, Reason, Request, Settings,
-    Shown, SortedRequest, Stream, at,
+    Colours, Command, Comment, Delimiter, Encoding, Fault, Form, Format, Kind, Layout, Lengths,
+    Quotes, Reading, Reason, Request, Settings, Shown, SortedRequest, Stream, at,
 };
 pub use sorted::{diff_sorted, join_sorted};

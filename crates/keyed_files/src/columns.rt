@@ -2,6 +2,8 @@
 ghost use Rattle.std.specs.Prelude.{◌≡◌};
 ghost use Rattle.keyed_files.specs.Names.{place_in};
 
+use crate::fault::Reason;
+use crate::key_record::key_names;
 use crate::names::Names;
 use keyed_rows::Cells;
 use std::alloc::{AllocError, Global};
@@ -73,48 +75,39 @@ pub struct JoinColumns {
 ///
 /// # Errors
 ///
-/// Returns `AllocError` if a request for memory was refused.
-pub fn columns_of(
-    alloc: Global,
-    key: Option<&str>,
-    headers: &[&Cells],
-) -> Result<Columns, AllocError> {
-    Columns::new(alloc, key_of(alloc, key, headers)?, headers)
+/// Returns the errors of `key_names`, and `NoMemory` if a request for memory was refused.
+pub fn columns_of(alloc: Global, key: Option<&str>, headers: &[&Cells]) -> Result<Columns, Reason> {
+    let key = key_of(alloc, key, headers)?;
+    Ok(Columns::new(alloc, key, headers)?)
 }
 
-/// The columns of each of two tables, with the key that is set or else the first column: that of the left table, or of the right one where
-/// the left one is an empty file and so has none.
+/// The columns of each of two tables, with the key that is set or else the first column of the left one. A file with no row has no column
+/// of its own, and those of the other table.
 ///
 /// # Errors
 ///
-/// Returns `AllocError` if a request for memory was refused.
+/// Returns the errors of `key_names`, and `NoMemory` if a request for memory was refused.
 pub fn join_columns(
     alloc: Global,
     key: Option<&str>,
     left: &Cells,
     right: &Cells,
-) -> Result<JoinColumns, AllocError> {
+) -> Result<JoinColumns, Reason> {
     let left_key = key_of(alloc, key, &[left, right])?;
     let right_key = left_key.clone()?;
-    let left = Columns::new(alloc, left_key, &[left])?;
-    let right = Columns::new(alloc, right_key, &[right])?;
+    let left_names = if left.is_empty() { right } else { left };
+    let right_names = if right.is_empty() { left } else { right };
+    let left = Columns::new(alloc, left_key, &[left_names])?;
+    let right = Columns::new(alloc, right_key, &[right_names])?;
     Ok(JoinColumns { left, right })
 }
 
 // The names of the key: those that are set, or that of the first column.
-fn key_of(alloc: Global, key: Option<&str>, headers: &[&Cells]) -> Result<Cells, AllocError> {
+fn key_of(alloc: Global, key: Option<&str>, headers: &[&Cells]) -> Result<Cells, Reason> {
     match key {
-        Some(names) => split_names(alloc, names),
-        None => first_name(alloc, headers),
+        Some(names) => key_names(alloc, names),
+        None => Ok(first_name(alloc, headers)?),
     }
-}
-
-fn split_names(alloc: Global, names: &str) -> Result<Cells, AllocError> {
-    let mut key = Cells::new(alloc);
-    for name in names.split(',') {
-        key.push(name.as_bytes())?;
-    }
-    Ok(key)
 }
 
 // The first column, if there is one: an empty file with no header has none.

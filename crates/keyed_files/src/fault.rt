@@ -1,7 +1,9 @@
 //! What can be wrong with an input, and the line that says so.
 
+use crate::encoding::Encoding;
 use crate::lined_up::Shown;
 use keyed_rows::{Key, RepeatedKey, UniqueError};
+use keyed_text::QuoteFault;
 use std::alloc::{AllocError, AllocFailed};
 use std::{fmt, io};
 
@@ -20,12 +22,27 @@ pub enum Reason {
     NoMemory,
     /// A file can't be opened, or a stream can't be read or written.
     Io(io::Error),
-    /// A file that is to begin with a header is empty.
-    NoHeader,
+    /// A file is no text, or none of one byte after the other.
+    NoText(Encoding),
+    /// The quotes of the row on this line are not in order.
+    Quotes {
+        line: u64,
+        fault: QuoteFault,
+    },
     /// The header lacks this column of the key.
-    NoColumn(Vec<u8>),
-    /// The header has this column twice.
-    RepeatedColumn(Vec<u8>),
+    NoColumn {
+        line: u64,
+        name: Vec<u8>,
+    },
+    /// The header has this column of the key more than once.
+    RepeatedColumn {
+        line: u64,
+        name: Vec<u8>,
+    },
+    /// The names of the columns that are the key are not one record of CSV.
+    KeyNoRecord,
+    /// Among the names of the columns that are the key one stands twice.
+    RepeatedName(Vec<u8>),
     /// A row has more or fewer cells than the first one.
     CellCount {
         line: u64,
@@ -40,24 +57,6 @@ pub enum Reason {
     TwiceStdin,
     /// Two rows have the same key, and keys may not repeat.
     RepeatedKey(RepeatedKey),
-}
-
-impl Reason {
-    /// The same reason, of a row that begins on this line.
-    pub fn on_line(self, line: u64) -> Self {
-        match self {
-            Reason::CellCount {
-                expected,
-                found,
-                ..
-            } => Reason::CellCount {
-                line,
-                expected,
-                found,
-            },
-            reason => reason,
-        }
-    }
 }
 
 impl From<AllocError> for Reason {
@@ -110,7 +109,36 @@ impl From<csv::Error> for Reason {
 
 impl fmt::Display for Fault<'_> {
     fn fmt<W: fmt::Write>(&self, f: &mut fmt::Formatter<W>) -> fmt::Result {
-        write!(f, "{}: {}", Shown(self.file.as_bytes()), self.reason)
+        let file = Shown(self.file.as_bytes());
+        match &self.reason {
+            Reason::NoText(encoding) => write!(f, "{file}: {}", ToText(*encoding, file)),
+            reason => write!(f, "{file}: {reason}"),
+        }
+    }
+}
+
+// What a file is that is no text, and the command that makes one of it.
+#[derive(Clone, Copy)]
+struct ToText<'a>(Encoding, Shown<'a>);
+
+impl fmt::Display for ToText<'_> {
+    fn fmt<W: fmt::Write>(&self, f: &mut fmt::Formatter<W>) -> fmt::Result {
+        let ToText(encoding, file) = *self;
+        let (name, remedy) = (encoding.name(), encoding.remedy());
+        write!(f, "looks like {name}: try {remedy} {file} | keyed .. -")
+    }
+}
+
+// What is wrong with quotes.
+#[derive(Clone, Copy)]
+struct ShownQuotes(QuoteFault);
+
+impl fmt::Display for ShownQuotes {
+    fn fmt<W: fmt::Write>(&self, f: &mut fmt::Formatter<W>) -> fmt::Result {
+        f.write_str(match self.0 {
+            QuoteFault::NeverClosed => "a quote is opened and never closed",
+            QuoteFault::TextBehindQuote => "text stands behind a closing quote",
+        })
     }
 }
 
@@ -135,9 +163,20 @@ impl fmt::Display for Reason {
         match self {
             Reason::NoMemory => f.write_str("out of memory"),
             Reason::Io(error) => write!(f, "{error}"),
-            Reason::NoHeader => f.write_str("line 1: no header"),
-            Reason::NoColumn(name) => write!(f, "line 1: no column {}", Shown(name)),
-            Reason::RepeatedColumn(name) => { write!(f, "line 1: two columns {}", Shown(name)) }
+            Reason::NoText(encoding) => write!(f, "{}", ToText(*encoding, Shown(b"FILE"))),
+            Reason::Quotes { line, fault } => write!(
+                f,
+                "line {line}: {} (--lenient takes it as it is)",
+                ShownQuotes(*fault)
+            ),
+            Reason::NoColumn { line, name } => write!(f, "line {line}: no column {}", Shown(name)),
+            Reason::RepeatedColumn { line, name } => write!(
+                f,
+                "line {line}: two columns {}, of which the key is to be one: give others by --key",
+                Shown(name)
+            ),
+            Reason::KeyNoRecord => f.write_str("not one record of CSV"),
+            Reason::RepeatedName(name) => write!(f, "the column {} twice", Shown(name)),
             Reason::NoSign(line) => write!(f, "line {line}: the first cell is neither - nor +"),
             Reason::NotRising(line) => {
                 write!(
@@ -150,10 +189,16 @@ impl fmt::Display for Reason {
                 line,
                 expected,
                 found,
-            } => write!(
-                f,
-                "line {line}: {found} cells, and there are {expected} columns"
-            ),
+            } => {
+                write!(
+                    f,
+                    "line {line}: {found} cells, and there are {expected} columns"
+                )?;
+                if found < expected {
+                    f.write_str(" (--ragged takes a short row)")?;
+                }
+                Ok(())
+            }
             Reason::RepeatedKey(repeated) => {
                 write!(
                     f,

@@ -30,6 +30,10 @@ impl Written {
     ) -> Result<(), Reason> {
         let left = &columns.left;
         let right = &columns.right;
+        // Files with no row make a join of no column, whose header is none.
+        if first.is_none() && left.key.is_empty() {
+            return Ok(());
+        }
         self.put_first(first)?;
         self.put(&left.key)?;
         put_names(alloc, self, b"left.", &left.rest, &right.rest)?;

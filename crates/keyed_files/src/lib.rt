@@ -5,10 +5,15 @@
 #![tactic(auto)]
 
 mod by_line;
+mod checked;
 mod column_changes;
 mod columns;
+mod encoding;
 mod fault;
+mod first_cell;
+mod header;
 mod joined_rows;
+mod key_record;
 mod lined_up;
 mod names;
 mod opened;
@@ -20,15 +25,19 @@ mod written;
 
 pub use column_changes::ColumnChanges;
 pub use columns::{Columns, JoinColumns, Place, columns_of, join_columns};
+pub use encoding::Encoding;
 pub use fault::{Fault, Reason};
+pub use first_cell::quote_first;
 pub use joined_rows::Sides;
+pub use key_record::key_names;
 pub use lined_up::{
     Colour, Grid, Line, Shown, heading, line_under, line_up, put_both, put_shown, put_version,
 };
 pub use opened::{Opened, Stream, Two, at};
 pub use parts::Parts;
 pub use request::{
-    Colours, Command, Delimiter, Form, Format, Kind, Layout, Request, Settings, SortedRequest,
+    Colours, Command, Comment, Delimiter, Form, Format, Kind, Layout, Lengths, Quotes, Reading,
+    Request, Settings, SortedRequest,
 };
 pub use sign::{Sign, SignedRow};
 pub use source::{Content, Places, Source};

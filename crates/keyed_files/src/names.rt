@@ -55,6 +55,11 @@ impl Names {
         Ok(is_new)
     }
 
+    /// How many names these are.
+    pub fn len(&self) -> usize {
+        self.names.len()
+    }
+
     /// Where a name stands, if it is one of these.
     pub fn place_of(&self, name: &[u8]) -> Option<usize>
         ensures { result ≡ place_in (names_in self.now) name.now }

@@ -3,16 +3,18 @@
 use crate::column_changes::ColumnChanges;
 use crate::columns::{Columns, JoinColumns, columns_of, join_columns};
 use crate::fault::{Fault, Reason};
-use crate::request::Form;
+use crate::request::{Delimiter, Form};
 use crate::source::{Content, Source};
 use keyed_rows::Cells;
 use std::alloc::Global;
 use std::io::Read;
 
-/// A file by its name, with what its bytes are read from, or why it can't be opened.
+/// A file by its name, with the byte between its cells, where that is not the one of the form, and with what its bytes are read from, or
+/// why it can't be opened.
 #[derive(Drop)]
 pub struct Stream<'a, R> {
     pub file: &'a str,
+    pub delimiter: Option<Delimiter>,
     pub reader: Result<R, Reason>,
 }
 
@@ -44,7 +46,7 @@ where
 impl<R> Opened<'_, R> {
     /// The names of the columns.
     pub fn header(&self) -> &Cells {
-        &self.source.header
+        self.source.names()
     }
 }
 
@@ -61,6 +63,10 @@ impl<'a, R: Read + Drop> Opened<'a, R> {
         stream: Stream<'a, R>,
     ) -> Result<Self, Fault<'a>> {
         let file = stream.file;
+        let form = Form {
+            delimiter: stream.delimiter.unwrap_or(form.delimiter),
+            ..form
+        };
         let reader = at(file, stream.reader)?;
         let source = at(file, Source::open(alloc, reader, form, content))?;
         Ok(Opened { file, source })
@@ -79,7 +85,7 @@ impl<'a, R> Two<'a, R> {
     ///
     /// # Errors
     ///
-    /// Returns want of memory, as a fault of the first file.
+    /// Returns the errors of `columns_of`, as a fault of the first file.
     pub fn columns(&self, alloc: Global, key: Option<&str>) -> Result<Columns, Fault<'a>> {
         let headers = [self.first.header(), self.next.header()];
         at(self.first.file, columns_of(alloc, key, &headers))
@@ -89,7 +95,7 @@ impl<'a, R> Two<'a, R> {
     ///
     /// # Errors
     ///
-    /// Returns want of memory, as a fault of the first file.
+    /// Returns the errors of `join_columns`, as a fault of the first file.
     pub fn join_columns(&self, alloc: Global, key: Option<&str>) -> Result<JoinColumns, Fault<'a>> {
         let columns = join_columns(alloc, key, self.first.header(), self.next.header());
         at(self.first.file, columns)

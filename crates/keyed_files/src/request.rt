@@ -41,15 +41,89 @@ impl Delimiter {
     }
 }
 
-/// How tables are written: the byte between cells, and whether the first row is a header. Where it is not, columns are named by number.
+/// A byte that may begin lines which are passed over: an ASCII character that neither ends rows nor quotes cells.
+#[derive(Clone, Copy, Debug)]
+pub struct Comment {
+    byte: u8,
+    ghost parts: { PartsCells byte } by { PartsCells-prop byte },
+}
+
+impl Comment {
+    /// The byte as one that begins such lines, if it may.
+    pub fn new(byte: u8) -> Option<Self>
+        ensures begins { IsSome result ↔ PartsCells byte }
+        ensures value { IfSome result (λ comment. comment.byte ≡ byte) }
+    {
+        match byte {
+            b'\r' | b'\n' | b'"' | 128..=255 => None,
+            _ => Some(Comment { byte }),
+        }
+    }
+
+    /// The byte.
+    pub fn byte(self) -> u8
+        ensures { result ≡ self.byte }
+    {
+        self.byte
+    }
+}
+
+/// What is asked of the quotes of a table.
+#[derive(Clone, Copy, Debug)]
+pub enum Quotes {
+    /// Each quote that opens a cell is closed, and the cell ends right behind the closing one.
+    Strict,
+    /// Nothing: a quote that is never closed ends with the file, and what stands behind a closing one is of the cell.
+    Lenient,
+}
+
+/// How many cells a row has.
+#[derive(Clone, Copy, Debug)]
+pub enum Lengths {
+    /// As many as the first one.
+    Equal,
+    /// As many, or fewer, which leaves its last cells empty; or more of which all further ones are empty.
+    Ragged,
+}
+
+/// How tables are read beside what they have in common with those that are written.
+#[derive(Clone, Copy, Debug)]
+pub struct Reading {
+    /// The byte between the cells of the second table, where it is not that of the first.
+    pub next: Option<Delimiter>,
+    /// The byte between the cells of the third table, where it is not that of the first.
+    pub last: Option<Delimiter>,
+    pub quotes: Quotes,
+    pub lengths: Lengths,
+    /// The byte that begins lines which are passed over, if there is one.
+    pub comment: Option<Comment>,
+    /// How many lines at the top of each file are passed over.
+    pub skipped: u64,
+}
+
+impl Reading {
+    /// All tables alike, each of its lines read, with quotes in order and rows of one length.
+    pub const STRICT: Reading = Reading {
+        next: None,
+        last: None,
+        quotes: Quotes::Strict,
+        lengths: Lengths::Equal,
+        comment: None,
+        skipped: 0,
+    };
+}
+
+/// How tables are written and read: the byte between cells, of what is written and of the first table, whether the first row is a header
+/// (where it is not, columns are named by number), and how tables are read beside that.
 #[derive(Clone, Copy, Debug)]
 pub struct Form {
     pub delimiter: Delimiter,
     pub has_header: bool,
+    pub reading: Reading,
 }
 
-/// How the tables of a command are laid out: their form, and the names of the columns that are the key, with commas between them, or None
-/// for the first column.
+/// How the tables of a command are laid out: their form, and the names of the columns that are the key, as one record of CSV with commas,
+/// or None for the first column.
 #[derive(Clone, Copy, Debug)]
 pub struct Layout<'a> {
     pub form: Form,

@@ -4,10 +4,12 @@ ghost use Rattle.csv.specs.Records.{fields_of};
 ghost use Rattle.keyed_files.specs.Picked.{cell_at};
 
 use crate::by_line::ByLine;
+use crate::checked::Checked;
 use crate::columns::Columns;
 use crate::fault::Reason;
+use crate::header::Header;
 use crate::names::Names;
-use crate::request::Form;
+use crate::request::{Comment, Form, Lengths, Quotes};
 use crate::sign::{Sign, SignedRow};
 use csv::{ByteRecord, Reader, ReaderBuilder};
 use keyed_rows::{Cells, Key, ReadRow};
@@ -25,26 +27,36 @@ pub enum Content {
 #[derive(Drop)]
 pub struct Source<R> {
     alloc: Global,
-    reader: Reader<ByLine<R>>,
+    reader: Reader<Checked<R>>,
     // The row that was read last.
     record: ByteRecord,
     // Whether that is the first row, which is no header, and not given yet.
     waits: bool,
     // How many cells stand before those of the columns: one of a table of changes, for the sign.
     before: usize,
+    // How many cells the first row has, and how many the others may have.
+    count: usize,
+    lengths: Lengths,
     // The cells that are picked from the row, of which its key and its other cells are copies.
     picked: Cells,
-    pub header: Cells,
+    header: Header,
+}
+
+impl<R> Source<R> {
+    /// The names of the columns, no two of which are the same. A file with no row has none.
+    pub fn names(&self) -> &Cells {
+        &self.header.names
+    }
 }
 
 impl<R: Read + Drop> Source<R> {
-    /// Reads the header: names of columns, of which no two are the same, without the first where that is the sign of changes. Where there
-    /// is none, the columns have numbers for names, and an empty file has no column.
+    /// Reads the header: names of columns, without the first where that is the sign of changes. Names that stand there more than once are
+    /// told apart by a number. Where there is no header, the columns have numbers for names, and a file with no row has no column.
     ///
     /// # Errors
     ///
-    /// Returns `NoHeader` if the file is empty and is to have a header, `RepeatedColumn` if two columns have the same name, `Io` if the
-    /// reader fails, and `NoMemory` if a request for memory was refused.
+    /// Returns `NoText` if the file begins as one that is no text, `Quotes` if the quotes of the first row are not in order, `Io` if the
+    /// reader fails, and `NoMemory` if a request for memory was refused. The first two are let pass where quotes are.
     pub fn open(
         alloc: Global,
         reader: R,
@@ -55,22 +67,31 @@ impl<R: Read + Drop> Source<R> {
             Content::Rows => 0,
             Content::Changes => 1,
         };
+        let lines = begin_lines(alloc, reader, form)?;
         let mut reader = ReaderBuilder::new()
             .delimiter(form.delimiter.byte())
+            .comment(form.reading.comment.map(Comment::byte))
             .has_headers(false)
-            .from_reader(alloc, ByLine::new(alloc, reader)?);
+            .flexible(true)
+            .from_reader(alloc, Checked::new(lines, form));
         let mut record = ByteRecord::new(alloc);
-        let has_first = reader.read_byte_record(&mut record)?;
-        if form.has_header && !has_first {
-            return Err(Reason::NoHeader);
-        }
-        let header = header_of(alloc, form, before, &record)?;
+        let has_first = read_record(&mut reader, &mut record)?;
+        let line = reader.get_ref().lines().row_line();
+        let header = if !has_first {
+            Header::none(alloc)
+        } else if form.has_header {
+            Header::of_record(alloc, &record, before, line)?
+        } else {
+            Header::numbers(alloc, record.len().saturating_sub(before), line)?
+        };
         let source = Source {
             alloc,
             reader,
-            record,
             waits: has_first && !form.has_header,
             before,
+            count: record.len(),
+            record,
+            lengths: form.reading.lengths,
             picked: Cells::new(alloc),
             header,
         };
@@ -81,7 +102,8 @@ impl<R: Read + Drop> Source<R> {
     ///
     /// # Errors
     ///
-    /// Returns `NoColumn` if the header lacks a column of the key, and `NoMemory` if a request for memory was refused.
+    /// Returns `NoColumn` if the header lacks a column of the key, `RepeatedColumn` if it has one more than once, and `NoMemory` if a
+    /// request for memory was refused.
     pub fn places(&self, columns: &Columns) -> Result<Places, Reason> {
         Places::new(self.alloc, &self.header, self.before, columns)
     }
@@ -90,11 +112,11 @@ impl<R: Read + Drop> Source<R> {
     ///
     /// # Errors
     ///
-    /// Returns `CellCount` if the row has another number of cells than the first, `Io` if the reader fails, and `NoMemory` if a request
-    /// for memory was refused.
+    /// Returns `CellCount` if the row has another number of cells than it may have, `Quotes` if its quotes are not in order, `Io` if the
+    /// reader fails, and `NoMemory` if a request for memory was refused.
     pub fn read_row(&mut self, places: &Places) -> Result<Option<ReadRow>, Reason> {
         if self.read_record()? {
-            let line = self.reader.get_ref().row_line();
+            let line = self.row_line();
             let row = places.pick_row(&mut self.picked, line, &self.record)?;
             Ok(Some(row))
         } else {
@@ -111,10 +133,15 @@ impl<R: Read + Drop> Source<R> {
         if !self.read_record()? {
             return Ok(None);
         }
-        let line = self.reader.get_ref().row_line();
+        let line = self.row_line();
         let sign = sign_of(line, &self.record)?;
         let row = places.pick_row(&mut self.picked, line, &self.record)?;
         Ok(Some(SignedRow { sign, row }))
+    }
+
+    // The line on which the row that was read last begins.
+    fn row_line(&self) -> u64 {
+        self.reader.get_ref().lines().row_line()
     }
 
     // Reads the next record, or says that there is none.
@@ -123,12 +150,63 @@ impl<R: Read + Drop> Source<R> {
             self.waits = false;
             return Ok(true);
         }
-        self.reader.get_ref().begin_row();
-        match self.reader.read_byte_record(&mut self.record) {
-            Ok(has_record) => Ok(has_record),
-            Err(error) => Err(Reason::from(error).on_line(self.reader.get_ref().row_line())),
+        self.reader.get_ref().lines().begin_row();
+        let has_record = read_record(&mut self.reader, &mut self.record)?;
+        if has_record {
+            self.check_count()?;
+        }
+        Ok(has_record)
+    }
+
+    // Tells that the row has as many cells as it may.
+    fn check_count(&self) -> Result<(), Reason> {
+        let found = self.record.len();
+        let may_have = match self.lengths {
+            Lengths::Equal => found == self.count,
+            Lengths::Ragged => found <= self.count || self.is_empty_from(self.count),
+        };
+        if may_have {
+            Ok(())
+        } else {
+            Err(Reason::CellCount {
+                line: self.row_line(),
+                expected: self.count as u64,
+                found: found as u64,
+            })
         }
     }
+
+    // Whether all cells of the row are empty from a place on.
+    fn is_empty_from(&self, place: usize) -> bool {
+        self.record.iter().skip(place).all(|cell| cell.is_empty())
+    }
+}
+
+// The lines of a file that is text, or is to be read as it is.
+fn begin_lines<R: Read + Drop>(alloc: Global, reader: R, form: Form) -> Result<ByLine<R>, Reason> {
+    let mut lines = ByLine::new(alloc, reader, form.reading)?;
+    let encoding = lines.begin()?;
+    match form.reading.quotes {
+        Quotes::Strict => match encoding {
+            Some(encoding) => Err(Reason::NoText(encoding)),
+            None => Ok(lines),
+        },
+        Quotes::Lenient => Ok(lines),
+    }
+}
+
+// Reads the next record whose quotes are in order, or says that there is none.
+fn read_record<R: Read>(
+    reader: &mut Reader<Checked<R>>,
+    record: &mut ByteRecord,
+) -> Result<bool, Reason> {
+    let outcome = reader.read_byte_record(record);
+    let checked = reader.get_ref();
+    if let Some(fault) = checked.quote_fault() {
+        let line = checked.lines().row_line();
+        return Err(Reason::Quotes { line, fault });
+    }
+    Ok(outcome?)
 }
 
 // The sign that the first cell of a record on this line is.
@@ -139,43 +217,6 @@ fn sign_of(line: u64, record: &ByteRecord) -> Result<Sign, Reason> {
     }
 }
 
-// The names of the columns, which stand in the first row where that is a header.
-fn header_of(
-    alloc: Global,
-    form: Form,
-    before: usize,
-    first: &ByteRecord,
-) -> Result<Cells, Reason> {
-    if form.has_header {
-        names_of(alloc, first, before)
-    } else {
-        Ok(numbers(alloc, first.len().saturating_sub(before))?)
-    }
-}
-
-// The names in a header, behind the cells that stand before them.
-fn names_of(alloc: Global, record: &ByteRecord, before: usize) -> Result<Cells, Reason> {
-    let mut header = Cells::new(alloc);
-    let mut seen = Names::new(alloc);
-    for name in record.iter().skip(before) {
-        if !seen.add(alloc, name)? {
-            return Err(Reason::RepeatedColumn(Vec::from_slice(alloc, name)?));
-        }
-        header.push(name)?;
-    }
-    Ok(header)
-}
-
-// The names of columns that have no header: 1, 2 and so on.
-fn numbers(alloc: Global, count: usize) -> Result<Cells, AllocError> {
-    let mut names = Cells::new(alloc);
-    for number in 0..count {
-        let name = format!(in alloc; "{}", number.saturating_add(1))?;
-        names.push(name.as_bytes())?;
-    }
-    Ok(names)
-}
-
 /// Where the columns that are asked for stand in a row.
 #[derive(Drop)]
 pub struct Places {
@@ -184,19 +225,15 @@ pub struct Places {
 }
 
 impl Places {
-    // The header has all columns of the key, unless it has none, as of an empty file.
+    // Each column of the key is one of the header, unless that has none, as of an empty file.
     fn new(
         alloc: Global,
-        header: &Cells,
+        header: &Header,
         before: usize,
         columns: &Columns,
     ) -> Result<Self, Reason> {
-        let names = Names::of_cells(alloc, header)?;
-        for name in &columns.key {
-            if !header.is_empty() && !names.has(name) {
-                return Err(Reason::NoColumn(Vec::from_slice(alloc, name)?));
-            }
-        }
+        let names = Names::of_cells(alloc, &header.names)?;
+        header.check_key(alloc, &names, &columns.key)?;
         Ok(Places {
             key: find_places(alloc, &names, before, &columns.key)?,
             rest: find_places(alloc, &names, before, &columns.rest)?,

@@ -2,7 +2,8 @@
 
 use crate::columns::{Columns, Place};
 use crate::fault::Reason;
-use crate::request::Form;
+use crate::first_cell::quote_first;
+use crate::request::{Comment, Form};
 use crate::sign::Sign;
 use csv::{Writer, WriterBuilder};
 use keyed_rows::{Cells, Group, Iter, Key};
@@ -20,6 +21,7 @@ impl Written {
         Written {
             writer: WriterBuilder::new()
                 .delimiter(form.delimiter.byte())
+                .comment(form.reading.comment.map(Comment::byte))
                 .from_writer(Vec::new(alloc)),
         }
     }
@@ -158,7 +160,9 @@ pub fn begin_table(
     columns: &Columns,
 ) -> Result<Written, Reason> {
     let mut written = Written::new(alloc, form);
-    if form.has_header {
+    // Files with no row make a table of no column, whose header is none.
+    let has_cell = first.is_some() || !columns.order.is_empty();
+    if form.has_header && has_cell {
         written.put_row(first, columns, &columns.key, &columns.rest)?;
     }
     Ok(written)
@@ -180,5 +184,5 @@ pub fn write_table(
     for (key, group) in rows {
         written.put_rows(None, columns, &key, &group)?;
     }
-    written.finish()
+    Ok(quote_first(alloc, written.finish()?, form.delimiter)?)
 }

@@ -2,31 +2,41 @@
 //! status. What the command line asks for stands in the crate `keyed_arguments`, how a request is answered in `keyed_commands`.
 #![tactic(auto)]
 
+mod words;
+
 use keyed_arguments::{ParseError, parse};
 use keyed_commands::{Colours, Command, Fault, Reason, Shown, write_command};
 use std::alloc::{AllocError, Global};
 use std::env::FillError;
+use std::fs;
 use std::io::{IsTerminal, Write};
 use std::rt::{Env, Files};
+use words::{Words, words_of};
 
 // The status of trouble.
 const TROUBLE: u8 = 2;
 
 /// Answers the command line of a runtime on the output, and returns the status. Unless tables are read as they rise, nothing is written
 /// before the whole answer is known. What is wrong is said on the standard error.
+///
+/// A standard stream that is closed stays so: no file that is named takes its place.
 pub fn run<R: Files + Env + Input + Print + Eprint + AllocGlobal, W: Write + IsTerminal>(
     rt: &R,
     output: &mut W,
 ) -> u8 {
+    // The next file that is opened has the least number that is free. The standard streams have 0 to 2, so three files that hold nothing
+    // are open until the end, and take the numbers of those that are closed.
+    let _first = fs::open(rt, "/dev/null");
+    let _second = fs::open(rt, "/dev/null");
+    let _third = fs::open(rt, "/dev/null");
     match words_of(rt) {
-        Ok(words) => answer_words(rt, &words, output),
+        Ok(Words::Text(words)) => answer_words(rt, &words, output),
+        Ok(Words::NoText(said)) => {
+            let _ = eprintln!(rt; "keyed: the command line: {said}");
+            TROUBLE
+        }
         Err(reason) => trouble(rt, "the command line", reason),
     }
-}
-
-fn words_of<R: Env + AllocGlobal>(rt: &R) -> Result<Vec<String>, Reason> {
-    let words = std::env::args(rt)?;
-    Ok(words.collect(rt.alloc())?)
 }
 
 fn answer_words<R: Files + Env + Input + Print + Eprint + AllocGlobal, W: Write + IsTerminal>(

@@ -40,6 +40,13 @@ impl<R> Strict<R> {
         }
     }
 
+    /// Returns the reader whose bytes are passed on.
+    pub fn get_ref(&self) -> &R
+        ensures { result.now ≡ self.now.reader }
+    {
+        &self.reader
+    }
+
     /// Returns what is wrong with the quotes of the bytes that were read, if anything is.
     pub fn quote_fault(&self) -> Option<QuoteFault> {
         self.fault

@@ -148,3 +148,72 @@ static REFUSED: [Asked; 16] = [
 fn words_that_make_no_request_are_refused(rt: HostRuntime) -> Result<(), Fail> {
     expect(&rt, &REFUSED)
 }
+
+// How the tables of a command line are read: the bytes between the cells of each, what is asked of their quotes and of the lengths of their
+// rows, the byte that begins lines which are passed over, and how many lines at the top are.
+fn reading(alloc: Global, line: &str) -> Result<String, AllocError> {
+    let words = words_of(alloc, line)?;
+    let form = match parse(alloc, &words, Off) {
+        Ok(Command::Whole { settings, .. }) => settings.form,
+        Ok(Command::Sorted { layout, .. }) => layout.form,
+        Err(error) => return format!(in alloc; "{error}"),
+    };
+    let reading = form.reading;
+    let next = reading.next.unwrap_or(form.delimiter);
+    let last = reading.last.unwrap_or(form.delimiter);
+    let (first, next, last) = (
+        form.delimiter.byte() as char,
+        next.byte() as char,
+        last.byte() as char,
+    );
+    let comment = match reading.comment {
+        Some(comment) => comment.byte() as char,
+        None => '-',
+    };
+    let (quotes, lengths, skipped) = (reading.quotes, reading.lengths, reading.skipped);
+    format!(in alloc; "{first:?} {next:?} {last:?} {quotes:?} {lengths:?} {comment} {skipped}")
+}
+
+const NO_COMMENT: &str =
+    "keyed: --comment: not one byte that may begin a line and stands between no cells\n";
+
+const NO_NUMBER: &str = "keyed: --skip: not a number of lines\n";
+
+#[rattlefmt::skip]
+static READINGS: [(&str, &str); 22] = [
+    ("diff a b",                                   r"',' ',' ',' Strict Equal - 0"),
+    ("diff a.tsv b.csv",                           r"'\t' ',' ',' Strict Equal - 0"),
+    ("join a.csv b.tab --sorted",                  r"',' '\t' '\t' Strict Equal - 0"),
+    ("merge a.tsv b c.tab",                        r"'\t' ',' '\t' Strict Equal - 0"),
+    ("merge a.tsv b c.tab --delimiter ;",          r"';' ';' ';' Strict Equal - 0"),
+    ("join a b.tsv --delimiter tab",               r"'\t' '\t' '\t' Strict Equal - 0"),
+    ("join a b --delimiter \\t",                   r"'\t' '\t' '\t' Strict Equal - 0"),
+    ("apply a b.tsv --left-delimiter ;",           r"';' '\t' '\t' Strict Equal - 0"),
+    ("diff a b.tsv --right-delimiter ;",           r"',' ';' '\t' Strict Equal - 0"),
+    ("diff a b --left-delimiter ; --delimiter :",  r"';' ':' ':' Strict Equal - 0"),
+    ("diff a b --lenient",                         r"',' ',' ',' Lenient Equal - 0"),
+    ("merge a b c --ragged",                       r"',' ',' ',' Strict Ragged - 0"),
+    ("diff a b --comment #",                       r"',' ',' ',' Strict Equal # 0"),
+    ("diff a b --skip 12",                         r"',' ',' ',' Strict Equal - 12"),
+    ("diff a b --comment ##",                      NO_COMMENT),
+    ("diff a b --comment \"",                      NO_COMMENT),
+    ("diff a b --comment ,",                       NO_COMMENT),
+    ("diff a b.tsv --delimiter ; --comment ;",     NO_COMMENT),
+    ("diff a b --skip two",                        NO_NUMBER),
+    ("diff a b --left-delimiter ab",               "keyed: --left-delimiter: not one byte that may stand between cells\n"),
+    ("diff a b --key a,b,a",                       "keyed: --key: the column a twice\n"),
+    ("diff a b --key \"a",                         "keyed: --key: not one record of CSV\n"),
+];
+
+/// Each option says how files are read, and the name of a file says which byte stands between its cells where no option does.
+#[test]
+fn option_says_how_files_are_read(rt: HostRuntime) -> Result<(), Fail> {
+    let alloc = rt.alloc();
+    for (line, want) in READINGS {
+        let came = reading(alloc, line)?;
+        if came.as_str() != want {
+            return Err(Fail::new(format_args!("{line}: {came}")));
+        }
+    }
+    Ok(())
+}

@@ -162,8 +162,13 @@ fn expect_lengths(
             let [first, next, last] = with_input(inputs(alloc, command, count)?, place, bad);
             let texts = [first.as_bytes(), next.as_bytes(), last.as_bytes()];
             let name = command.names().get(place).copied().unwrap_or("");
+            let remedy = if cells < columns {
+                " (--ragged takes a short row)"
+            } else {
+                ""
+            };
             let wanted = format!(in alloc;
-                "{name}: line {line}: {cells} cells, and there are {columns} columns"
+                "{name}: line {line}: {cells} cells, and there are {columns} columns{remedy}"
             )?;
             expect_fault(alloc, asked(alloc, PLAIN, command, texts), &wanted)?;
         }

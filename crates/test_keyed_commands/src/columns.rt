@@ -205,13 +205,13 @@ const HEADLESS_CASES: [Case; 8] = [
         Command::Join,
         [b"", OTHER_ROWS, b""],
         0,
-        b"right,1,r\nright,3,s\n",
+        b"right,1,,r\nright,3,,s\n",
     ),
     (
         Command::SortedJoin,
         [b"", OTHER_ROWS, b""],
         0,
-        b"right,1,r\nright,3,s\n",
+        b"right,1,,r\nright,3,,s\n",
     ),
 ];
 

@@ -1,9 +1,9 @@
 //! Each command on tables that are texts, and on readers and writers. What the tests know of the calls of `keyed_commands` stands here.
 
 use keyed_commands::{
-    Answer, Colours, Delimiter, Fault, Form, Format, Kind, Request, Settings, SortedRequest,
-    Stream, apply, at, diff, diff_sorted, join, join_sorted, merge, stream_request, write_request,
-    write_whole,
+    Answer, Colours, Delimiter, Fault, Form, Format, Kind, Reading, Request, Settings,
+    SortedRequest, Stream, apply, at, diff, diff_sorted, join, join_sorted, merge, stream_request,
+    write_request, write_whole,
 };
 use std::alloc::Global;
 use std::io::{Read, Write};
@@ -13,6 +13,7 @@ use std::test::Fail;
 pub const COMMAS: Form = Form {
     delimiter: Delimiter::COMMA,
     has_header: true,
+    reading: Reading::STRICT,
 };
 
 pub const PLAIN: Settings<'static> = Settings {
@@ -25,8 +26,8 @@ pub const PLAIN: Settings<'static> = Settings {
 /// Tables with no header.
 pub const HEADLESS: Settings<'static> = Settings {
     form: Form {
-        delimiter: Delimiter::COMMA,
         has_header: false,
+        ..COMMAS
     },
     ..PLAIN
 };
@@ -72,7 +73,7 @@ pub fn between(byte: u8) -> Result<Settings<'static>, Fail> {
         Some(delimiter) => Ok(Settings {
             form: Form {
                 delimiter,
-                has_header: true,
+                ..COMMAS
             },
             ..PLAIN
         }),
@@ -143,6 +144,7 @@ impl Command {
 fn stream<R>(file: &str, reader: R) -> Stream<'_, R> {
     Stream {
         file,
+        delimiter: None,
         reader: Ok(reader),
     }
 }
@@ -185,6 +187,7 @@ pub fn write_answer<'a, R: Read + Drop, W: Write>(
 fn named<'a, R>(file: &'a str, of: Stream<'a, R>) -> Stream<'a, R> {
     Stream {
         file,
+        delimiter: of.delimiter,
         reader: of.reader,
     }
 }

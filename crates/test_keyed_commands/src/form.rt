@@ -9,6 +9,7 @@ const NUMBERED: Settings<'static> = Settings {
     form: Form {
         delimiter: Delimiter::SEMICOLON,
         has_header: false,
+        ..COMMAS
     },
     key: Some("2"),
     keeps_order: false,
@@ -166,17 +167,17 @@ const ROWS: &[u8] = b"x,1\ny,2\n";
 
 #[rattlefmt::skip]
 const EMPTY_SIDES: [(Kind, &[u8], &[u8], &[u8]); 8] = [
-    (Kind::Outer, b"",  ROWS, b"right,x,1\nright,y,2\n"),
-    (Kind::Right, b"",  ROWS, ROWS),
+    (Kind::Outer, b"",  ROWS, b"right,x,,1\nright,y,,2\n"),
+    (Kind::Right, b"",  ROWS, b"x,,1\ny,,2\n"),
     (Kind::Inner, b"",  ROWS, b""),
     (Kind::Anti,  b"",  ROWS, b""),
-    (Kind::Outer, ROWS, b"",  b"left,x,1\nleft,y,2\n"),
-    (Kind::Left,  ROWS, b"",  ROWS),
+    (Kind::Outer, ROWS, b"",  b"left,x,1,\nleft,y,2,\n"),
+    (Kind::Left,  ROWS, b"",  b"x,1,\ny,2,\n"),
     (Kind::Anti,  ROWS, b"",  ROWS),
     (Kind::Outer, b"",  b"",  b""),
 ];
 
-/// With no header an empty file is a table of no rows on either side of a join: the key is the first column of the other.
+/// With no header an empty file is a table of no rows on either side of a join, and has the columns of the other.
 #[test]
 fn empty_files_are_joined(rt: HostRuntime) -> Result<(), Fail> {
     let settings = Settings {

@@ -140,11 +140,10 @@ fn rows_have_the_colour_of_their_change(rt: HostRuntime) -> Result<(), Fail> {
 const GOOD: &[u8] = b"id,a\n1,x\n";
 
 #[rattlefmt::skip]
-const BAD: [(&[u8], &[u8], &str); 5] = [
-    (b"", GOOD, "old: line 1: no header"),
+const BAD: [(&[u8], &[u8], &str); 4] = [
     (GOOD, b"key,a\n1,x\n", "new: line 1: no column id"),
-    (GOOD, b"id,id\n1,x\n", "new: line 1: two columns id"),
-    (GOOD, b"id,a\n1,x\n2\n", "new: line 3: 1 cells, and there are 2 columns"),
+    (GOOD, b"id,id\n1,x\n", "new: line 1: two columns id, of which the key is to be one: give others by --key"),
+    (GOOD, b"id,a\n1,x\n2\n", "new: line 3: 1 cells, and there are 2 columns (--ragged takes a short row)"),
     (b"id,a\n7,x\n8,y\n7,z\n", GOOD, "old: line 4: the key 7 stands on line 2 too"),
 ];
 

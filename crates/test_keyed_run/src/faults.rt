@@ -9,8 +9,6 @@ static FILES: World = World {
         ("old", "id,name\n2,pear\n7,fig\n"),
         ("new", "id,name\n13,medlar\n2,quince\n"),
         ("changes", "change,id,name\n-,7,fig\n"),
-        ("empty", ""),
-        ("blank", "\n\n"),
         ("broken", "id,name\n2,pear\n"),
         ("broken header", "id,na"),
         ("broken changes", "change,id,name\n-,7,fig\n"),
@@ -23,6 +21,7 @@ static FILES: World = World {
         ("come again", "change,id,name\n+,7,a\n+,7,b\n"),
         ("twice", "id,name,id\n"),
         ("other", "key,name\n2,pear\n"),
+        ("other behind lines", "\n\n\nkey,name\n2,pear\n"),
         ("falls", "id,name\n2,a\n1,b\n"),
         ("stays", "id,name\n2,a\n3,b\n3,c\n"),
         ("pairs", "a,b,c\nx,\"y,z\",1\nx,y,2\nx,\"y,z\",3\n"),
@@ -76,29 +75,25 @@ static BROKEN: [Case<'static>; 12] = [
 ];
 
 #[rattlefmt::skip]
-static HEADERS: [Case<'static>; 13] = [
-    ("diff|empty|new",             2, "", "keyed: empty: line 1: no header\n"),
-    ("diff|old|empty",             2, "", "keyed: empty: line 1: no header\n"),
-    ("diff|old|blank",             2, "", "keyed: blank: line 1: no header\n"),
-    ("apply|old|empty",            2, "", "keyed: empty: line 1: no header\n"),
-    ("merge|old|new|empty",        2, "", "keyed: empty: line 1: no header\n"),
-    ("join|empty|new",             2, "", "keyed: empty: line 1: no header\n"),
-    ("diff|twice|new",             2, "", "keyed: twice: line 1: two columns id\n"),
+static HEADERS: [Case<'static>; 8] = [
+    ("diff|twice|new",             2, "",
+        "keyed: twice: line 1: two columns id, of which the key is to be one: give others by --key\n"),
     ("apply|old|new",              2, "", "keyed: new: line 1: no column id\n"),
     ("diff|old|other",             2, "", "keyed: other: line 1: no column id\n"),
     ("diff|old|new|--key|size",    2, "", "keyed: old: line 1: no column size\n"),
     ("merge|old|new|other|--key|id", 2, "", "keyed: other: line 1: no column id\n"),
     ("join|old|new|--key|id,size", 2, "", "keyed: old: line 1: no column size\n"),
     ("join|pairs|old|--key|a,c",   2, "", "keyed: old: line 1: no column a\n"),
+    ("diff|other behind lines|old|--key|id", 2, "", "keyed: other behind lines: line 4: no column id\n"),
 ];
 
 #[rattlefmt::skip]
 static ROWS: [Case<'static>; 19] = [
-    ("diff|short|new",                2, "", "keyed: short: line 3: 1 cells, and there are 2 columns\n"),
+    ("diff|short|new",                2, "", "keyed: short: line 3: 1 cells, and there are 2 columns (--ragged takes a short row)\n"),
     ("diff|old|long",                 2, "", "keyed: long: line 2: 3 cells, and there are 2 columns\n"),
-    ("apply|old|short changes",       2, "", "keyed: short changes: line 3: 2 cells, and there are 3 columns\n"),
-    ("merge|short|old|new",           2, "", "keyed: short: line 3: 1 cells, and there are 2 columns\n"),
-    ("join|old|short|--sorted",       2, "", "keyed: short: line 3: 1 cells, and there are 2 columns\n"),
+    ("apply|old|short changes",       2, "", "keyed: short changes: line 3: 2 cells, and there are 3 columns (--ragged takes a short row)\n"),
+    ("merge|short|old|new",           2, "", "keyed: short: line 3: 1 cells, and there are 2 columns (--ragged takes a short row)\n"),
+    ("join|old|short|--sorted",       2, "", "keyed: short: line 3: 1 cells, and there are 2 columns (--ragged takes a short row)\n"),
     ("apply|old|signs",               2, "", "keyed: signs: line 3: the first cell is neither - nor +\n"),
     ("diff|again|new",                2, "", "keyed: again: line 4: the key 7 stands on line 2 too\n"),
     ("diff|old|again",                2, "", "keyed: again: line 4: the key 7 stands on line 2 too\n"),
@@ -119,7 +114,7 @@ static ROWS: [Case<'static>; 19] = [
 #[rattlefmt::skip]
 static LINES: [Case<'static>; 3] = [
     ("diff|lines|new",                2, "", "keyed: lines: line 10: the key 1 stands on line 3 too\n"),
-    ("diff|short behind lines|new",   2, "", "keyed: short behind lines: line 8: 1 cells, and there are 2 columns\n"),
+    ("diff|short behind lines|new",   2, "", "keyed: short behind lines: line 8: 1 cells, and there are 2 columns (--ragged takes a short row)\n"),
     ("join|falls behind lines|new|--sorted", 2, "", "keyed: falls behind lines: line 6: the key is not greater than the one before it\n"),
 ];
 

@@ -13,6 +13,10 @@ mod inputs;
 #[cfg(test)]
 mod process;
 #[cfg(test)]
+mod reading;
+#[cfg(test)]
 mod runs;
+#[cfg(test)]
+mod shapes;
 #[cfg(test)]
 mod tables;

@@ -15,6 +15,8 @@ use std::rt::{Env, Files};
 /// What a process finds around it.
 #[derive(Clone, Copy)]
 pub struct World {
+    /// A word that stands in place of the one there, whose bytes may be no UTF-8, if there is one.
+    pub word: Option<(usize, &'static [u8])>,
     /// The variable `NO_COLOR`, if it is set.
     pub no_color: Option<&'static str>,
     /// Files by name, with their texts.
@@ -105,10 +107,16 @@ impl Eprint for Process<'_> {
 fn fill(text: Option<&str>, buf: &mut [u8]) -> Result<usize, FillError>
     ensures { WritesAtMost result buf.new }
 {
-    let bytes = match text {
-        Some(text) => text.as_bytes(),
-        None => return Err(FillError::NotPresent),
-    };
+    match text {
+        Some(text) => fill_bytes(text.as_bytes(), buf),
+        None => Err(FillError::NotPresent),
+    }
+}
+
+// Copies bytes to the start of a buffer, if it is long enough.
+fn fill_bytes(bytes: &[u8], buf: &mut [u8]) -> Result<usize, FillError>
+    ensures { WritesAtMost result buf.new }
+{
     if buf.len() < bytes.len() {
         return Err(FillError::TooLong);
     }
@@ -118,9 +126,12 @@ fn fill(text: Option<&str>, buf: &mut [u8]) -> Result<usize, FillError>
 
 impl Env for Process<'_> {
     fn arg(&self, i: usize, buf: &mut [u8]) -> Result<usize, FillError> {
-        match self.given.words.get(i) {
-            Some(word) => fill(Some(word), buf),
-            None => fill(None, buf),
+        match self.world.word {
+            Some((place, bytes)) if place == i => fill_bytes(bytes, buf),
+            _ => match self.given.words.get(i) {
+                Some(word) => fill(Some(word), buf),
+                None => fill(None, buf),
+            },
         }
     }
 

@@ -21,6 +21,7 @@ pub const PROGRAM: &str = "keyed";
 
 /// A world with no file.
 pub const PLAIN: World = World {
+    word: None,
     no_color: None,
     files: &[],
     stdin: b"",

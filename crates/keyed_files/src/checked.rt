@@ -1,0 +1,59 @@
+//! The bytes of a file on their way to the reader of CSV: line by line, and with quotes in order unless they are taken as they are.
+
+use crate::by_line::ByLine;
+use crate::request::{Comment, Form, Quotes};
+use keyed_text::{Marks, QuoteFault, Strict};
+use std::io;
+use std::io::Read;
+
+/// A reader of lines, which fails where quotes are not in order unless that is let pass.
+#[derive(Drop)]
+pub enum Checked<R> {
+    Strict(Strict<ByLine<R>>),
+    Lenient(ByLine<R>),
+}
+
+impl<R: Drop> Checked<R> {
+    /// The lines as the form has them read.
+    pub fn new(lines: ByLine<R>, form: Form) -> Self {
+        match form.reading.quotes {
+            Quotes::Strict => Checked::Strict(Strict::new(lines, marks_of(form))),
+            Quotes::Lenient => Checked::Lenient(lines),
+        }
+    }
+}
+
+impl<R> Checked<R> {
+    /// The reader of lines.
+    pub fn lines(&self) -> &ByLine<R> {
+        match self {
+            Checked::Strict(strict) => strict.get_ref(),
+            Checked::Lenient(lines) => lines,
+        }
+    }
+
+    /// What is wrong with the quotes up to the end of the line that was read last, if anything is and it is not let pass.
+    pub fn quote_fault(&self) -> Option<QuoteFault> {
+        match self {
+            Checked::Strict(strict) => strict.quote_fault(),
+            Checked::Lenient(_) => None,
+        }
+    }
+}
+
+// The bytes that part a text of this form.
+fn marks_of(form: Form) -> Marks {
+    Marks {
+        delimiter: form.delimiter.byte(),
+        comment: form.reading.comment.map(Comment::byte),
+    }
+}
+
+impl<R: Read> Read for Checked<R> {
+    fn read(&mut self, buf: &mut [u8]) -> io::Result<usize> {
+        match self {
+            Checked::Strict(strict) => strict.read(buf),
+            Checked::Lenient(lines) => lines.read(buf),
+        }
+    }
+}
