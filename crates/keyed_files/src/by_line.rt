@@ -82,7 +82,7 @@ impl<R: Read> ByLine<R> {
     /// Returns the error of the reader.
     pub fn begin(&mut self) -> io::Result<Option<Encoding>> {
         self.read_first()?;
-        let first = self.ahead.get(..self.filled).unwrap_or(&[]);
+        let first = part(&self.ahead, 0, self.filled);
         let encoding = Encoding::of(first);
         if first.starts_with(MARK) {
             self.lines.mark = MARK.len();
@@ -109,7 +109,7 @@ impl<R: Read> ByLine<R> {
                 break;
             }
             self.fill()?;
-            let rest = self.ahead.get(self.at..self.filled).unwrap_or(&[]);
+            let rest = part(&self.ahead, self.at, self.filled);
             if rest.is_empty() {
                 break;
             }
@@ -143,7 +143,7 @@ impl<R: Read> ByLine<R> {
 impl<R: Read> Read for ByLine<R> {
     fn read(&mut self, buf: &mut [u8]) -> io::Result<usize> {
         self.fill()?;
-        let rest = self.ahead.get(self.at..self.filled).unwrap_or(&[]);
+        let rest = part(&self.ahead, self.at, self.filled);
         if rest.is_empty() {
             return Ok(self.lines.end(buf));
         }
@@ -157,6 +157,11 @@ impl<R: Read> Read for ByLine<R> {
         self.at = self.at.saturating_add(count);
         Ok(count)
     }
+}
+
+// The bytes from one place to another, if these are places of them.
+fn part(bytes: &[u8], from: usize, to: usize) -> &[u8] {
+    bytes.get(from..to).unwrap_or(&[])
 }
 
 // Has a part of a line that is passed over end with LF where it ends with CR.
