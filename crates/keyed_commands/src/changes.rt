@@ -45,7 +45,8 @@ pub fn report(
     Ok(text.into_bytes())
 }
 
-// The rows that changed. Of groups they are those that one version has more often, and of these one beside the other.
+// The rows that changed. Of groups they are those that one version has more often, and one that goes alone is shown beside one that comes
+// alone.
 fn row_changes<'a>(
     job: &Job<'_, Columns>,
     changes: &'a [(Key, Change<Group>)],
@@ -62,7 +63,8 @@ fn row_changes<'a>(
     Ok(rows)
 }
 
-// Puts the rows of two groups that one of them has more often.
+// Puts the rows of two groups that one of them has more often. Which of several rows became which of others is not known, so that one row
+// changed only where it alone goes and one alone comes.
 fn push_lone<'a>(
     alloc: Global,
     rows: &mut Vec<RowChange<'a>>,
@@ -71,8 +73,15 @@ fn push_lone<'a>(
     new: &'a [Cells],
 ) -> Result<(), AllocError> {
     let (gone, come) = lone_rows(alloc, old, new)?;
-    for row in EitherOrBoth::Both(gone, come).into_iter_swap() {
-        rows.push((key, row))?;
+    if let ([row], [next]) = (gone.as_slice(), come.as_slice()) {
+        rows.push((key, EitherOrBoth::Both(*row, *next)))?;
+        return Ok(());
+    }
+    for row in gone {
+        rows.push((key, EitherOrBoth::Left(row)))?;
+    }
+    for row in come {
+        rows.push((key, EitherOrBoth::Right(row)))?;
     }
     Ok(())
 }

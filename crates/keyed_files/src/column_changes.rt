@@ -3,7 +3,7 @@ ghost use Rattle.std.specs.Prelude.{◌≡◌, ◌||◌, IfOk};
 ghost use Rattle.keyed_files.specs.Names.{compared, has_lone};
 
 use crate::columns::place_of;
-use crate::lined_up::Shown;
+use crate::lined_up::ShownName;
 use crate::names::Names;
 use keyed_rows::Cells;
 use std::alloc::{AllocError, Global};
@@ -89,7 +89,7 @@ fn say_lone<W: fmt::Write>(
 ) -> fmt::Result {
     for name in names {
         if place_of(others, name).is_none() {
-            writeln!(f, "column {} {word}", Shown(name))?;
+            writeln!(f, "column {} {word}", ShownName(name))?;
         }
     }
     Ok(())

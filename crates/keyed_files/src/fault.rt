@@ -1,14 +1,14 @@
 //! What can be wrong with an input, and the line that says so.
 
 use crate::encoding::Encoding;
-use crate::lined_up::Shown;
-use keyed_rows::{Key, RepeatedKey, UniqueError};
+use crate::lined_up::{Shown, ShownName};
+use keyed_rows::{Cells, Key, RepeatedKey, UniqueError};
 use keyed_text::QuoteFault;
 use std::alloc::{AllocError, AllocFailed};
 use std::{fmt, io};
 
-/// What is wrong with an input or the output, and the name of its file. Prints as `FILE: REASON`, on one line, in which a terminal shows
-/// names and keys as they are.
+/// What is wrong with an input or the output, and the name of its file. Prints as `FILE: REASON`, on one line, with no control character:
+/// the name of the file is escaped, and names of columns and keys stand in quotes where a terminal would not show them as they are.
 #[derive(Drop)]
 pub struct Fault<'a> {
     pub file: &'a str,
@@ -29,10 +29,11 @@ pub enum Reason {
         line: u64,
         fault: QuoteFault,
     },
-    /// The header lacks this column of the key.
+    /// The header lacks this column of the key. It has those others.
     NoColumn {
         line: u64,
         name: Vec<u8>,
+        header: Cells,
     },
     /// The header has this column of the key more than once.
     RepeatedColumn {
@@ -107,10 +108,21 @@ impl From<csv::Error> for Reason {
     }
 }
 
+impl Fault<'_> {
+    /// Whether it is that a reader of the output has left, of which programs say nothing.
+    pub fn is_closed_pipe(&self) -> bool {
+        match &self.reason {
+            Reason::Io(error) => error.kind() == io::ErrorKind::BrokenPipe,
+            _ => false,
+        }
+    }
+}
+
 impl fmt::Display for Fault<'_> {
     fn fmt<W: fmt::Write>(&self, f: &mut fmt::Formatter<W>) -> fmt::Result {
         let file = Shown(self.file.as_bytes());
         match &self.reason {
+            Reason::TwiceStdin => write!(f, "{}", self.reason),
             Reason::NoText(encoding) => write!(f, "{file}: {}", ToText(*encoding, file)),
             reason => write!(f, "{file}: {reason}"),
         }
@@ -152,7 +164,42 @@ impl fmt::Display for ShownKey<'_> {
             if place > 0 {
                 f.write_char(',')?;
             }
-            write!(f, "{}", Shown(cell))?;
+            write!(f, "{}", ShownName(cell))?;
+        }
+        Ok(())
+    }
+}
+
+// A number of things, with the word for one of them.
+#[derive(Clone, Copy)]
+struct Count(u64, &'static str);
+
+impl fmt::Display for Count {
+    fn fmt<W: fmt::Write>(&self, f: &mut fmt::Formatter<W>) -> fmt::Result {
+        let end = if self.0 == 1 { "" } else { "s" };
+        write!(f, "{} {}{end}", self.0, self.1)
+    }
+}
+
+// How many columns are named where one lacks.
+const SHOWN_NAMES: usize = 10;
+
+// The names of columns: all, or the first ten.
+#[derive(Clone, Copy)]
+struct ShownHeader<'a>(&'a Cells);
+
+impl fmt::Display for ShownHeader<'_> {
+    fn fmt<W: fmt::Write>(&self, f: &mut fmt::Formatter<W>) -> fmt::Result {
+        f.write_str(match self.0.len() {
+            1 => "there is ",
+            0..=SHOWN_NAMES => "there are ",
+            _ => "the first ten are ",
+        })?;
+        for (place, name) in self.0.iter().take(SHOWN_NAMES).enumerate() {
+            if place > 0 {
+                f.write_str(", ")?;
+            }
+            write!(f, "{}", ShownName(name))?;
         }
         Ok(())
     }
@@ -169,14 +216,19 @@ impl fmt::Display for Reason {
                 "line {line}: {} (--lenient takes it as it is)",
                 ShownQuotes(*fault)
             ),
-            Reason::NoColumn { line, name } => write!(f, "line {line}: no column {}", Shown(name)),
+            Reason::NoColumn { line, name, header } => write!(
+                f,
+                "line {line}: no column {}; {}",
+                ShownName(name),
+                ShownHeader(header)
+            ),
             Reason::RepeatedColumn { line, name } => write!(
                 f,
                 "line {line}: two columns {}, of which the key is to be one: give others by --key",
-                Shown(name)
+                ShownName(name)
             ),
             Reason::KeyNoRecord => f.write_str("not one record of CSV"),
-            Reason::RepeatedName(name) => write!(f, "the column {} twice", Shown(name)),
+            Reason::RepeatedName(name) => write!(f, "the column {} twice", ShownName(name)),
             Reason::NoSign(line) => write!(f, "line {line}: the first cell is neither - nor +"),
             Reason::NotRising(line) => {
                 write!(
@@ -184,16 +236,15 @@ impl fmt::Display for Reason {
                     "line {line}: the key is not greater than the one before it"
                 )
             }
-            Reason::TwiceStdin => f.write_str("the standard input is one table only"),
+            Reason::TwiceStdin => f.write_str("- may name only one file"),
             Reason::CellCount {
                 line,
                 expected,
                 found,
             } => {
-                write!(
-                    f,
-                    "line {line}: {found} cells, and there are {expected} columns"
-                )?;
+                let verb = if *expected == 1 { "is" } else { "are" };
+                let (cells, columns) = (Count(*found, "cell"), Count(*expected, "column"));
+                write!(f, "line {line}: {cells}, and there {verb} {columns}")?;
                 if found < expected {
                     f.write_str(" (--ragged takes a short row)")?;
                 }
@@ -202,7 +253,7 @@ impl fmt::Display for Reason {
             Reason::RepeatedKey(repeated) => {
                 write!(
                     f,
-                    "line {}: the key {} stands on line {} too",
+                    "line {}: duplicate key {}, first on line {}: give more columns by --key, or --group",
                     repeated.second,
                     ShownKey(&repeated.key),
                     repeated.first

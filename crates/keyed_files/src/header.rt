@@ -116,6 +116,7 @@ impl Header {
                 return Err(Reason::NoColumn {
                     line: self.line,
                     name: Vec::from_slice(alloc, name)?,
+                    header: self.names.clone()?,
                 });
             }
         }

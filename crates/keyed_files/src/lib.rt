@@ -31,7 +31,8 @@ pub use first_cell::quote_first;
 pub use joined_rows::Sides;
 pub use key_record::key_names;
 pub use lined_up::{
-    Colour, Grid, Line, Shown, heading, line_under, line_up, put_both, put_shown, put_version,
+    Colour, Grid, Line, Shown, ShownCell, ShownName, heading, line_under, line_up, put_both,
+    put_shown, put_version,
 };
 pub use opened::{Opened, Stream, Two, at};
 pub use parts::Parts;

@@ -26,15 +26,20 @@ impl fmt::Display for Shown<'_> {
 // Text with what moves or turns a terminal's text escaped.
 fn show_text<W: fmt::Write>(f: &mut fmt::Formatter<W>, text: &str) -> fmt::Result {
     for c in text.chars() {
-        if c.is_control() {
-            write!(f, "{}", c.escape_debug())?;
-        } else if moves_text(c) {
-            write!(f, "{}", c.escape_unicode())?;
-        } else {
-            f.write_char(c)?;
-        }
+        show_char(f, c)?;
     }
     Ok(())
+}
+
+// A character, escaped if it moves or turns a terminal's text.
+fn show_char<W: fmt::Write>(f: &mut fmt::Formatter<W>, c: char) -> fmt::Result {
+    if c.is_control() {
+        write!(f, "{}", c.escape_debug())
+    } else if moves_text(c) {
+        write!(f, "{}", c.escape_unicode())
+    } else {
+        f.write_char(c)
+    }
 }
 
 // Whether a character that is no control character ends a line, or turns the direction of the text around it.
@@ -43,6 +48,86 @@ fn moves_text(c: char) -> bool {
         c,
         '\u{61c}' | '\u{200e}' | '\u{200f}' | '\u{2028}'..='\u{202e}' | '\u{2066}'..='\u{2069}'
     )
+}
+
+/// A cell as a person reads it: as it is, or in quotes with escapes. In quotes stands what a terminal would not show as it is (a control
+/// character, a mark that ends a line or turns the direction of text, bytes that are no UTF-8, a space at an end), what this program
+/// prints of its own (`(no row)`, and `->` between two cells), and what begins with a quote. So two cells that differ never look the
+/// same, also as the two sides of a change, and no control character is printed.
+///
+/// ```
+/// assert_eq!(rt; format!(in alloc; "{}", ShownCell(b"say \"so\""))?.as_str(), "say \"so\"");
+/// assert_eq!(rt; format!(in alloc; "{}", ShownCell(b"so\" "))?.as_str(), "\"so\\\" \"");
+/// ```
+#[derive(Clone, Copy)]
+pub struct ShownCell<'a>(pub &'a [u8]);
+
+impl fmt::Display for ShownCell<'_> {
+    fn fmt<W: fmt::Write>(&self, f: &mut fmt::Formatter<W>) -> fmt::Result {
+        match str::from_utf8(self.0) {
+            Ok(text) => {
+                if is_bare(text) {
+                    f.write_str(text)
+                } else {
+                    show_quoted(f, self.0)
+                }
+            }
+            Err(_) => show_quoted(f, self.0),
+        }
+    }
+}
+
+/// A cell among other text on a line, as a key or the name of a column in a message: as [`ShownCell`], and an empty one as `""`.
+///
+/// ```
+/// assert_eq!(rt; format!(in alloc; "no column {}", ShownName(b""))?.as_str(), "no column \"\"");
+/// ```
+#[derive(Clone, Copy)]
+pub struct ShownName<'a>(pub &'a [u8]);
+
+impl fmt::Display for ShownName<'_> {
+    fn fmt<W: fmt::Write>(&self, f: &mut fmt::Formatter<W>) -> fmt::Result {
+        if self.0.is_empty() {
+            f.write_str("\"\"")
+        } else {
+            write!(f, "{}", ShownCell(self.0))
+        }
+    }
+}
+
+// What stands for a row where there is none.
+const NO_ROW: &str = "(no row)";
+
+// Whether a text is shown as it is.
+fn is_bare(text: &str) -> bool {
+    !(text.starts_with('"')
+        || text.starts_with(' ')
+        || text.ends_with(' ')
+        || text == NO_ROW
+        || text.contains("->")
+        || text.chars().any(is_escaped))
+}
+
+// Whether a character is one that a terminal does not show as it is.
+fn is_escaped(c: char) -> bool {
+    c.is_control() || moves_text(c)
+}
+
+// Bytes in quotes, with escapes of what a terminal does not show as it is, and of what begins an escape or ends the quotes.
+fn show_quoted<W: fmt::Write>(f: &mut fmt::Formatter<W>, bytes: &[u8]) -> fmt::Result {
+    f.write_char('"')?;
+    for chunk in bytes.utf8_chunks() {
+        for c in chunk.valid().chars() {
+            if c == '"' || c == '\\' {
+                f.write_char('\\')?;
+            }
+            show_char(f, c)?;
+        }
+        for byte in chunk.invalid() {
+            write!(f, "\\x{byte:02x}")?;
+        }
+    }
+    f.write_char('"')
 }
 
 /// A colour of a terminal.
@@ -79,7 +164,7 @@ pub type Grid = Vec<Line>;
 
 // A cell as text on one line.
 fn show_cell(alloc: Global, cell: &[u8]) -> Result<String, AllocError> {
-    format!(in alloc; "{}", Shown(cell))
+    format!(in alloc; "{}", ShownCell(cell))
 }
 
 /// Puts cells behind those of a line.
@@ -144,12 +229,12 @@ pub fn put_both(
     Ok(())
 }
 
-// A cell of both versions: once where they agree.
+// A cell of both versions: once where they agree, and else both, of which an empty one is `""`.
 fn both_cells(alloc: Global, old: &[u8], new: &[u8]) -> Result<String, AllocError> {
     if old == new {
         show_cell(alloc, old)
     } else {
-        format!(in alloc; "{} -> {}", Shown(old), Shown(new))
+        format!(in alloc; "{} -> {}", ShownName(old), ShownName(new))
     }
 }
 
@@ -180,12 +265,12 @@ pub fn put_version(
 
 fn put_no_row(alloc: Global, grid: &mut Grid, name: &str, key: &Key) -> Result<(), AllocError> {
     let mut line = line_under(alloc, name, key)?;
-    line.cells.push(String::from_str(alloc, "(no row)")?)?;
+    line.cells.push(String::from_str(alloc, NO_ROW)?)?;
     grid.push(line)?;
     Ok(())
 }
 
-/// The lines with their cells lined up, two spaces between columns.
+/// The lines with their cells lined up, two spaces between columns, and no space at the end of a line.
 ///
 /// # Errors
 ///
@@ -228,15 +313,20 @@ fn put_line(text: &mut String, line: &Line, widths: &[usize]) -> Result<(), Allo
     Ok(())
 }
 
+// Puts the cells of a line. The gap before a cell is put with it, so that none stands behind the last one.
 fn put_cells(text: &mut String, cells: &[String], widths: &[usize]) -> Result<(), AllocError> {
-    let mut gap = 0;
+    let mut gap: usize = 0;
     for (cell, widest) in cells.iter().zip(widths.iter()) {
-        for _ in 0..gap {
-            text.push(' ')?;
+        if !cell.is_empty() {
+            for _ in 0..gap {
+                text.push(' ')?;
+            }
+            text.push_str(cell)?;
+            gap = 0;
         }
-        text.push_str(cell)?;
         let width = cell.as_str().width();
-        gap = widest.saturating_sub(width).saturating_add(2);
+        let behind = widest.saturating_sub(width).saturating_add(2);
+        gap = gap.saturating_add(behind);
     }
     Ok(())
 }

@@ -5,7 +5,7 @@
 mod words;
 
 use keyed_arguments::{ParseError, parse};
-use keyed_commands::{Colours, Command, Fault, Reason, Shown, write_command};
+use keyed_commands::{Colours, Command, Fault, Reason, Shown, at, write_command};
 use std::alloc::{AllocError, Global};
 use std::env::FillError;
 use std::fs;
@@ -17,7 +17,8 @@ use words::{Words, words_of};
 const TROUBLE: u8 = 2;
 
 /// Answers the command line of a runtime on the output, and returns the status. Unless tables are read as they rise, nothing is written
-/// before the whole answer is known. What is wrong is said on the standard error.
+/// before the whole answer is known. What is wrong is said on the standard error, and so is an output that does not take the help; that a
+/// reader of the output has left is not said.
 ///
 /// A standard stream that is closed stays so: no file that is named takes its place.
 pub fn run<R: Files + Env + Input + Print + Eprint + AllocGlobal, W: Write + IsTerminal>(
@@ -35,7 +36,7 @@ pub fn run<R: Files + Env + Input + Print + Eprint + AllocGlobal, W: Write + IsT
             let _ = eprintln!(rt; "keyed: the command line: {said}");
             TROUBLE
         }
-        Err(reason) => trouble(rt, "the command line", reason),
+        Err(reason) => trouble(rt, of_words(reason)),
     }
 }
 
@@ -61,12 +62,26 @@ fn refuse<R: Print + Eprint + AllocGlobal>(rt: &R, words: &[String], error: Pars
     let error = match error {
         ParseError::Words(_) => match shown_error(rt.alloc(), words) {
             Ok(error) => error,
-            Err(AllocError) => return trouble(rt, "the command line", Reason::NoMemory),
+            Err(AllocError) => return trouble(rt, of_words(Reason::NoMemory)),
         },
         error => error,
     };
-    let _ = error.print(rt);
-    if error.use_stderr() { TROUBLE } else { 0 }
+    let printed = error.print(rt);
+    if error.use_stderr() {
+        return TROUBLE;
+    }
+    match at("the standard output", printed) {
+        Ok(()) => 0,
+        Err(fault) => trouble(rt, fault),
+    }
+}
+
+// A fault of the command line.
+fn of_words<'a>(reason: Reason) -> Fault<'a> {
+    Fault {
+        file: "the command line",
+        reason,
+    }
 }
 
 // The error of the words as they are shown. Where these make a command, it was memory that the words as they are lacked.
@@ -88,7 +103,7 @@ fn answer<R: Files + Input + Eprint + AllocGlobal, W: Write>(
 ) -> u8 {
     match write_command(rt, command, output) {
         Ok(status) => status,
-        Err(fault) => trouble(rt, fault.file, fault.reason),
+        Err(fault) => trouble(rt, fault),
     }
 }
 
@@ -101,9 +116,10 @@ fn has_text<R: Env>(rt: &R, name: &str) -> bool {
     }
 }
 
-// Says what is wrong, and returns the status of trouble.
-fn trouble<R: Eprint>(rt: &R, file: &str, reason: Reason) -> u8 {
-    let fault = Fault { file, reason };
-    let _ = eprintln!(rt; "keyed: {fault}");
+// Says what is wrong, unless it is that a reader of the output has left, and returns the status of trouble.
+fn trouble<R: Eprint>(rt: &R, fault: Fault<'_>) -> u8 {
+    if !fault.is_closed_pipe() {
+        let _ = eprintln!(rt; "keyed: {fault}");
+    }
     TROUBLE
 }

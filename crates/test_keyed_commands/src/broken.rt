@@ -117,7 +117,7 @@ fn slow_inputs_are_read_to_the_end(rt: HostRuntime) -> Result<(), Fail> {
     expect_fault(
         alloc,
         outcome,
-        "old: line 5: the key 1 stands on line 2 too",
+        "old: line 5: duplicate key 1, first on line 2: give more columns by --key, or --group",
     )
 }
 

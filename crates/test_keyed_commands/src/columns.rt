@@ -75,7 +75,7 @@ fn columns_of_the_key_that_lack_are_named(rt: HostRuntime) -> Result<(), Fail> {
     let alloc = rt.alloc();
     for command in COMMANDS {
         for (place, name) in command.names().iter().enumerate() {
-            let wanted = format!(in alloc; "{name}: line 1: no column name")?;
+            let wanted = format!(in alloc; "{name}: line 1: no column name; there are id, v")?;
             for key in ["id,name", "name,id"] {
                 let outcome = asked(alloc, under(key), command, lacking(command, place));
                 expect_fault(alloc, outcome, &wanted)?;

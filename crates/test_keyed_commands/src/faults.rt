@@ -13,7 +13,7 @@ fn files_that_are_none_are_named(rt: HostRuntime) -> Result<(), Fail> {
     for (file, wanted) in [
         ("/no/such/file", "/no/such/file: "),
         ("/", "/: "),
-        ("-", "-: the standard input is one table only"),
+        ("-", "- may name only one file"),
     ] {
         let request = Request::Diff {
             old: file,
@@ -59,10 +59,10 @@ const BAD: &[u8] = b"id,a\n1,x\n1,y\n";
 
 #[rattlefmt::skip]
 const VERSIONS: [([&[u8]; 3], &str); 5] = [
-    ([BAD, TABLE, TABLE], "base: line 3: the key 1 stands on line 2 too"),
-    ([TABLE, BAD, TABLE], "ours: line 3: the key 1 stands on line 2 too"),
-    ([TABLE, TABLE, BAD], "theirs: line 3: the key 1 stands on line 2 too"),
-    ([TABLE, TABLE, b"a\nx\n"], "theirs: line 1: no column id"),
+    ([BAD, TABLE, TABLE], "base: line 3: duplicate key 1, first on line 2: give more columns by --key, or --group"),
+    ([TABLE, BAD, TABLE], "ours: line 3: duplicate key 1, first on line 2: give more columns by --key, or --group"),
+    ([TABLE, TABLE, BAD], "theirs: line 3: duplicate key 1, first on line 2: give more columns by --key, or --group"),
+    ([TABLE, TABLE, b"a\nx\n"], "theirs: line 1: no column id; there is a"),
     ([TABLE, b"id,a\n1,x,y\n", TABLE], "ours: line 2: 3 cells, and there are 2 columns"),
 ];
 

@@ -15,16 +15,18 @@ const OLD: &[u8] = b"id,a\n2,x\n1,p\n2,y\n1,q\n1,p\n";
 
 const NEW: &[u8] = b"id,a\n1,q\n3,s\n1,p\n2,z\n2,x\n1,r\n1,r\n";
 
-/// Groups are compared with no regard to the order of their rows: what one has more often stands beside what it has less often.
+/// Groups are compared with no regard to the order of their rows. Where one row goes and one comes it changed; else rows were removed and
+/// added.
 #[test]
 fn rows_of_groups_that_changed_are_shown(rt: HostRuntime) -> Result<(), Fail> {
     let alloc = rt.alloc();
     let wanted = "         id  a
-changed  1   p -> r
+removed  1   p
+added    1   r
 added    1   r
 changed  2   y -> z
 added    3   s
-2 added, 0 removed, 2 changed, 3 the same
+3 added, 1 removed, 1 changed, 3 the same
 ";
     expect(
         compared(alloc, GROUPS, TEXT, OLD, NEW),

@@ -34,7 +34,9 @@ fn expect_repeat(
     let inputs = [first.as_bytes(), next.as_bytes(), last.as_bytes()];
     let name = command.names().get(place).copied().unwrap_or("");
     let line = count.saturating_add(2);
-    let wanted = format!(in alloc; "{name}: line {line}: the key k00000 stands on line 2 too")?;
+    let wanted = format!(in alloc;
+        "{name}: line {line}: duplicate key k00000, first on line 2: give more columns by --key, or --group"
+    )?;
     expect_fault(alloc, asked(alloc, PLAIN, command, inputs), &wanted)
 }
 
@@ -105,7 +107,7 @@ fn keys_and_lines_are_named_as_they_stand(rt: HostRuntime) -> Result<(), Fail> {
     let alloc = rt.alloc();
     for (bad, first, second) in LINES {
         let wanted = format!(in alloc;
-            "old: line {second}: the key 1,2 stands on line {first} too"
+            "old: line {second}: duplicate key 1,2, first on line {first}: give more columns by --key, or --group"
         )?;
         let inputs: [&[u8]; 3] = [bad, b"id,a,b\n", b""];
         expect_fault(

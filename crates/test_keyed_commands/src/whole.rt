@@ -77,14 +77,14 @@ const COMPARISONS: [Comparison; 4] = [
     (b"id,a,b\n1,x,\n2,y,z\n", b"id,c,a\n1,,x\n2,w,y\n", TEXT, 1,
         "column c added
 column b removed
-         id  a  b      c
-changed  2   y  z ->    -> w
+         id  a  b        c
+changed  2   y  z -> \"\"  \"\" -> w
 0 added, 0 removed, 1 changed, 1 the same
 "),
     (b"id,a\n1,x\n", b"id,a,b\n1,x,\n", Format::Csv, 1, "change,id,a,b\n"),
     // Bytes that are no UTF-8 and control characters stand escaped on the line of their row.
     (b"id,a\n1,\"x\ny\"\n", b"id,a\n1,\xff\n", TEXT, 1,
-        "         id  a\nchanged  1   x\\ny -> \\xff\n0 added, 0 removed, 1 changed, 0 the same\n"),
+        "         id  a\nchanged  1   \"x\\ny\" -> \"\\xff\"\n0 added, 0 removed, 1 changed, 0 the same\n"),
 ];
 
 /// Rows and columns in another order, columns of one version alone, and cells that are no text.
@@ -141,10 +141,10 @@ const GOOD: &[u8] = b"id,a\n1,x\n";
 
 #[rattlefmt::skip]
 const BAD: [(&[u8], &[u8], &str); 4] = [
-    (GOOD, b"key,a\n1,x\n", "new: line 1: no column id"),
+    (GOOD, b"key,a\n1,x\n", "new: line 1: no column id; there are key, a"),
     (GOOD, b"id,id\n1,x\n", "new: line 1: two columns id, of which the key is to be one: give others by --key"),
-    (GOOD, b"id,a\n1,x\n2\n", "new: line 3: 1 cells, and there are 2 columns (--ragged takes a short row)"),
-    (b"id,a\n7,x\n8,y\n7,z\n", GOOD, "old: line 4: the key 7 stands on line 2 too"),
+    (GOOD, b"id,a\n1,x\n2\n", "new: line 3: 1 cell, and there are 2 columns (--ragged takes a short row)"),
+    (b"id,a\n7,x\n8,y\n7,z\n", GOOD, "old: line 4: duplicate key 7, first on line 2: give more columns by --key, or --group"),
 ];
 
 /// Each fault is one line that names the file, the line and what is wrong.

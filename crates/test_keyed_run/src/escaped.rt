@@ -5,8 +5,8 @@ use crate::runs::{Case, PLAIN, Run, expect, expect_run, words_of};
 use std::alloc::{AllocError, Global};
 use std::test::Fail;
 
-// In these texts `@` stands for a character, and `%` for the line on which the second row of `again` begins: its first has the character
-// twice.
+// In these texts `@` stands for a character, `~` for a quote where the character is escaped, and `%` for the line on which the second row
+// of `again` begins: its first has the character twice.
 static FILES: [(&str, &str); 11] = [
     ("old", "id,name\n1,\"a@b\"\n"),
     ("new", "id,name\n1,\"c@\"\n"),
@@ -26,20 +26,20 @@ static FILES: [(&str, &str); 11] = [
 #[rattlefmt::skip]
 static PLACES: [Case<'static>; 20] = [
     ("diff|old|new", 1,
-        "         id  name\nchanged  1   a@b -> c@\n0 added, 0 removed, 1 changed, 0 the same\n", ""),
-    ("apply|old|changes", 1, "        id  name\ntable   1   a@b\nchange  1   x@\n", ""),
-    ("merge|old|new|ours", 1, "        id  name\nbase    1   a@b\nours    1   c@\ntheirs  1   @\n", ""),
+        "         id  name\nchanged  1   ~a@b~ -> ~c@~\n0 added, 0 removed, 1 changed, 0 the same\n", ""),
+    ("apply|old|changes", 1, "        id  name\ntable   1   ~a@b~\nchange  1   ~x@~\n", ""),
+    ("merge|old|new|ours", 1, "        id  name\nbase    1   ~a@b~\nours    1   ~c@~\ntheirs  1   ~@~\n", ""),
     ("diff|named|named later", 1,
-        "         id  n@\nchanged  1   a -> b\n0 added, 0 removed, 1 changed, 0 the same\n", ""),
-    ("diff|bare|bare and named", 1, "column n@ added\n0 added, 0 removed, 0 changed, 0 the same\n", ""),
-    ("diff|bare and named|bare", 1, "column n@ removed\n0 added, 0 removed, 0 changed, 0 the same\n", ""),
+        "         id  ~n@~\nchanged  1   a -> b\n0 added, 0 removed, 1 changed, 0 the same\n", ""),
+    ("diff|bare|bare and named", 1, "column ~n@~ added\n0 added, 0 removed, 0 changed, 0 the same\n", ""),
+    ("diff|bare and named|bare", 1, "column ~n@~ removed\n0 added, 0 removed, 0 changed, 0 the same\n", ""),
     ("diff|named|named twice|--key|\"n@\"", 2, "",
-        "keyed: named twice: line 1: two columns n@, of which the key is to be one: give others by --key\n"),
-    ("diff|old|new|--key|\"n@\"", 2, "", "keyed: old: line 1: no column n@\n"),
-    ("diff|again|new", 2, "", "keyed: again: line %: the key k@ stands on line 2 too\n"),
-    ("diff|again|new|--key|id,kind", 2, "", "keyed: again: line %: the key k@,@ stands on line 2 too\n"),
+        "keyed: named twice: line 1: two columns ~n@~, of which the key is to be one: give others by --key\n"),
+    ("diff|old|new|--key|\"n@\"", 2, "", "keyed: old: line 1: no column ~n@~; there are id, name\n"),
+    ("diff|again|new", 2, "", "keyed: again: line %: duplicate key ~k@~, first on line 2: give more columns by --key, or --group\n"),
+    ("diff|again|new|--key|id,kind", 2, "", "keyed: again: line %: duplicate key ~k@~,~@~, first on line 2: give more columns by --key, or --group\n"),
     ("diff|none @|new", 2, "", "keyed: none @: No such file or directory (os error 2)\n"),
-    ("join|old|again @", 2, "", "keyed: again @: line 3: the key 1 stands on line 2 too\n"),
+    ("join|old|again @", 2, "", "keyed: again @: line 3: duplicate key 1, first on line 2: give more columns by --key, or --group\n"),
     ("join|old|again @|--sorted", 2, "",
         "keyed: again @: line 3: the key is not greater than the one before it\n"),
     ("compare@", 2, "",
@@ -87,21 +87,30 @@ fn files_with(alloc: Global, c: &str) -> Result<Vec<(String, String)>, AllocErro
     Ok(files)
 }
 
-// What one of the places comes to, with the escape in the place of each mark.
-fn wanted(alloc: Global, place: &Case<'_>, escape: &str, line: &str) -> Result<Run, AllocError> {
+// What one of the places comes to, with the escape in the place of each mark, and with this quote around cells and names.
+fn wanted(
+    alloc: Global,
+    place: &Case<'_>,
+    escape: &str,
+    quote: &str,
+    line: &str,
+) -> Result<Run, AllocError> {
     let (_, status, output, said) = *place;
-    let said = replaced(alloc, said, '@', escape)?;
+    let output = replaced(alloc, output, '~', quote)?;
+    let said = replaced(alloc, said, '~', quote)?;
+    let said = replaced(alloc, &said, '@', escape)?;
     Ok(Run {
         status,
-        output: replaced(alloc, output, '@', escape)?.into_bytes(),
+        output: replaced(alloc, &output, '@', escape)?.into_bytes(),
         said: replaced(alloc, &said, '%', line)?,
     })
 }
 
-// Fails unless a character stands escaped in each of the places.
+// Fails unless a character stands escaped in each of the places, and what is a cell or a name stands in quotes then.
 fn expect_escaped(alloc: Global, c: char, escape: &str, places: &[Case<'_>]) -> Result<(), Fail> {
     let second_line = if c == '\n' || c == '\r' { "5" } else { "3" };
     let c = c.to_string(alloc)?;
+    let quote = if c.as_str() == escape { "" } else { "\"" };
     let program = replaced(alloc, "/bin/k@d", '@', &c)?;
     let mut given = Given {
         words: Vec::new(alloc),
@@ -110,7 +119,7 @@ fn expect_escaped(alloc: Global, c: char, escape: &str, places: &[Case<'_>]) -> 
     for place in places {
         let line = replaced(alloc, place.0, '@', &c)?;
         given.words = words_of(alloc, &program, &line)?;
-        let want = wanted(alloc, place, escape, second_line)?;
+        let want = wanted(alloc, place, escape, quote, second_line)?;
         expect_run(alloc, &given, PLAIN, &want)?;
     }
     Ok(())
@@ -167,7 +176,6 @@ fn character_that_moves_text_is_escaped(rt: HostRuntime) -> Result<(), Fail> {
 fn other_text_is_shown_as_it_is(rt: HostRuntime) -> Result<(), Fail> {
     let alloc = rt.alloc();
     for c in [
-        ' ',
         '\\',
         '~',
         '\u{a0}',
@@ -187,6 +195,6 @@ fn other_text_is_shown_as_it_is(rt: HostRuntime) -> Result<(), Fail> {
         ..PLAIN
     };
     let output =
-        "         id  name\nchanged  1   a -> \\x80\\xe9\\xff\n0 added, 0 removed, 1 changed, 0 the same\n";
+        "         id  name\nchanged  1   a -> \"\\x80\\xe9\\xff\"\n0 added, 0 removed, 1 changed, 0 the same\n";
     expect(alloc, world, &[("diff|old|-", 1, output, "")])
 }

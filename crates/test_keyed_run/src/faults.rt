@@ -22,8 +22,11 @@ static FILES: World = World {
         ("twice", "id,name,id\n"),
         ("other", "key,name\n2,pear\n"),
         ("other behind lines", "\n\n\nkey,name\n2,pear\n"),
+        ("one column", "id\n1,a\n"),
         ("falls", "id,name\n2,a\n1,b\n"),
         ("stays", "id,name\n2,a\n3,b\n3,c\n"),
+        ("empty keys", "id,name\n,a\n1,b\n,c\n"),
+        ("eleven", "c1,c2,c3,,c5,c6,c7,c8,c9,c10,c11\n"),
         ("pairs", "a,b,c\nx,\"y,z\",1\nx,y,2\nx,\"y,z\",3\n"),
         (
             "lines",
@@ -75,46 +78,50 @@ static BROKEN: [Case<'static>; 12] = [
 ];
 
 #[rattlefmt::skip]
-static HEADERS: [Case<'static>; 8] = [
+static HEADERS: [Case<'static>; 9] = [
     ("diff|twice|new",             2, "",
         "keyed: twice: line 1: two columns id, of which the key is to be one: give others by --key\n"),
-    ("apply|old|new",              2, "", "keyed: new: line 1: no column id\n"),
-    ("diff|old|other",             2, "", "keyed: other: line 1: no column id\n"),
-    ("diff|old|new|--key|size",    2, "", "keyed: old: line 1: no column size\n"),
-    ("merge|old|new|other|--key|id", 2, "", "keyed: other: line 1: no column id\n"),
-    ("join|old|new|--key|id,size", 2, "", "keyed: old: line 1: no column size\n"),
-    ("join|pairs|old|--key|a,c",   2, "", "keyed: old: line 1: no column a\n"),
-    ("diff|other behind lines|old|--key|id", 2, "", "keyed: other behind lines: line 4: no column id\n"),
+    ("apply|old|new",              2, "", "keyed: new: line 1: no column id; there is name\n"),
+    ("diff|old|other",             2, "", "keyed: other: line 1: no column id; there are key, name\n"),
+    ("diff|old|new|--key|size",    2, "", "keyed: old: line 1: no column size; there are id, name\n"),
+    ("join|old|eleven",            2, "",
+        "keyed: eleven: line 1: no column id; the first ten are c1, c2, c3, \"\", c5, c6, c7, c8, c9, c10\n"),
+    ("merge|old|new|other|--key|id", 2, "", "keyed: other: line 1: no column id; there are key, name\n"),
+    ("join|old|new|--key|id,size", 2, "", "keyed: old: line 1: no column size; there are id, name\n"),
+    ("join|pairs|old|--key|a,c",   2, "", "keyed: old: line 1: no column a; there are id, name\n"),
+    ("diff|other behind lines|old|--key|id", 2, "", "keyed: other behind lines: line 4: no column id; there are key, name\n"),
 ];
 
 #[rattlefmt::skip]
-static ROWS: [Case<'static>; 19] = [
-    ("diff|short|new",                2, "", "keyed: short: line 3: 1 cells, and there are 2 columns (--ragged takes a short row)\n"),
+static ROWS: [Case<'static>; 21] = [
+    ("diff|short|new",                2, "", "keyed: short: line 3: 1 cell, and there are 2 columns (--ragged takes a short row)\n"),
     ("diff|old|long",                 2, "", "keyed: long: line 2: 3 cells, and there are 2 columns\n"),
     ("apply|old|short changes",       2, "", "keyed: short changes: line 3: 2 cells, and there are 3 columns (--ragged takes a short row)\n"),
-    ("merge|short|old|new",           2, "", "keyed: short: line 3: 1 cells, and there are 2 columns (--ragged takes a short row)\n"),
-    ("join|old|short|--sorted",       2, "", "keyed: short: line 3: 1 cells, and there are 2 columns (--ragged takes a short row)\n"),
+    ("merge|short|old|new",           2, "", "keyed: short: line 3: 1 cell, and there are 2 columns (--ragged takes a short row)\n"),
+    ("join|old|short|--sorted",       2, "", "keyed: short: line 3: 1 cell, and there are 2 columns (--ragged takes a short row)\n"),
     ("apply|old|signs",               2, "", "keyed: signs: line 3: the first cell is neither - nor +\n"),
-    ("diff|again|new",                2, "", "keyed: again: line 4: the key 7 stands on line 2 too\n"),
-    ("diff|old|again",                2, "", "keyed: again: line 4: the key 7 stands on line 2 too\n"),
-    ("apply|again|changes",           2, "", "keyed: again: line 4: the key 7 stands on line 2 too\n"),
-    ("apply|old|gone again",          2, "", "keyed: gone again: line 3: the key 7 stands on line 2 too\n"),
-    ("apply|old|come again",          2, "", "keyed: come again: line 3: the key 7 stands on line 2 too\n"),
-    ("merge|again|old|new",           2, "", "keyed: again: line 4: the key 7 stands on line 2 too\n"),
-    ("merge|old|again|new",           2, "", "keyed: again: line 4: the key 7 stands on line 2 too\n"),
-    ("merge|old|new|again",           2, "", "keyed: again: line 4: the key 7 stands on line 2 too\n"),
-    ("join|again|new",                2, "", "keyed: again: line 4: the key 7 stands on line 2 too\n"),
-    ("join|old|again",                2, "", "keyed: again: line 4: the key 7 stands on line 2 too\n"),
+    ("diff|again|new",                2, "", "keyed: again: line 4: duplicate key 7, first on line 2: give more columns by --key, or --group\n"),
+    ("diff|old|again",                2, "", "keyed: again: line 4: duplicate key 7, first on line 2: give more columns by --key, or --group\n"),
+    ("apply|again|changes",           2, "", "keyed: again: line 4: duplicate key 7, first on line 2: give more columns by --key, or --group\n"),
+    ("apply|old|gone again",          2, "", "keyed: gone again: line 3: duplicate key 7, first on line 2: give more columns by --key, or --group\n"),
+    ("apply|old|come again",          2, "", "keyed: come again: line 3: duplicate key 7, first on line 2: give more columns by --key, or --group\n"),
+    ("merge|again|old|new",           2, "", "keyed: again: line 4: duplicate key 7, first on line 2: give more columns by --key, or --group\n"),
+    ("merge|old|again|new",           2, "", "keyed: again: line 4: duplicate key 7, first on line 2: give more columns by --key, or --group\n"),
+    ("merge|old|new|again",           2, "", "keyed: again: line 4: duplicate key 7, first on line 2: give more columns by --key, or --group\n"),
+    ("join|again|new",                2, "", "keyed: again: line 4: duplicate key 7, first on line 2: give more columns by --key, or --group\n"),
+    ("join|old|again",                2, "", "keyed: again: line 4: duplicate key 7, first on line 2: give more columns by --key, or --group\n"),
+    ("diff|old|empty keys",           2, "", "keyed: empty keys: line 4: duplicate key \"\", first on line 2: give more columns by --key, or --group\n"),
+    ("join|old|one column",           2, "", "keyed: one column: line 2: 2 cells, and there is 1 column\n"),
     ("diff|falls|new|--format|csv|--sorted", 2, "", "keyed: falls: line 3: the key is not greater than the one before it\n"),
     ("join|old|stays|--sorted",       2, "", "keyed: stays: line 4: the key is not greater than the one before it\n"),
-    ("join|pairs|pairs|--key|a,b",    2, "", "keyed: pairs: line 4: the key x,y,z stands on line 2 too\n"),
+    ("join|pairs|pairs|--key|a,b",    2, "", "keyed: pairs: line 4: duplicate key x,y,z, first on line 2: give more columns by --key, or --group\n"),
 ];
 
 // A line is one of the file: a cell may take several, and blank lines count.
 #[rattlefmt::skip]
 static LINES: [Case<'static>; 3] = [
-    ("diff|lines|new",                2, "", "keyed: lines: line 10: the key 1 stands on line 3 too\n"),
-    ("diff|short behind lines|new",   2, "", "keyed: short behind lines: line 8: 1 cells, and there are 2 columns (--ragged takes a short row)\n"),
+    ("diff|lines|new",                2, "", "keyed: lines: line 10: duplicate key 1, first on line 3: give more columns by --key, or --group\n"),
+    ("diff|short behind lines|new",   2, "", "keyed: short behind lines: line 8: 1 cell, and there are 2 columns (--ragged takes a short row)\n"),
     ("join|falls behind lines|new|--sorted", 2, "", "keyed: falls behind lines: line 6: the key is not greater than the one before it\n"),
 ];
 

@@ -121,15 +121,15 @@ fn each_file_may_be_the_standard_input(rt: HostRuntime) -> Result<(), Fail> {
 
 #[rattlefmt::skip]
 static TWICE: [Case<'static>; 9] = [
-    ("diff|-|-",                          2, "", "keyed: -: the standard input is one table only\n"),
-    ("diff|-|-|--format|csv|--sorted",    2, "", "keyed: -: the standard input is one table only\n"),
-    ("apply|-|-",                         2, "", "keyed: -: the standard input is one table only\n"),
-    ("merge|-|-|old",                     2, "", "keyed: -: the standard input is one table only\n"),
-    ("merge|-|old|-",                     2, "", "keyed: -: the standard input is one table only\n"),
-    ("merge|old|-|-",                     2, "", "keyed: -: the standard input is one table only\n"),
-    ("merge|-|-|-",                       2, "", "keyed: -: the standard input is one table only\n"),
-    ("join|-|-",                          2, "", "keyed: -: the standard input is one table only\n"),
-    ("join|-|-|--sorted",                 2, "", "keyed: -: the standard input is one table only\n"),
+    ("diff|-|-",                          2, "", "keyed: - may name only one file\n"),
+    ("diff|-|-|--format|csv|--sorted",    2, "", "keyed: - may name only one file\n"),
+    ("apply|-|-",                         2, "", "keyed: - may name only one file\n"),
+    ("merge|-|-|old",                     2, "", "keyed: - may name only one file\n"),
+    ("merge|-|old|-",                     2, "", "keyed: - may name only one file\n"),
+    ("merge|old|-|-",                     2, "", "keyed: - may name only one file\n"),
+    ("merge|-|-|-",                       2, "", "keyed: - may name only one file\n"),
+    ("join|-|-",                          2, "", "keyed: - may name only one file\n"),
+    ("join|-|-|--sorted",                 2, "", "keyed: - may name only one file\n"),
 ];
 
 /// No two files are the standard input.

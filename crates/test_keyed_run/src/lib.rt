@@ -11,6 +11,8 @@ mod faults;
 #[cfg(test)]
 mod inputs;
 #[cfg(test)]
+mod outputs;
+#[cfg(test)]
 mod process;
 #[cfg(test)]
 mod reading;

@@ -25,8 +25,17 @@ pub struct World {
     pub stdin: &'static [u8],
     /// Whether the standard output is a terminal.
     pub is_terminal: bool,
-    /// How many bytes the standard output takes before it is full.
+    /// How many bytes the standard output takes before it is full. One with no room takes no help either.
     pub room: usize,
+    /// Whether it is no full output, but one that a reader has left.
+    pub is_left: bool,
+}
+
+impl World {
+    // Why the standard output takes no more bytes.
+    fn refusal(&self) -> io::Error {
+        io::Error::from_raw_os_error(if self.is_left { LEFT } else { FULL })
+    }
 }
 
 /// The words of a command line, the program's name first, and the files that a run may open, by name with their texts.
@@ -81,6 +90,9 @@ impl Alloc for Process<'_> {
 
 impl Print for Process<'_> {
     fn print<D: Display + Drop>(&self, value: D) -> io::Result<()> {
+        if self.world.room == 0 {
+            return Err(self.world.refusal());
+        }
         put(&self.printed, value, "")
     }
 
@@ -173,12 +185,14 @@ pub struct File<'a> {
     is_broken: bool,
 }
 
-// The system's errors: no such file, and a device that fails.
+// The system's errors: no such file, a device that fails, one that is full, and a pipe that its reader has left.
 const NO_FILE: i32 = 2;
 
 const BROKEN: i32 = 5;
 
 const FULL: i32 = 28;
+
+const LEFT: i32 = 32;
 
 impl Read for File<'_> {
     fn read(&mut self, buf: &mut [u8]) -> io::Result<usize> {
@@ -279,7 +293,7 @@ impl<'a> Files for Process<'a> {
 #[derive(Drop)]
 pub struct Output {
     pub bytes: Vec<u8>,
-    is_terminal: bool,
+    world: World,
     room: usize,
 }
 
@@ -288,7 +302,7 @@ impl Output {
     pub fn new(alloc: Global, world: World) -> Self {
         Output {
             bytes: Vec::new(alloc),
-            is_terminal: world.is_terminal,
+            world,
             room: world.room,
         }
     }
@@ -298,7 +312,7 @@ impl Write for Output {
     fn write(&mut self, buf: &[u8]) -> io::Result<usize> {
         let count = buf.len().min(self.room);
         if count == 0 {
-            return Err(io::Error::from_raw_os_error(FULL));
+            return Err(self.world.refusal());
         }
         self.bytes.extend_from_slice(&buf[..count])?;
         self.room = self.room.saturating_sub(count);
@@ -312,6 +326,6 @@ impl Write for Output {
 
 impl IsTerminal for Output {
     fn is_terminal(&self) -> bool {
-        self.is_terminal
+        self.world.is_terminal
     }
 }

@@ -27,6 +27,7 @@ pub const PLAIN: World = World {
     stdin: b"",
     is_terminal: false,
     room: 1_000_000,
+    is_left: false,
 };
 
 /// The words of a command line behind the name of the program, a `|` between two.

@@ -26,6 +26,15 @@ static FILES: World = World {
         ("theirs", "id,v\n4,c\n2,c\n3,c\n1,c\n5,c\n"),
         ("plain", "id,aa,bb\n1,x,y\n"),
         ("turned", "id,bb,aa\n1,y,x\n"),
+        (
+            "shown",
+            "id,v\n1,(no row)\n2,a -> b\n3, a\n4,a \n5,\"\"\"a\"\"\"\n6,\\n\n7,a->\n8,\n9,say \"so\"\n\" b\",\"\t\\\"\n",
+        ),
+        (
+            "shown later",
+            "id,v\n1,no row\n2,a\n3,a\n4,a\n5,\"\"\"a \"\n6,\"\n\"\n7,-> a\n8,\"\"\"\"\"\"\n9,\n\" b\",\\t\\\\\n",
+        ),
+        ("bare", "id,v\n"),
         ("lengths", "id,a,bbb\n1,x,y\n"),
         ("more", "id,aa,cc,bb,dd\n1,x,,y,\n"),
         (
@@ -53,8 +62,8 @@ static WIDTHS: [Case<'static>; 3] = [
          0 added, 0 removed, 5 changed, 0 the same\n", ""),
     ("diff|narrow|narrow later|--key|id", 1,
         "column \u{6570} added\ncolumn name removed\n         id               name  \u{6570}\n\
-         removed  2                3     \n\
-         removed  quince and pear  1     \n\
+         removed  2                3\n\
+         removed  quince and pear  1\n\
          0 added, 2 removed, 0 changed, 0 the same\n", ""),
     ("diff|many|many rows", 1,
         "       id  c01  c02  c03  c04  c05  c06  c07  c08  c09  c10  c11  c12  c13  c14  c15  c16  c17  c18  c19  c20  c21  c22  c23  c24\n\
@@ -72,18 +81,22 @@ fn cells_are_lined_up_as_a_terminal_shows_them(rt: HostRuntime) -> Result<(), Fa
 static GROUPS: [Case<'static>; 5] = [
     ("diff|group|group later|--group", 1,
         "         id  v\n\
-         changed  1   a -> c\n\
-         changed  1   b -> d\n\
+         removed  1   a\n\
+         removed  1   b\n\
+         added    1   c\n\
+         added    1   d\n\
          added    1   e\n\
          removed  2   c\n\
-         1 added, 1 removed, 2 changed, 1 the same\n", ""),
+         3 added, 3 removed, 0 changed, 1 the same\n", ""),
     ("diff|group|group later|--group|--color|always", 1,
         "         id  v\n\
-         \u{1b}[33mchanged  1   a -> c\u{1b}[0m\n\
-         \u{1b}[33mchanged  1   b -> d\u{1b}[0m\n\
+         \u{1b}[31mremoved  1   a\u{1b}[0m\n\
+         \u{1b}[31mremoved  1   b\u{1b}[0m\n\
+         \u{1b}[32madded    1   c\u{1b}[0m\n\
+         \u{1b}[32madded    1   d\u{1b}[0m\n\
          \u{1b}[32madded    1   e\u{1b}[0m\n\
          \u{1b}[31mremoved  2   c\u{1b}[0m\n\
-         1 added, 1 removed, 2 changed, 1 the same\n", ""),
+         3 added, 3 removed, 0 changed, 1 the same\n", ""),
     ("apply|group|group changes|--group", 1,
         "        id  v\n\
          table   1   a\n\
@@ -161,8 +174,8 @@ static COLUMNS: [Case<'static>; 6] = [
     ("diff|plain|plain",   0, "0 added, 0 removed, 0 changed, 1 the same\n", ""),
     ("diff|plain|turned",  0, "columns in another order\n0 added, 0 removed, 0 changed, 1 the same\n", ""),
     ("diff|plain|lengths", 1,
-        "column a added\ncolumn bbb added\ncolumn aa removed\ncolumn bb removed\n         id  aa     bb     a      bbb\n\
-         changed  1   x ->   y ->    -> x   -> y\n\
+        "column a added\ncolumn bbb added\ncolumn aa removed\ncolumn bb removed\n         id  aa       bb       a        bbb\n\
+         changed  1   x -> \"\"  y -> \"\"  \"\" -> x  \"\" -> y\n\
          0 added, 0 removed, 1 changed, 0 the same\n", ""),
     ("diff|plain|more",    1,
         "column cc added\ncolumn dd added\n0 added, 0 removed, 0 changed, 1 the same\n", ""),
@@ -172,6 +185,42 @@ static COLUMNS: [Case<'static>; 6] = [
         "column cc removed\ncolumn dd removed\ncolumns in another order\n\
          0 added, 0 removed, 0 changed, 1 the same\n", ""),
 ];
+
+#[rattlefmt::skip]
+static SHOWN: [Case<'static>; 2] = [
+    ("diff|shown|shown later", 1,
+        "         id    v\n\
+         changed  \" b\"  \"\\t\\\\\" -> \\t\\\\\n\
+         changed  1     \"(no row)\" -> no row\n\
+         changed  2     \"a -> b\" -> a\n\
+         changed  3     \" a\" -> a\n\
+         changed  4     \"a \" -> a\n\
+         changed  5     \"\\\"a\\\"\" -> \"\\\"a \"\n\
+         changed  6     \\n -> \"\\n\"\n\
+         changed  7     \"a->\" -> \"-> a\"\n\
+         changed  8     \"\" -> \"\\\"\\\"\"\n\
+         changed  9     say \"so\" -> \"\"\n\
+         0 added, 0 removed, 10 changed, 0 the same\n", ""),
+    ("diff|shown|bare", 1,
+        "         id    v\n\
+         removed  \" b\"  \"\\t\\\\\"\n\
+         removed  1     \"(no row)\"\n\
+         removed  2     \"a -> b\"\n\
+         removed  3     \" a\"\n\
+         removed  4     \"a \"\n\
+         removed  5     \"\\\"a\\\"\"\n\
+         removed  6     \\n\n\
+         removed  7     \"a->\"\n\
+         removed  8\n\
+         removed  9     say \"so\"\n\
+         0 added, 10 removed, 0 changed, 0 the same\n", ""),
+];
+
+/// Cells that differ never look the same: what a terminal hides, and what the program prints of its own, stands in quotes.
+#[test]
+fn cells_that_differ_look_different(rt: HostRuntime) -> Result<(), Fail> {
+    expect(rt.alloc(), FILES, &SHOWN)
+}
 
 /// Columns that one table alone has are named, and another order of those that both have is told.
 #[test]
