@@ -6,7 +6,8 @@ mod form;
 use clap::{Arg, ArgAction, ArgMatches};
 use form::form_of;
 use keyed_files::{
-    Colours, Command, Format, Kind, Reason, Request, Settings, SortedRequest, key_names,
+    Colours, Command, Format, JoinNames, Joining, Kind, Reason, Request, Settings, SortedRequest,
+    key_names,
 };
 use std::alloc::{AllocError, Global};
 use std::{fmt, io};
@@ -98,7 +99,7 @@ fn command_of<'a>(
     matches: &ArgMatches<'a>,
     terminal: Colours,
 ) -> Result<Command<'a>, ParseError> {
-    let request = request_of(name, matches, terminal);
+    let request = request_of(name, matches, terminal)?;
     let settings = settings_of(alloc, matches, request)?;
     if !matches.get_flag("sorted") {
         return Ok(Command::Whole { settings, request });
@@ -120,13 +121,17 @@ fn sorted_of(request: Request<'_>) -> Option<SortedRequest<'_>> {
             new,
             format: Format::Csv,
         } => Some(SortedRequest::Diff { old, new }),
-        Request::Join { left, right, kind } => Some(SortedRequest::Join { left, right, kind }),
+        Request::Join { left, right, how } => Some(SortedRequest::Join { left, right, how }),
         _ => None,
     }
 }
 
-fn request_of<'a>(name: &str, matches: &ArgMatches<'a>, terminal: Colours) -> Request<'a> {
-    match name {
+fn request_of<'a>(
+    name: &str,
+    matches: &ArgMatches<'a>,
+    terminal: Colours,
+) -> Result<Request<'a>, ParseError> {
+    Ok(match name {
         "apply" => Request::Apply {
             old: file_of(matches, "OLD"),
             changes: file_of(matches, "CHANGES"),
@@ -139,13 +144,41 @@ fn request_of<'a>(name: &str, matches: &ArgMatches<'a>, terminal: Colours) -> Re
         "join" => Request::Join {
             left: file_of(matches, "LEFT"),
             right: file_of(matches, "RIGHT"),
-            kind: kind_of(matches.get_str("kind").unwrap_or("outer")),
+            how: Joining {
+                kind: kind_of(matches.get_str("kind").unwrap_or("outer")),
+                names: names_of(matches)?,
+            },
         },
         _ => Request::Diff {
             old: file_of(matches, "OLD"),
             new: file_of(matches, "NEW"),
             format: format_of(matches, terminal),
         },
+    })
+}
+
+// What the header of a join has beside the names of columns.
+fn names_of<'a>(matches: &ArgMatches<'a>) -> Result<JoinNames<'a>, ParseError> {
+    let plain = JoinNames::PLAIN;
+    let (left, right) = match matches.get_str("prefix") {
+        Some(text) => prefixes_of(text)?,
+        None => (plain.left, plain.right),
+    };
+    Ok(JoinNames {
+        left,
+        right,
+        side: matches.get_str("side").unwrap_or(plain.side),
+    })
+}
+
+// Two texts with one comma between them.
+fn prefixes_of(text: &str) -> Result<(&str, &str), ParseError> {
+    match text.split_once(',') {
+        Some((left, right)) if !right.contains(',') => Ok((left, right)),
+        _ => Err(ParseError::Value {
+            option: "prefix",
+            wrong: "not two texts with a comma between them",
+        }),
     }
 }
 
@@ -277,6 +310,20 @@ static TEXTS_OF_TWO: [(&str, &str, &str); 2] = [
     ),
 ];
 
+// Those of a join.
+static TEXTS_OF_JOIN: [(&str, &str, &str); 2] = [
+    (
+        "prefix",
+        "LEFT,RIGHT",
+        "What stands before a name that both tables have; left.,right. else",
+    ),
+    (
+        "side",
+        "NAME",
+        "The name of the first column of an outer join; side else",
+    ),
+];
+
 // The options that are set or not: the name of each, and its help.
 static FLAGS: [(&str, &str); 5] = [
     (
@@ -349,7 +396,12 @@ fn put_options<'a>(alloc: Global, args: &mut Vec<Arg<'a>>, name: &str) -> Result
             put(args, choice(alloc, FORMAT))?;
             put(args, choice(alloc, COLOR))?;
         }
-        "join" => put(args, choice(alloc, KIND))?,
+        "join" => {
+            put(args, choice(alloc, KIND))?;
+            for (name, value, help) in &TEXTS_OF_JOIN {
+                put(args, text(alloc, name, value, help))?;
+            }
+        }
         _ => return Ok(()),
     }
     put(args, sorted(alloc)?)

@@ -4,15 +4,17 @@
 
 use crate::changes::{count_rows, report};
 use crate::job::{Changes, Job, Table};
-use crate::joined::join_as_csv;
+use crate::joined::{JoinForm, join_as_csv};
+use crate::lost::render_lost;
 use crate::merged::render_conflicts;
-use crate::patch::misfits;
+use crate::patch::{all_fit, render_misfits};
 use crate::written::write_changes;
 use eob_joins::Merged;
 use keyed_files::{
-    ColumnChanges, Columns, Content, Fault, Format, JoinColumns, Kind, Opened, Reason, Settings,
-    Stream, Two, at, columns_of,
+    ColumnChanges, Columns, Content, Fault, Format, JoinColumns, Joining, Opened, Reason, Settings,
+    Stream, Two, at, columns_of, merged_columns,
 };
+use keyed_rows::{Cells, Group, Key};
 use keyed_tables::{changes_of, merge_of, patched};
 use std::alloc::Global;
 use std::io::Read;
@@ -38,7 +40,10 @@ pub fn diff<'a, R: Read + Drop>(
     new: Stream<'a, R>,
 ) -> Result<Answer, Fault<'a>> {
     let mut versions = Two::new(alloc, settings.form, Content::Rows, old, new)?;
-    let columns = versions.columns(alloc, settings.key)?;
+    let columns = match format {
+        Format::Csv => versions.change_columns(alloc, settings.key)?,
+        Format::Table { .. } => versions.columns(alloc, settings.key)?,
+    };
     diff_files(Job::new(alloc, settings, &columns), format, &mut versions)
 }
 
@@ -48,7 +53,8 @@ fn diff_files<'a, R: Read + Drop>(
     versions: &mut Two<'a, R>,
 ) -> Result<Answer, Fault<'a>> {
     let tables = job.read_both(versions)?;
-    let answer = diff_tables(&job, format, versions.column_changes(), tables);
+    let marked = versions.marked_names(job.alloc)?;
+    let answer = diff_tables(&job, format, versions.column_changes(), &marked, tables);
     at(versions.next.file, answer)
 }
 
@@ -56,14 +62,15 @@ fn diff_tables(
     job: &Job<'_, Columns>,
     format: Format,
     column_changes: ColumnChanges<'_>,
+    marked: &Cells,
     tables: (Table, Table),
 ) -> Result<Answer, Reason> {
     let (old, new) = tables;
     let rows = count_rows(&old.pairs);
-    let changes = job.order.arrange(changes_of(job.alloc, old, new)?)?;
+    let changes = job.arrange(changes_of(job.alloc, old, new)?)?;
     let is_same = changes.is_empty() && !column_changes.has_lone(job.alloc)?;
     let bytes = match format {
-        Format::Csv => write_changes(job, changes)?,
+        Format::Csv => write_changes(job, marked, changes)?,
         Format::Table { colours } => report(job, colours, column_changes, rows, &changes)?,
     };
     Ok(Answer {
@@ -85,7 +92,7 @@ pub fn apply<'a, R: Read + Drop>(
     changes: Stream<'a, R>,
 ) -> Result<Answer, Fault<'a>> {
     let mut inputs = Two::new(alloc, settings.form, Content::Changes, old, changes)?;
-    let columns = inputs.columns(alloc, settings.key)?;
+    let columns = inputs.changed_columns(alloc, settings.key)?;
     apply_files(Job::new(alloc, settings, &columns), &mut inputs)
 }
 
@@ -98,12 +105,11 @@ fn apply_files<'a, R: Read + Drop>(
 }
 
 fn apply_tables(job: &Job<'_, Columns>, tables: (Table, Changes)) -> Result<Answer, Reason> {
-    let misfits = misfits(job.alloc, job.columns, &tables.0, &tables.1)?;
-    if misfits.is_empty() {
+    if all_fit(&tables.0, &tables.1) {
         apply_fitting(job, tables)
     } else {
         Ok(Answer {
-            bytes: misfits.into_bytes(),
+            bytes: render_misfits(job, tables)?.into_bytes(),
             status: 1,
         })
     }
@@ -113,10 +119,28 @@ fn apply_tables(job: &Job<'_, Columns>, tables: (Table, Changes)) -> Result<Answ
 fn apply_fitting(job: &Job<'_, Columns>, tables: (Table, Changes)) -> Result<Answer, Reason> {
     let (old, changes) = tables;
     let rows = patched(job.alloc, old, changes)?;
-    Ok(Answer {
-        bytes: job.write_rows(rows)?,
-        status: 0,
-    })
+    answer_of_rows(job, "table", rows)
+}
+
+// The rows as CSV, with status 0; or those that have cells in columns that go, with this word, and status 1.
+fn answer_of_rows(
+    job: &Job<'_, Columns>,
+    word: &str,
+    rows: Vec<(Key, Group)>,
+) -> Result<Answer, Reason> {
+    let rows = job.arrange(rows)?;
+    let lost = render_lost(job, word, &rows)?;
+    if lost.is_empty() {
+        Ok(Answer {
+            bytes: job.write_rows(rows)?,
+            status: 0,
+        })
+    } else {
+        Ok(Answer {
+            bytes: lost.into_bytes(),
+            status: 1,
+        })
+    }
 }
 
 /// The answer to `merge`.
@@ -145,8 +169,13 @@ fn columns_of_merge<'a, R>(
     base: &Opened<'a, R>,
     sides: &Two<'a, R>,
 ) -> Result<Columns, Fault<'a>> {
-    let headers = [base.header(), sides.first.header(), sides.next.header()];
-    at(base.file, columns_of(alloc, settings.key, &headers))
+    let (base_names, ours, theirs) = (base.header(), sides.first.header(), sides.next.header());
+    let columns = columns_of(alloc, settings.key, &[base_names, ours, theirs]);
+    let key = at(base.file, columns)?.key;
+    at(
+        base.file,
+        merged_columns(alloc, key, base_names, ours, theirs),
+    )
 }
 
 fn merge_files<'a, R: Read + Drop>(
@@ -180,16 +209,9 @@ fn read_versions<'a, R: Read + Drop>(
 fn merge_tables(job: &Job<'_, Columns>, versions: ThreeVersions) -> Result<Answer, Reason> {
     let ThreeVersions { base, ours, theirs } = versions;
     match merge_of(job.alloc, base, ours, theirs)? {
-        Merged::Whole(rows) => Ok(Answer {
-            bytes: job.write_rows(rows)?,
-            status: 0,
-        }),
+        Merged::Whole(rows) => answer_of_rows(job, "merged", rows),
         Merged::Conflicts(rows) => Ok(Answer {
-            bytes: render_conflicts(
-                job.alloc,
-                job.columns,
-                &job.order.arrange(rows)?,
-            )?.into_bytes(),
+            bytes: render_conflicts(job.alloc, job.columns, &job.arrange(rows)?)?.into_bytes(),
             status: 1,
         }),
     }
@@ -200,25 +222,27 @@ fn merge_tables(job: &Job<'_, Columns>, versions: ThreeVersions) -> Result<Answe
 /// # Errors
 ///
 /// Returns the fault of a table that can't be opened or read, that lacks a column of the key, or in which a key stands twice where keys may
-/// not repeat; also want of memory, as the fault of one of them.
+/// not repeat, and of a join that would have two columns of a name; also want of memory, as the fault of one of them.
 pub fn join<'a, R: Read + Drop>(
     alloc: Global,
     settings: Settings<'a>,
-    kind: Kind,
+    how: Joining<'a>,
     left: Stream<'a, R>,
     right: Stream<'a, R>,
 ) -> Result<Answer, Fault<'a>> {
     let mut sides = Two::new(alloc, settings.form, Content::Rows, left, right)?;
     let columns = sides.join_columns(alloc, settings.key)?;
-    join_files(Job::new(alloc, settings, &columns), kind, &mut sides)
+    let form = JoinForm::new(alloc, settings.form, how, &columns);
+    let form = at(sides.next.file, form)?;
+    join_files(Job::new(alloc, settings, &columns), &form, &mut sides)
 }
 
 fn join_files<'a, R: Read + Drop>(
     mut job: Job<'_, JoinColumns>,
-    kind: Kind,
+    form: &JoinForm,
     sides: &mut Two<'a, R>,
 ) -> Result<Answer, Fault<'a>> {
     let (left, right) = job.read_sides(sides)?;
-    let bytes = at(sides.next.file, join_as_csv(&job, kind, left, right))?;
+    let bytes = at(sides.next.file, join_as_csv(&job, form, left, right))?;
     Ok(Answer { bytes, status: 0 })
 }

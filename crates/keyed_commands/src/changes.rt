@@ -4,7 +4,8 @@ ghost use Rattle.either_or_both.specs.Prelude.{left_place, option_zip, right_pla
 
 use crate::job::Job;
 use either_or_both::EitherOrBoth;
-use eob_joins::{Change, group_join_unordered};
+use eob_joins::Change;
+use indexmap::IndexMap;
 use keyed_files::{
     Colour, Colours, ColumnChanges, Columns, Grid, Line, heading, line_under, line_up, put_both,
     put_shown,
@@ -72,10 +73,13 @@ fn push_lone<'a>(
     old: &'a [Cells],
     new: &'a [Cells],
 ) -> Result<(), AllocError> {
-    let (gone, come) = lone_rows(alloc, old, new)?;
-    if let ([row], [next]) = (gone.as_slice(), come.as_slice()) {
-        rows.push((key, EitherOrBoth::Both(*row, *next)))?;
-        return Ok(());
+    let gone = lone_rows(alloc, old, new)?;
+    let come = lone_rows(alloc, new, old)?;
+    if let Some(row) = only_row(&gone) {
+        if let Some(next) = only_row(&come) {
+            rows.push((key, EitherOrBoth::Both(row, next)))?;
+            return Ok(());
+        }
     }
     for row in gone {
         rows.push((key, EitherOrBoth::Left(row)))?;
@@ -84,6 +88,14 @@ fn push_lone<'a>(
         rows.push((key, EitherOrBoth::Right(row)))?;
     }
     Ok(())
+}
+
+// The row of which there is no other.
+fn only_row<'a>(rows: &[&'a Cells]) -> Option<&'a Cells> {
+    match rows {
+        [row] => Some(*row),
+        _ => None,
+    }
 }
 
 // Puts rows that go beside rows that come.
@@ -106,30 +118,45 @@ fn rows_of(group: Option<&Group>) -> &[Cells] {
     }
 }
 
-// The rows that the old group has more often than the new one, and those that it has less often.
+// The rows that one group has more often than another, in their order: of those that are the same the last ones.
 fn lone_rows<'a>(
     alloc: Global,
-    old: &'a [Cells],
-    new: &'a [Cells],
-) -> Result<(Vec<&'a Cells>, Vec<&'a Cells>), AllocError> {
-    let mut gone = Vec::new(alloc);
-    let mut come = Vec::new(alloc);
-    for (row, marks) in group_join_unordered(alloc, marked(alloc, old)?, marked(alloc, new)?)? {
-        let (before, after) = marks.unzip();
-        let before = before.map_or(0, |marks| marks.len());
-        let after = after.map_or(0, |marks| marks.len());
-        for _ in after..before {
-            gone.push(row)?;
-        }
-        for _ in before..after {
-            come.push(row)?;
+    rows: &'a [Cells],
+    others: &'a [Cells],
+) -> Result<Vec<&'a Cells>, AllocError> {
+    let mut counts = counts_of(alloc, others)?;
+    let mut lone = Vec::new(alloc);
+    for row in rows {
+        let is_paired = match counts.get_mut(&row) {
+            Some(count) => {
+                let is_there = *count > 0;
+                *count = count.saturating_sub(1);
+                is_there
+            }
+            None => false,
+        };
+        if !is_paired {
+            lone.push(row)?;
         }
     }
-    Ok((gone, come))
+    Ok(lone)
 }
 
-fn marked<'a>(alloc: Global, rows: &'a [Cells]) -> Result<Vec<(&'a Cells, ())>, AllocError> {
-    rows.iter().map(|row| (row, ())).collect(alloc)
+// How often each row is there.
+fn counts_of<'a>(
+    alloc: Global,
+    rows: &'a [Cells],
+) -> Result<IndexMap<&'a Cells, usize>, AllocError> {
+    let mut counts: IndexMap<&'a Cells, usize> = IndexMap::new(alloc);
+    for row in rows {
+        match counts.get_mut(&row) {
+            Some(count) => *count = count.saturating_add(1),
+            None => {
+                counts.insert(row, 1)?;
+            }
+        }
+    }
+    Ok(counts)
 }
 
 /// How many rows a table has, or the greatest number where they are more.

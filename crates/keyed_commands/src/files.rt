@@ -62,10 +62,10 @@ pub fn stream_request<'a, R: Files + Input + AllocGlobal, W: Write>(
             let old = stream_of(rt, old, None);
             diff_sorted(alloc, layout, old, stream_of(rt, new, next), output)
         }
-        SortedRequest::Join { left, right, kind } => {
+        SortedRequest::Join { left, right, how } => {
             let left = stream_of(rt, left, None);
             let right = stream_of(rt, right, next);
-            join_sorted(alloc, layout, kind, left, right, output)
+            join_sorted(alloc, layout, how, left, right, output)
         }
     }
 }
@@ -108,9 +108,9 @@ pub fn answer_request<'a, R: Files + Input + AllocGlobal>(
             let theirs = stream_of(rt, theirs, settings.form.reading.last);
             merge(alloc, settings, base, ours, theirs)
         }
-        Request::Join { left, right, kind } => {
+        Request::Join { left, right, how } => {
             let left = stream_of(rt, left, None);
-            join(alloc, settings, kind, left, stream_of(rt, right, next))
+            join(alloc, settings, how, left, stream_of(rt, right, next))
         }
     }
 }

@@ -1,5 +1,6 @@
 //! What the steps of a command share, and how they read tables.
 
+use crate::row_order::{Grouped, RowOrder};
 use eob_joins::Change;
 use keyed_files::{
     Columns, Fault, Form, JoinColumns, Layout, Opened, Reason, Settings, Sign, SignedRow, Two, at,
@@ -25,6 +26,7 @@ pub struct Job<'c, C> {
     pub groups: bool,
     pub columns: &'c C,
     pub order: Order,
+    pub row_order: RowOrder,
 }
 
 impl<'c, C> Job<'c, C> {
@@ -36,6 +38,7 @@ impl<'c, C> Job<'c, C> {
             groups: settings.groups,
             columns,
             order: order_of(alloc, settings),
+            row_order: row_order_of(alloc, settings),
         }
     }
 
@@ -47,6 +50,7 @@ impl<'c, C> Job<'c, C> {
             groups: false,
             columns,
             order: Order::by_key(),
+            row_order: RowOrder::by_cells(),
         }
     }
 
@@ -58,6 +62,7 @@ impl<'c, C> Job<'c, C> {
             groups: self.groups,
             columns: self.columns,
             order: Order::by_key(),
+            row_order: RowOrder::by_cells(),
         }
     }
 
@@ -77,7 +82,29 @@ impl<'c, C> Job<'c, C> {
             table.file,
             read_rows(table, columns, &mut self.order, &mut rows),
         )?;
+        at(table.file, self.row_order.note_file(self.alloc, &rows))?;
         at(table.file, self.gather(rows))
+    }
+
+    /// Rows that are in the order of their keys, put into the order in which they come out, and so the rows of their groups.
+    ///
+    /// # Errors
+    ///
+    /// Returns `AllocError` if a request for memory was refused.
+    pub fn arrange<V: Grouped + Drop>(
+        &self,
+        rows: Vec<(Key, V)>,
+    ) -> Result<Vec<(Key, V)>, AllocError> {
+        let rows = self.order.arrange(rows)?;
+        if self.row_order.is_by_cells() {
+            return Ok(rows);
+        }
+        let mut arranged = Vec::new(self.alloc);
+        for (key, groups) in rows {
+            let groups = groups.in_order(self.alloc, &self.row_order, &key)?;
+            arranged.push((key, groups))?;
+        }
+        Ok(arranged)
     }
 
     // The rows by key, of which no two have the same unless they are groups. A key that repeats and may not is an error.
@@ -152,16 +179,17 @@ impl Job<'_, Columns> {
         let mut come = Vec::new(self.alloc);
         let outcome = read_signed(changes, self.columns, &mut self.order, &mut gone, &mut come);
         at(changes.file, outcome)?;
+        at(changes.file, self.row_order.note_file(self.alloc, &gone))?;
+        at(changes.file, self.row_order.note_file(self.alloc, &come))?;
         at(changes.file, self.pair(gone, come))
     }
 
-    /// Rows in the order of their keys as CSV, put into the order in which rows come out.
+    /// Rows as CSV.
     ///
     /// # Errors
     ///
     /// Returns the errors of `write_table`.
     pub fn write_rows(&self, rows: Vec<(Key, Group)>) -> Result<Vec<u8>, Reason> {
-        let rows = self.order.arrange(rows)?;
         write_table(self.alloc, self.form, self.columns, rows)
     }
 }
@@ -171,6 +199,15 @@ fn order_of(alloc: Global, settings: Settings<'_>) -> Order {
         Order::by_file(alloc)
     } else {
         Order::by_key()
+    }
+}
+
+// The order of rows in a group is that of the files where rows come out in this order.
+fn row_order_of(alloc: Global, settings: Settings<'_>) -> RowOrder {
+    if settings.keeps_order && settings.groups {
+        RowOrder::by_file(alloc)
+    } else {
+        RowOrder::by_cells()
     }
 }
 

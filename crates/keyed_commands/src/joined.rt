@@ -1,30 +1,65 @@
 //! Joins of two tables, written as CSV: an absent side has empty cells.
 
 use crate::job::{Job, Table};
+use crate::row_order::RowOrder;
 use either_or_both::EitherOrBoth;
 use either_or_both::join::outer_join;
 use eob_joins::{anti_join, inner_join, left_join, right_join, semi_join};
-use keyed_files::{JoinColumns, Kind, Reason, Sides, Written, quote_first, write_table};
-use keyed_rows::{Group, Key};
-use std::alloc::AllocError;
+use keyed_files::{
+    Form, JoinColumns, Joining, Kind, Reason, Sides, Written, join_header, quote_first, write_table,
+};
+use keyed_rows::{Cells, Group, Key};
+use std::alloc::{AllocError, Global};
 
 // A row of a join.
-trait JoinedRow {
-    // The name of the column that tells which of the tables have the row, if there is one.
-    const SIDE: Option<&'static [u8]> = None;
-
+trait JoinedRow: Sized {
     fn sides(&self) -> Sides<'_>;
+
+    // The same with the rows of each side in the order of its file.
+    fn in_order(self, alloc: Global, order: &RowOrder, key: &Key) -> Result<Self, AllocError>;
+}
+
+fn left_in_order(
+    alloc: Global,
+    order: &RowOrder,
+    key: &Key,
+    left: Group,
+) -> Result<Group, AllocError> {
+    order.arrange(alloc, 0..1, key, left)
+}
+
+fn right_in_order(
+    alloc: Global,
+    order: &RowOrder,
+    key: &Key,
+    right: Group,
+) -> Result<Group, AllocError> {
+    order.arrange(alloc, 1..2, key, right)
 }
 
 impl JoinedRow for EitherOrBoth<Group, Group> {
-    const SIDE: Option<&'static [u8]> = Some(b"side");
-
     fn sides(&self) -> Sides<'_> {
         let (left, right) = self.as_ref().unzip();
         Sides {
             first: Some(side_of(self)),
             left,
             right,
+        }
+    }
+
+    fn in_order(self, alloc: Global, order: &RowOrder, key: &Key) -> Result<Self, AllocError> {
+        match self {
+            EitherOrBoth::Left(left) => {
+                Ok(EitherOrBoth::Left(left_in_order(alloc, order, key, left)?))
+            }
+            EitherOrBoth::Right(right) => {
+                Ok(EitherOrBoth::Right(right_in_order(alloc, order, key, right)?))
+            }
+            EitherOrBoth::Both(left, right) => {
+                let left = left_in_order(alloc, order, key, left)?;
+                let right = right_in_order(alloc, order, key, right)?;
+                Ok(EitherOrBoth::Both(left, right))
+            }
         }
     }
 }
@@ -46,6 +81,11 @@ impl JoinedRow for (Group, Group) {
             right: Some(&self.1),
         }
     }
+
+    fn in_order(self, alloc: Global, order: &RowOrder, key: &Key) -> Result<Self, AllocError> {
+        let left = left_in_order(alloc, order, key, self.0)?;
+        Ok((left, right_in_order(alloc, order, key, self.1)?))
+    }
 }
 
 impl JoinedRow for (Group, Option<Group>) {
@@ -54,6 +94,14 @@ impl JoinedRow for (Group, Option<Group>) {
             first: None,
             left: Some(&self.0),
             right: self.1.as_ref(),
+        }
+    }
+
+    fn in_order(self, alloc: Global, order: &RowOrder, key: &Key) -> Result<Self, AllocError> {
+        let left = left_in_order(alloc, order, key, self.0)?;
+        match self.1 {
+            Some(right) => Ok((left, Some(right_in_order(alloc, order, key, right)?))),
+            None => Ok((left, None)),
         }
     }
 }
@@ -66,6 +114,45 @@ impl JoinedRow for (Option<Group>, Group) {
             right: Some(&self.1),
         }
     }
+
+    fn in_order(self, alloc: Global, order: &RowOrder, key: &Key) -> Result<Self, AllocError> {
+        let right = right_in_order(alloc, order, key, self.1)?;
+        match self.0 {
+            Some(left) => Ok((Some(left_in_order(alloc, order, key, left)?), right)),
+            None => Ok((None, right)),
+        }
+    }
+}
+
+/// Which rows a join has, and the names of its columns.
+#[derive(Drop)]
+pub struct JoinForm {
+    pub kind: Kind,
+    pub header: Cells,
+}
+
+impl JoinForm {
+    /// The form of a join under these columns. With no header no name is asked for.
+    ///
+    /// # Errors
+    ///
+    /// Returns `JoinedTwice` if two columns would have the same name, and `NoMemory` if a request for memory was refused.
+    pub fn new(
+        alloc: Global,
+        form: Form,
+        how: Joining<'_>,
+        columns: &JoinColumns,
+    ) -> Result<Self, Reason> {
+        let header = if form.has_header {
+            join_header(alloc, how, columns)?
+        } else {
+            Cells::new(alloc)
+        };
+        Ok(JoinForm {
+            kind: how.kind,
+            header,
+        })
+    }
 }
 
 /// The join of two tables as CSV.
@@ -76,17 +163,17 @@ impl JoinedRow for (Option<Group>, Group) {
 /// writer makes of it, if a request for memory was refused.
 pub fn join_as_csv(
     job: &Job<'_, JoinColumns>,
-    kind: Kind,
+    how: &JoinForm,
     left: Table,
     right: Table,
 ) -> Result<Vec<u8>, Reason> {
     let alloc = job.alloc;
     let (left, right) = (left.pairs, right.pairs);
-    match kind {
-        Kind::Outer => write_joined(job, outer_join(alloc, left, right)),
-        Kind::Inner => write_joined(job, inner_join(alloc, left, right)),
-        Kind::Left => write_joined(job, left_join(alloc, left, right)),
-        Kind::Right => write_joined(job, right_join(alloc, left, right)),
+    match how.kind {
+        Kind::Outer => write_joined(job, &how.header, outer_join(alloc, left, right)),
+        Kind::Inner => write_joined(job, &how.header, inner_join(alloc, left, right)),
+        Kind::Left => write_joined(job, &how.header, left_join(alloc, left, right)),
+        Kind::Right => write_joined(job, &how.header, right_join(alloc, left, right)),
         Kind::Semi => write_left(job, semi_join(alloc, left, right)),
         Kind::Anti => write_left(job, anti_join(alloc, left, right)),
     }
@@ -95,11 +182,13 @@ pub fn join_as_csv(
 // The rows of a join of two sides, if there was memory for them.
 fn write_joined<T: JoinedRow + Drop>(
     job: &Job<'_, JoinColumns>,
+    header: &Cells,
     rows: Result<Vec<(Key, T)>, AllocError>,
 ) -> Result<Vec<u8>, Reason> {
     let rows = job.order.arrange(rows?)?;
-    let mut written = begin_join(job, T::SIDE)?;
+    let mut written = begin_join(job, header)?;
     for (key, row) in rows {
+        let row = row.in_order(job.alloc, &job.row_order, &key)?;
         written.put_joined(job.columns, &key, row.sides())?;
     }
     let text = written.finish()?;
@@ -111,15 +200,15 @@ fn write_left(
     job: &Job<'_, JoinColumns>,
     rows: Result<Vec<(Key, Group)>, AllocError>,
 ) -> Result<Vec<u8>, Reason> {
-    let rows = job.order.arrange(rows?)?;
+    let rows = job.arrange(rows?)?;
     write_table(job.alloc, job.form, &job.columns.left, rows)
 }
 
 // The header, where tables have one.
-fn begin_join(job: &Job<'_, JoinColumns>, side: Option<&'static [u8]>) -> Result<Written, Reason> {
+fn begin_join(job: &Job<'_, JoinColumns>, header: &Cells) -> Result<Written, Reason> {
     let mut written = Written::new(job.alloc, job.form);
     if job.form.has_header {
-        written.put_join_heading(job.alloc, side, job.columns)?;
+        written.put_join_heading(header)?;
     }
     Ok(written)
 }

@@ -10,15 +10,18 @@ mod changes;
 mod files;
 mod job;
 mod joined;
+mod lost;
 mod merged;
 mod patch;
+mod row_order;
 mod sorted;
 mod written;
 
 pub use answers::{Answer, apply, diff, join, merge};
 pub use files::{answer_request, stream_request, write_command, write_request, write_whole};
 pub use keyed_files::{
-    Colours, Command, Comment, Delimiter, Encoding, Fault, Form, Format, Kind, Layout, Lengths,
-    Quotes, Reading, Reason, Request, Settings, Shown, SortedRequest, Stream, at,
+    Colours, Command, Comment, Delimiter, Encoding, Fault, Form, Format, JoinNames, Joining, Kind,
+    Layout, Lengths, Quotes, Reading, Reason, Request, Settings, Shown, ShownCell, ShownName,
+    SortedRequest, Stream, at,
 };
 pub use sorted::{diff_sorted, join_sorted};

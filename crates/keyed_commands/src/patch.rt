@@ -1,47 +1,58 @@
 //! Changes that do not fit a table, as a person reads them.
 
-use crate::job::{Changes, Table};
-use either_or_both::join::outer_join_slices;
+use crate::job::{Changes, Job, Table};
+use either_or_both::EitherOrBoth;
+use either_or_both::join::{outer_join, outer_join_slices};
+use eob_joins::Change;
 use keyed_files::{Columns, Grid, heading, line_up, put_version};
 use keyed_rows::{Group, Key};
-use std::alloc::{AllocError, Global};
+use std::alloc::AllocError;
 
-/// The changes whose old row is not what the table has, as a table that a person reads. Empty where all fit.
+/// Whether each change fits: its old row is what the table has.
+pub fn all_fit(old: &Table, changes: &Changes) -> bool {
+    for (_key, row) in outer_join_slices(&old.pairs, &changes.pairs) {
+        if let Some(change) = row.right() {
+            if row.left() != change.as_ref().left() {
+                return false;
+            }
+        }
+    }
+    true
+}
+
+/// The changes whose old row is not what the table has, in the order in which rows come out, as a table that a person reads.
 ///
 /// # Errors
 ///
 /// Returns `AllocError` if a request for memory was refused.
-pub fn misfits(
-    alloc: Global,
-    columns: &Columns,
-    old: &Table,
-    changes: &Changes,
+pub fn render_misfits(
+    job: &Job<'_, Columns>,
+    tables: (Table, Changes),
 ) -> Result<String, AllocError> {
-    let mut grid: Grid = Vec::new(alloc);
-    for (key, row) in outer_join_slices(&old.pairs, &changes.pairs) {
-        if let Some(change) = row.right() {
-            let wants = change.as_ref().left();
-            put_misfit(alloc, columns, &mut grid, key, row.left(), wants)?;
-        }
+    let (old, changes) = tables;
+    let rows = outer_join(job.alloc, old.pairs, changes.pairs)?;
+    let mut grid: Grid = Vec::new(job.alloc);
+    grid.push(heading(job.alloc, job.columns)?)?;
+    for (key, row) in job.arrange(rows)? {
+        put_misfit(job, &mut grid, &key, &row)?;
     }
-    line_up(alloc, &grid)
+    line_up(job.alloc, &grid)
 }
 
-// Puts what the table has under a key beside what a change wants there, unless they are the same.
+// Puts what the table has under a key beside what a change wants there, unless they are the same or there is no change.
 fn put_misfit(
-    alloc: Global,
-    columns: &Columns,
+    job: &Job<'_, Columns>,
     grid: &mut Grid,
     key: &Key,
-    has: Option<&Group>,
-    wants: Option<&Group>,
+    row: &EitherOrBoth<Group, Change<Group>>,
 ) -> Result<(), AllocError> {
-    if has == wants {
-        return Ok(());
+    let (has, change) = row.as_ref().unzip();
+    if let Some(change) = change {
+        let wants = change.as_ref().left();
+        if has != wants {
+            put_version(job.alloc, grid, "table", key, has)?;
+            put_version(job.alloc, grid, "change", key, wants)?;
+        }
     }
-    if grid.is_empty() {
-        grid.push(heading(alloc, columns)?)?;
-    }
-    put_version(alloc, grid, "table", key, has)?;
-    put_version(alloc, grid, "change", key, wants)
+    Ok(())
 }

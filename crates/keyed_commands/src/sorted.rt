@@ -6,12 +6,12 @@ ghost use Rattle.keyed_commands.specs.Keys.{IsAtMost};
 
 use crate::answers::Answer;
 use crate::job::{Job, Table};
-use crate::joined::join_as_csv;
+use crate::joined::{JoinForm, join_as_csv};
 use crate::written::write_changes;
 use keyed_files::{
-    Columns, Content, Fault, JoinColumns, Kind, Layout, Parts, Reason, Stream, Two, at,
+    Columns, Content, Fault, JoinColumns, Joining, Layout, Parts, Reason, Stream, Two, at,
 };
-use keyed_rows::Key;
+use keyed_rows::{Cells, Key};
 use keyed_tables::{changes_of, unique_rows};
 use std::alloc::{AllocError, Global};
 use std::io::{Read, Write};
@@ -19,15 +19,16 @@ use std::io::{Read, Write};
 // What is written of the parts of two tables.
 #[derive(Drop)]
 enum Work<'c> {
-    Changes(Job<'c, Columns>),
-    Join(Job<'c, JoinColumns>, Kind),
+    // Changes, with the names of the columns as they are marked.
+    Changes(Job<'c, Columns>, Cells),
+    Join(Job<'c, JoinColumns>, JoinForm),
 }
 
 impl Work<'_> {
     // The columns of the left table and of the right one.
     fn columns(&self) -> (&Columns, &Columns) {
         match self {
-            Work::Changes(job) => (job.columns, job.columns),
+            Work::Changes(job, _) => (job.columns, job.columns),
             Work::Join(job, _) => (&job.columns.left, &job.columns.right),
         }
     }
@@ -35,9 +36,9 @@ impl Work<'_> {
     // What there is to say of a part.
     fn answer(&self, part: Part) -> Result<Answer, Reason> {
         match self {
-            Work::Changes(job) => changes_as_csv(job, part),
-            Work::Join(job, kind) => {
-                let bytes = join_as_csv(job, *kind, part.left, part.right)?;
+            Work::Changes(job, marked) => changes_as_csv(job, marked, part),
+            Work::Join(job, how) => {
+                let bytes = join_as_csv(job, how, part.left, part.right)?;
                 Ok(Answer { bytes, status: 0 })
             }
         }
@@ -46,16 +47,16 @@ impl Work<'_> {
     // One header stands before all parts.
     fn leave_header(&mut self) {
         match self {
-            Work::Changes(job) => job.form.has_header = false,
+            Work::Changes(job, _) => job.form.has_header = false,
             Work::Join(job, _) => job.form.has_header = false,
         }
     }
 }
 
-fn changes_as_csv(job: &Job<'_, Columns>, part: Part) -> Result<Answer, Reason> {
+fn changes_as_csv(job: &Job<'_, Columns>, marked: &Cells, part: Part) -> Result<Answer, Reason> {
     let changes = changes_of(job.alloc, part.left, part.right)?;
     let status = if changes.is_empty() { 0 } else { 1 };
-    let bytes = write_changes(job, changes)?;
+    let bytes = write_changes(job, marked, changes)?;
     Ok(Answer { bytes, status })
 }
 
@@ -77,8 +78,9 @@ pub fn diff_sorted<'a, R: Read + Drop, W: Write>(
         versions.next.file,
         versions.column_changes().has_lone(alloc),
     )?;
-    let columns = versions.columns(alloc, layout.key)?;
-    let mut work = Work::Changes(Job::sorted(alloc, layout, &columns));
+    let marked = versions.marked_names(alloc)?;
+    let columns = versions.change_columns(alloc, layout.key)?;
+    let mut work = Work::Changes(Job::sorted(alloc, layout, &columns), marked);
     let status = write_tables(alloc, &mut work, versions, output)?;
     Ok(if has_lone { 1 } else { status })
 }
@@ -92,14 +94,18 @@ pub fn diff_sorted<'a, R: Read + Drop, W: Write>(
 pub fn join_sorted<'a, R: Read + Drop, W: Write>(
     alloc: Global,
     layout: Layout<'a>,
-    kind: Kind,
+    how: Joining<'a>,
     left: Stream<'a, R>,
     right: Stream<'a, R>,
     output: &mut W,
 ) -> Result<u8, Fault<'a>> {
     let sides = Two::new(alloc, layout.form, Content::Rows, left, right)?;
     let columns = sides.join_columns(alloc, layout.key)?;
-    let mut work = Work::Join(Job::sorted(alloc, layout, &columns), kind);
+    let form = at(
+        sides.next.file,
+        JoinForm::new(alloc, layout.form, how, &columns),
+    )?;
+    let mut work = Work::Join(Job::sorted(alloc, layout, &columns), form);
     write_tables(alloc, &mut work, sides, output)
 }
 

@@ -2,10 +2,11 @@
 
 use crate::job::Job;
 use eob_joins::Change;
-use keyed_files::{Columns, Reason, Sign, Written, begin_table};
-use keyed_rows::{Group, Key};
+use keyed_files::{Columns, Reason, Sign, Written};
+use keyed_rows::{Cells, Group, Key};
 
-/// Changes, as `apply` reads them: a row that goes begins with `-`, one that comes with `+`. Each change is dropped once it is written.
+/// Changes, as `apply` reads them: a row that goes begins with `-`, one that comes with `+`. The header has the names
+/// of the columns as they are marked. Each change is dropped once it is written.
 ///
 /// # Errors
 ///
@@ -13,9 +14,13 @@ use keyed_rows::{Group, Key};
 /// writer makes of it, if a request for memory was refused.
 pub fn write_changes(
     job: &Job<'_, Columns>,
+    marked: &Cells,
     changes: Vec<(Key, Change<Group>)>,
 ) -> Result<Vec<u8>, Reason> {
-    let mut written = begin_table(job.alloc, job.form, Some(b"change"), job.columns)?;
+    let mut written = Written::new(job.alloc, job.form);
+    if job.form.has_header {
+        written.put_change_heading(marked)?;
+    }
     for (key, change) in changes {
         put_change(&mut written, job.columns, &key, &change)?;
     }

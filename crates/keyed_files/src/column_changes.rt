@@ -3,8 +3,10 @@ ghost use Rattle.std.specs.Prelude.{◌≡◌, ◌||◌, IfOk};
 ghost use Rattle.keyed_files.specs.Names.{compared, has_lone};
 
 use crate::columns::place_of;
+use crate::fault::Reason;
 use crate::lined_up::ShownName;
 use crate::names::Names;
+use crate::written::Written;
 use keyed_rows::Cells;
 use std::alloc::{AllocError, Global};
 use std::fmt;
@@ -57,6 +59,20 @@ impl<'a> ColumnChanges<'a> {
     }
 }
 
+impl Written {
+    /// Puts the header of changes: the name of the column of signs, and the names of the columns as they are marked.
+    ///
+    /// # Errors
+    ///
+    /// Returns `CellCount` if a row has more or fewer cells than the first one, and `NoMemory`, or `Io` with the error that the
+    /// writer makes of it, if a request for memory was refused.
+    pub fn put_change_heading(&mut self, marked: &Cells) -> Result<(), Reason> {
+        self.put_cell(b"change")?;
+        self.put(marked)?;
+        self.end_row()
+    }
+}
+
 impl fmt::Display for ColumnChanges<'_> {
     fn fmt<W: fmt::Write>(&self, f: &mut fmt::Formatter<W>) -> fmt::Result {
         if self.before == self.after {
@@ -96,7 +112,7 @@ fn say_lone<W: fmt::Write>(
 }
 
 // Whether the names that both headers have stand in the same order.
-fn is_same_order(old: &Cells, new: &Cells) -> bool {
+pub(crate) fn is_same_order(old: &Cells, new: &Cells) -> bool {
     let shared = old.iter().filter(|name| place_of(new, name).is_some());
     let shared_of_new = new.iter().filter(|name| place_of(old, name).is_some());
     shared.zip(shared_of_new).all(|(name, other)| name == other)

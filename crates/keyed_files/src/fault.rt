@@ -44,6 +44,11 @@ pub enum Reason {
     KeyNoRecord,
     /// Among the names of the columns that are the key one stands twice.
     RepeatedName(Vec<u8>),
+    /// A join would have two columns of this name, which this option tells apart.
+    JoinedTwice {
+        name: Vec<u8>,
+        option: &'static str,
+    },
     /// A row has more or fewer cells than the first one.
     CellCount {
         line: u64,
@@ -229,6 +234,11 @@ impl fmt::Display for Reason {
             ),
             Reason::KeyNoRecord => f.write_str("not one record of CSV"),
             Reason::RepeatedName(name) => write!(f, "the column {} twice", ShownName(name)),
+            Reason::JoinedTwice { name, option } => write!(
+                f,
+                "the join has two columns {}: give another by {option}",
+                ShownName(name)
+            ),
             Reason::NoSign(line) => write!(f, "line {line}: the first cell is neither - nor +"),
             Reason::NotRising(line) => {
                 write!(

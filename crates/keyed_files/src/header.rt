@@ -1,5 +1,7 @@
 //! The names of a table's columns, told apart where the header has one more than once.
 
+use crate::columns::place_of;
+use crate::fate::Fate;
 use crate::fault::Reason;
 use crate::names::Names;
 use csv::ByteRecord;
@@ -10,6 +12,8 @@ use std::alloc::{AllocError, Global};
 #[derive(Drop)]
 pub struct Header {
     pub names: Cells,
+    /// In a table of changes, those of columns that go.
+    pub gone: Cells,
     repeated: Names,
     // The line that it stands on.
     line: u64,
@@ -20,12 +24,14 @@ impl Header {
     pub fn none(alloc: Global) -> Self {
         Header {
             names: Cells::new(alloc),
+            gone: Cells::new(alloc),
             repeated: Names::new(alloc),
             line: 0,
         }
     }
 
-    /// The names in the record on a line, behind the cells that stand before them. Of those that are the same the first is as it stands,
+    /// The names in the record on a line, behind the cells that stand before them: where there are such, it is the header of changes, and the
+    /// marks before the names are taken off. Of those that are the same the first is as it stands,
     /// and the others have a number behind a point: the second `NAME.2`, or the next number with which no column is named.
     ///
     /// # Errors
@@ -38,14 +44,18 @@ impl Header {
         line: u64,
     ) -> Result<Self, AllocError> {
         let mut there = Names::new(alloc);
-        for name in record.iter().skip(before) {
-            there.add(alloc, name)?;
+        for cell in record.iter().skip(before) {
+            there.add(alloc, fate_of(before, cell).1)?;
         }
         let mut header = Header::none(alloc);
         header.line = line;
         // Of each name of the header the number that the last column of this name has, or 0 where none has come.
         let mut numbers: Vec<usize> = Vec::from_elem(alloc, 0, there.len())?;
-        for name in record.iter().skip(before) {
+        for cell in record.iter().skip(before) {
+            let (fate, name) = fate_of(before, cell);
+            if let Fate::Goes = fate {
+                header.gone.push(name)?;
+            }
             let place = there.place_of(name).unwrap_or(0);
             let last = numbers.get(place).copied().unwrap_or(0);
             let number = header.put(alloc, &there, name, last)?;
@@ -112,7 +122,8 @@ impl Header {
                     name: Vec::from_slice(alloc, name)?,
                 });
             }
-            if !self.names.is_empty() && !names.has(name) {
+            let goes = place_of(&self.gone, name).is_some();
+            if !self.names.is_empty() && (goes || !names.has(name)) {
                 return Err(Reason::NoColumn {
                     line: self.line,
                     name: Vec::from_slice(alloc, name)?,
@@ -121,6 +132,15 @@ impl Header {
             }
         }
         Ok(())
+    }
+}
+
+// The fate of a column and its name, behind as many cells: behind none, as in a table of rows, a name has no mark.
+fn fate_of(before: usize, cell: &[u8]) -> (Fate, &[u8]) {
+    if before == 0 {
+        (Fate::Stays, cell)
+    } else {
+        Fate::of_cell(cell)
     }
 }
 

@@ -3,6 +3,7 @@
 use crate::columns::JoinColumns;
 use crate::fault::Reason;
 use crate::names::Names;
+use crate::request::{Joining, Kind};
 use crate::written::Written;
 use keyed_rows::{Cells, Group, Key};
 use std::alloc::Global;
@@ -16,28 +17,17 @@ pub struct Sides<'a> {
 }
 
 impl Written {
-    /// Puts the header of a join, behind a first cell if there is one. A name that both tables have is told apart by a word before it.
+    /// Puts the header of a join. Files with no row make a join of no column, whose header is none.
     ///
     /// # Errors
     ///
     /// Returns `CellCount` if a row has more or fewer cells than the first one, and `NoMemory`, or `Io` with the error that the
     /// writer makes of it, if a request for memory was refused.
-    pub fn put_join_heading(
-        &mut self,
-        alloc: Global,
-        first: Option<&[u8]>,
-        columns: &JoinColumns,
-    ) -> Result<(), Reason> {
-        let left = &columns.left;
-        let right = &columns.right;
-        // Files with no row make a join of no column, whose header is none.
-        if first.is_none() && left.key.is_empty() {
+    pub fn put_join_heading(&mut self, header: &Cells) -> Result<(), Reason> {
+        if header.is_empty() {
             return Ok(());
         }
-        self.put_first(first)?;
-        self.put(&left.key)?;
-        put_names(alloc, self, b"left.", &left.rest, &right.rest)?;
-        put_names(alloc, self, b"right.", &right.rest, &left.rest)?;
+        self.put(header)?;
         self.end_row()
     }
 
@@ -66,23 +56,90 @@ impl Written {
     }
 }
 
-fn put_names(
+/// The names of the columns of a join: that of the first column, if it is an outer one, those of the key, and those of both tables. A name
+/// that both have is told apart by what stands before it. Of a join that has the cells of the left table alone there is none.
+///
+/// # Errors
+///
+/// Returns `JoinedTwice` if two of the names are the same, and `NoMemory` if a request for memory was refused.
+pub fn join_header(
     alloc: Global,
-    written: &mut Written,
-    word: &[u8],
-    names: &Cells,
-    others: &Cells,
-) -> Result<(), Reason> {
-    let others = Names::of_cells(alloc, others)?;
-    for name in names {
-        let mut shown = Vec::new(alloc);
-        if others.has(name) {
-            shown.extend_from_slice(word)?;
-        }
-        shown.extend_from_slice(name)?;
-        written.put_cell(&shown)?;
+    how: Joining<'_>,
+    columns: &JoinColumns,
+) -> Result<Cells, Reason> {
+    let names = how.names;
+    let first = match how.kind {
+        Kind::Outer => Some(names.side.as_bytes()),
+        Kind::Inner | Kind::Left | Kind::Right => None,
+        Kind::Semi | Kind::Anti => return Ok(Cells::new(alloc)),
+    };
+    let (left, right) = (&columns.left, &columns.right);
+    let mut header = JoinHeader::new(alloc, first)?;
+    for name in &left.key {
+        header.put(alloc, name)?;
     }
-    Ok(())
+    header.put_side(alloc, names.left, &left.rest, &right.rest)?;
+    header.put_side(alloc, names.right, &right.rest, &left.rest)?;
+    Ok(header.names)
+}
+
+// The names of the columns of a join, no two of which are the same.
+#[derive(Drop)]
+struct JoinHeader<'a> {
+    first: Option<&'a [u8]>,
+    names: Cells,
+    there: Names,
+}
+
+impl<'a> JoinHeader<'a> {
+    // The name of the first column, if there is one.
+    fn new(alloc: Global, first: Option<&'a [u8]>) -> Result<Self, Reason> {
+        let mut header = JoinHeader {
+            first,
+            names: Cells::new(alloc),
+            there: Names::new(alloc),
+        };
+        if let Some(name) = first {
+            header.put(alloc, name)?;
+        }
+        Ok(header)
+    }
+
+    // Puts the name of the next column.
+    fn put(&mut self, alloc: Global, name: &[u8]) -> Result<(), Reason> {
+        if self.there.add(alloc, name)? {
+            self.names.push(name)?;
+            return Ok(());
+        }
+        Err(Reason::JoinedTwice {
+            name: Vec::from_slice(alloc, name)?,
+            option: if self.first == Some(name) {
+                "--side"
+            } else {
+                "--prefix"
+            },
+        })
+    }
+
+    // Puts the names of a side, with a word before each that the other side has too.
+    fn put_side(
+        &mut self,
+        alloc: Global,
+        word: &str,
+        names: &Cells,
+        others: &Cells,
+    ) -> Result<(), Reason> {
+        let others = Names::of_cells(alloc, others)?;
+        for name in names {
+            let mut told = Vec::new(alloc);
+            if others.has(name) {
+                told.extend_from_slice(word.as_bytes())?;
+            }
+            told.extend_from_slice(name)?;
+            self.put(alloc, &told)?;
+        }
+        Ok(())
+    }
 }
 
 // Puts a row of a side, or an empty cell for each name of its columns.

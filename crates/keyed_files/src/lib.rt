@@ -9,6 +9,7 @@ mod checked;
 mod column_changes;
 mod columns;
 mod encoding;
+mod fate;
 mod fault;
 mod first_cell;
 mod header;
@@ -16,6 +17,7 @@ mod joined_rows;
 mod key_record;
 mod lined_up;
 mod names;
+mod new_columns;
 mod opened;
 mod parts;
 mod request;
@@ -26,19 +28,21 @@ mod written;
 pub use column_changes::ColumnChanges;
 pub use columns::{Columns, JoinColumns, Place, columns_of, join_columns};
 pub use encoding::Encoding;
+pub use fate::Fate;
 pub use fault::{Fault, Reason};
 pub use first_cell::quote_first;
-pub use joined_rows::Sides;
+pub use joined_rows::{Sides, join_header};
 pub use key_record::key_names;
 pub use lined_up::{
     Colour, Grid, Line, Shown, ShownCell, ShownName, heading, line_under, line_up, put_both,
     put_shown, put_version,
 };
+pub use new_columns::{changed_columns, marked_names, merged_columns};
 pub use opened::{Opened, Stream, Two, at};
 pub use parts::Parts;
 pub use request::{
-    Colours, Command, Comment, Delimiter, Form, Format, Kind, Layout, Lengths, Quotes, Reading,
-    Request, Settings, SortedRequest,
+    Colours, Command, Comment, Delimiter, Form, Format, JoinNames, Joining, Kind, Layout, Lengths,
+    Quotes, Reading, Request, Settings, SortedRequest,
 };
 pub use sign::{Sign, SignedRow};
 pub use source::{Content, Places, Source};

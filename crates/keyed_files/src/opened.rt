@@ -3,6 +3,7 @@
 use crate::column_changes::ColumnChanges;
 use crate::columns::{Columns, JoinColumns, columns_of, join_columns};
 use crate::fault::{Fault, Reason};
+use crate::new_columns::{changed_columns, marked_names};
 use crate::request::{Delimiter, Form};
 use crate::source::{Content, Source};
 use keyed_rows::Cells;
@@ -89,6 +90,39 @@ impl<'a, R> Two<'a, R> {
     pub fn columns(&self, alloc: Global, key: Option<&str>) -> Result<Columns, Fault<'a>> {
         let headers = [self.first.header(), self.next.header()];
         at(self.first.file, columns_of(alloc, key, &headers))
+    }
+
+    /// The columns of the changes from the first to the next one: those of the next one in its order, and then those that it lacks.
+    ///
+    /// # Errors
+    ///
+    /// Returns the errors of `columns_of`, as a fault of the first file.
+    pub fn change_columns(&self, alloc: Global, key: Option<&str>) -> Result<Columns, Fault<'a>> {
+        let key = self.columns(alloc, key)?.key;
+        let headers = [self.next.header(), self.first.header()];
+        at(self.first.file, Columns::new(alloc, key, &headers))
+    }
+
+    /// The names of these columns, each with the mark of what became of it.
+    ///
+    /// # Errors
+    ///
+    /// Returns want of memory, as a fault of the next file.
+    pub fn marked_names(&self, alloc: Global) -> Result<Cells, Fault<'a>> {
+        let marked = marked_names(alloc, self.first.header(), self.next.header());
+        at(self.next.file, marked)
+    }
+
+    /// The columns of the table that the next one, which is of changes, makes of the first.
+    ///
+    /// # Errors
+    ///
+    /// Returns the errors of `columns_of`, as a fault of the first file.
+    pub fn changed_columns(&self, alloc: Global, key: Option<&str>) -> Result<Columns, Fault<'a>> {
+        let key = self.columns(alloc, key)?.key;
+        let (old, changes) = (self.first.header(), self.next.header());
+        let columns = changed_columns(alloc, key, old, changes, self.next.source.gone());
+        at(self.first.file, columns)
     }
 
     /// The columns of each, for a join of both.

@@ -161,6 +161,43 @@ pub enum Kind {
     Anti,
 }
 
+/// What the header of a join has beside the names of columns.
+#[derive(Clone, Copy, Debug)]
+pub struct JoinNames<'a> {
+    /// What stands before a name of the left table that the right one has too.
+    pub left: &'a str,
+    /// What stands before a name of the right table that the left one has too.
+    pub right: &'a str,
+    /// The name of the first column of an outer join.
+    pub side: &'a str,
+}
+
+impl JoinNames<'static> {
+    /// `left.`, `right.` and `side`.
+    pub const PLAIN: JoinNames<'static> = JoinNames {
+        left: "left.",
+        right: "right.",
+        side: "side",
+    };
+}
+
+/// How two tables are joined: which rows there are, and what the header has.
+#[derive(Clone, Copy, Debug)]
+pub struct Joining<'a> {
+    pub kind: Kind,
+    pub names: JoinNames<'a>,
+}
+
+impl Joining<'static> {
+    /// A join of this kind with plain names.
+    pub fn of(kind: Kind) -> Self {
+        Joining {
+            kind,
+            names: JoinNames::PLAIN,
+        }
+    }
+}
+
 /// Whether what a person reads in a terminal has colours.
 #[derive(Clone, Copy, Debug)]
 pub enum Colours {
@@ -201,7 +238,7 @@ pub enum Request<'a> {
     Join {
         left: &'a str,
         right: &'a str,
-        kind: Kind,
+        how: Joining<'a>,
     },
 }
 
@@ -218,7 +255,7 @@ pub enum SortedRequest<'a> {
     Join {
         left: &'a str,
         right: &'a str,
-        kind: Kind,
+        how: Joining<'a>,
     },
 }
 

@@ -47,6 +47,11 @@ impl<R> Source<R> {
     pub fn names(&self) -> &Cells {
         &self.header.names
     }
+
+    /// In a table of changes, the names of the columns that go.
+    pub fn gone(&self) -> &Cells {
+        &self.header.gone
+    }
 }
 
 impl<R: Read + Drop> Source<R> {

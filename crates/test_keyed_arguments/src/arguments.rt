@@ -2,7 +2,7 @@
 
 use keyed_arguments::{ParseError, parse};
 use keyed_files::Colours::{Off, On};
-use keyed_files::{Colours, Command, Layout};
+use keyed_files::{Colours, Command, JoinNames, Layout};
 use std::alloc::{AllocError, Global};
 use std::test::Fail;
 
@@ -23,15 +23,29 @@ fn asked(alloc: Global, line: &str, terminal: Colours) -> Result<String, AllocEr
         Ok(Command::Whole { settings, request }) => {
             let (keeps_order, groups) = (settings.keeps_order as u8, settings.groups as u8);
             let layout = show_layout(alloc, settings.layout())?;
-            format!(in alloc; "{layout}, {keeps_order}, {groups}, 0] {request:?}")
+            let request = without_names(alloc, &format!(in alloc; "{request:?}")?)?;
+            format!(in alloc; "{layout}, {keeps_order}, {groups}, 0] {request}")
         }
         Ok(Command::Sorted { layout, request }) => {
             let layout = show_layout(alloc, layout)?;
-            format!(in alloc; "{layout}, 0, 0, 1] {request:?}")
+            let request = without_names(alloc, &format!(in alloc; "{request:?}")?)?;
+            format!(in alloc; "{layout}, 0, 0, 1] {request}")
         }
         Err(ParseError::Words(error)) if error.use_stderr() => "wrong".to_string(alloc),
         Err(ParseError::Words(_)) => "a text".to_string(alloc),
         Err(error) => format!(in alloc; "{error}"),
+    }
+}
+
+// A request with the kind of its join in place of all that says how tables are joined, where its names are plain.
+fn without_names(alloc: Global, request: &str) -> Result<String, AllocError> {
+    let plain = format!(in alloc; ", names: {:?} }}", JoinNames::PLAIN)?;
+    match request.split_once(plain.as_str()) {
+        Some((before, behind)) => match before.split_once("how: Joining { kind: ") {
+            Some((start, kind)) => format!(in alloc; "{start}{kind}{behind}"),
+            None => request.to_string(alloc),
+        },
+        None => request.to_string(alloc),
     }
 }
 
@@ -67,12 +81,12 @@ static REQUESTS: [Asked; 14] = [
     ("diff - b --format csv",   On,  r#"',' None [1, 0, 0, 0] Diff { old: "-", new: "b", format: Csv }"#),
     ("apply a b",               On,  r#"',' None [1, 0, 0, 0] Apply { old: "a", changes: "b" }"#),
     ("merge a b c",             On,  r#"',' None [1, 0, 0, 0] Merge { base: "a", ours: "b", theirs: "c" }"#),
-    ("join a b",                On,  r#"',' None [1, 0, 0, 0] Join { left: "a", right: "b", kind: Outer }"#),
-    ("join a b --kind inner",   On,  r#"',' None [1, 0, 0, 0] Join { left: "a", right: "b", kind: Inner }"#),
-    ("join a b --kind left",    On,  r#"',' None [1, 0, 0, 0] Join { left: "a", right: "b", kind: Left }"#),
-    ("join a b --kind right",   On,  r#"',' None [1, 0, 0, 0] Join { left: "a", right: "b", kind: Right }"#),
-    ("join a b --kind semi",    On,  r#"',' None [1, 0, 0, 0] Join { left: "a", right: "b", kind: Semi }"#),
-    ("join --kind=anti a b",    On,  r#"',' None [1, 0, 0, 0] Join { left: "a", right: "b", kind: Anti }"#),
+    ("join a b",                On,  r#"',' None [1, 0, 0, 0] Join { left: "a", right: "b", Outer }"#),
+    ("join a b --kind inner",   On,  r#"',' None [1, 0, 0, 0] Join { left: "a", right: "b", Inner }"#),
+    ("join a b --kind left",    On,  r#"',' None [1, 0, 0, 0] Join { left: "a", right: "b", Left }"#),
+    ("join a b --kind right",   On,  r#"',' None [1, 0, 0, 0] Join { left: "a", right: "b", Right }"#),
+    ("join a b --kind semi",    On,  r#"',' None [1, 0, 0, 0] Join { left: "a", right: "b", Semi }"#),
+    ("join --kind=anti a b",    On,  r#"',' None [1, 0, 0, 0] Join { left: "a", right: "b", Anti }"#),
 ];
 
 /// A command takes its files in order, and what it is asked to write.
@@ -88,19 +102,42 @@ static SETTINGS: [Asked; 11] = [
     ("apply a b --delimiter ;",         On,  r#"';' None [1, 0, 0, 0] Apply { old: "a", changes: "b" }"#),
     ("merge a b c --no-header",         On,  r#"',' None [0, 0, 0, 0] Merge { base: "a", ours: "b", theirs: "c" }"#),
     ("merge a b c --keep-order",        On,  r#"',' None [1, 1, 0, 0] Merge { base: "a", ours: "b", theirs: "c" }"#),
-    ("join a b --group",                On,  r#"',' None [1, 0, 1, 0] Join { left: "a", right: "b", kind: Outer }"#),
-    ("join a b --sorted",               On,  r#"',' None [1, 0, 0, 1] Join { left: "a", right: "b", kind: Outer }"#),
+    ("join a b --group",                On,  r#"',' None [1, 0, 1, 0] Join { left: "a", right: "b", Outer }"#),
+    ("join a b --sorted",               On,  r#"',' None [1, 0, 0, 1] Join { left: "a", right: "b", Outer }"#),
     ("diff a b --format csv --sorted",  On,  r#"',' None [1, 0, 0, 1] Diff { old: "a", new: "b" }"#),
-    ("join a b --kind semi --sorted",   On,  r#"',' None [1, 0, 0, 1] Join { left: "a", right: "b", kind: Semi }"#),
-    ("join --kind=anti a b --key id,x", On,  r#"',' Some("id,x") [1, 0, 0, 0] Join { left: "a", right: "b", kind: Anti }"#),
+    ("join a b --kind semi --sorted",   On,  r#"',' None [1, 0, 0, 1] Join { left: "a", right: "b", Semi }"#),
+    ("join --kind=anti a b --key id,x", On,  r#"',' Some("id,x") [1, 0, 0, 0] Join { left: "a", right: "b", Anti }"#),
     ("join --group a --keep-order --no-header --delimiter=| b --key=2",
-                                        On,  r#"'|' Some("2") [0, 1, 1, 0] Join { left: "a", right: "b", kind: Outer }"#),
+                                        On,  r#"'|' Some("2") [0, 1, 1, 0] Join { left: "a", right: "b", Outer }"#),
 ];
 
 /// Each option sets what it says, and nothing else.
 #[test]
 fn option_sets_what_it_says(rt: HostRuntime) -> Result<(), Fail> {
     expect(&rt, &SETTINGS)
+}
+
+const NO_PREFIX: &str = "keyed: --prefix: not two texts with a comma between them\n";
+
+#[rattlefmt::skip]
+static NAMES: [Asked; 8] = [
+    ("join a b --prefix l_,r_", On,
+        r#"',' None [1, 0, 0, 0] Join { left: "a", right: "b", how: Joining { kind: Outer, names: JoinNames { left: "l_", right: "r_", side: "side" } } }"#),
+    ("join a b --prefix=,r --kind left --sorted", On,
+        r#"',' None [1, 0, 0, 1] Join { left: "a", right: "b", how: Joining { kind: Left, names: JoinNames { left: "", right: "r", side: "side" } } }"#),
+    ("join a b --side where", On,
+        r#"',' None [1, 0, 0, 0] Join { left: "a", right: "b", how: Joining { kind: Outer, names: JoinNames { left: "left.", right: "right.", side: "where" } } }"#),
+    ("join a b --prefix l_",      On, NO_PREFIX),
+    ("join a b --prefix l,m,r",   On, NO_PREFIX),
+    ("diff a b --prefix l_,r_",   On, "wrong"),
+    ("merge a b c --side where",  On, "wrong"),
+    ("join a b --side",           On, "wrong"),
+];
+
+/// What the header of a join has is what the options say.
+#[test]
+fn option_names_what_a_join_has(rt: HostRuntime) -> Result<(), Fail> {
+    expect(&rt, &NAMES)
 }
 
 const NO_DELIMITER: &str = "keyed: --delimiter: not one byte that may stand between cells\n";

@@ -1,7 +1,8 @@
 //! Tests: columns of the key, columns that one table alone has, and tables with no header.
 
 use crate::commands::{
-    COMMANDS, Command, HEADLESS, PLAIN, TEXT, asked, compared, expect, expect_fault, merged, under,
+    COMMANDS, Command, HEADLESS, PLAIN, TEXT, answered, asked, compared, expect, expect_fault,
+    merged, under,
 };
 use std::test::Fail;
 
@@ -13,9 +14,9 @@ const PAIRS: &[u8] = b"v,id,name\nx,1,a\ny,1,b\nz,2,a\n";
 
 const OTHER_PAIRS: &[u8] = b"name,v,id\na,x,1\nb,w,1\nb,u,2\n";
 
-const PAIR_CHANGES: &[u8] = b"change,v,id,name\n-,y,1,b\n+,w,1,b\n-,z,2,a\n+,u,2,b\n";
+const PAIR_CHANGES: &[u8] = b"change,name,v,id\n-,b,y,1\n+,b,w,1\n-,a,z,2\n+,b,u,2\n";
 
-const PAIRS_MADE: &[u8] = b"v,id,name\nx,1,a\nw,1,b\nu,2,b\n";
+const PAIRS_MADE: &[u8] = b"name,v,id\na,x,1\nb,w,1\nb,u,2\n";
 
 const PAIRS_JOINED: &[u8] =
     b"side,id,name,left.v,right.v\nboth,1,a,x,x\nboth,1,b,y,w\nleft,2,a,z,\nright,2,b,,u\n";
@@ -90,14 +91,14 @@ const LONE: &[u8] = b"x,id,y,a,z\nx1,1,y1,p,z1\nx2,2,y2,q,z2\n";
 
 const OTHER_LONE: &[u8] = b"u,a,v,id,w\nu1,p,v1,1,w1\nu3,r,v3,3,w3\n";
 
-const LONE_CHANGES: &[u8] = b"change,x,id,y,a,z,u,v,w
--,x1,1,y1,p,z1,,,
-+,,1,,p,,u1,v1,w1
--,x2,2,y2,q,z2,,,
-+,,3,,r,,u3,v3,w3
+const LONE_CHANGES: &[u8] = b"change,+u,a,+v,id,+w,-x,-y,-z
+-,,p,,1,,x1,y1,z1
++,u1,p,v1,1,w1,,,
+-,,q,,2,,x2,y2,z2
++,u3,r,v3,3,w3,,,
 ";
 
-const LONE_MADE: &[u8] = b"x,id,y,a,z,u,v,w\n,1,,p,,u1,v1,w1\n,3,,r,,u3,v3,w3\n";
+const LONE_MADE: &[u8] = b"u,a,v,id,w\nu1,p,v1,1,w1\nu3,r,v3,3,w3\n";
 
 const LONE_JOINED: &[u8] = b"side,id,x,y,left.a,z,u,right.a,v,w
 both,1,x1,y1,p,z1,u1,p,v1,w1
@@ -119,7 +120,8 @@ const LONE_CASES: [Case; 6] = [
     (Command::SortedJoin, [LONE, OTHER_LONE, b""], 0, LONE_JOINED),
 ];
 
-/// A column that one table alone has keeps its cells, wherever it stands, and has empty cells in the rows of the other.
+/// A column that one table alone has keeps its cells, wherever it stands, and has empty cells in the rows of the other. What changes make,
+/// and what is merged, has the columns of the new table.
 #[test]
 fn columns_of_one_table_keep_their_cells(rt: HostRuntime) -> Result<(), Fail> {
     for (command, inputs, status, wanted) in LONE_CASES {
@@ -138,9 +140,9 @@ fn columns_of_one_table_are_changes(rt: HostRuntime) -> Result<(), Fail> {
     let inputs: [&[u8]; 3] = [b"id,a\n1,p\n", b"id,b,a\n1,,p\n", b""];
     let [first, next, _] = inputs;
     for command in [Command::Diff, Command::SortedDiff] {
-        let wanted = b"change,id,a,b\n";
+        let wanted = b"change,id,+b,a\n";
         expect(asked(rt.alloc(), PLAIN, command, inputs), 1, wanted)?;
-        let wanted = b"change,id,b,a\n";
+        let wanted = b"change,id,a,-b\n";
         expect(
             asked(rt.alloc(), PLAIN, command, [next, first, b""]),
             1,
@@ -160,30 +162,125 @@ fn columns_of_one_table_are_changes(rt: HostRuntime) -> Result<(), Fail> {
 type Merge = [&'static [u8]; 4];
 
 #[rattlefmt::skip]
-const MERGES: [Merge; 6] = [
+const MERGES: [Merge; 8] = [
     // Theirs has a column of its own.
     [b"id,a\n1,p\n2,q\n3,r\n", b"id,a\n1,p\n2,w\n3,r\n", b"id,t,a\n1,n,p\n2,,q\n3,,r\n4,m,s\n",
-        b"id,a,t\n1,p,n\n2,w,\n3,r,\n4,s,m\n"],
+        b"id,t,a\n1,n,p\n2,,w\n3,,r\n4,m,s\n"],
     // Ours has.
     [b"id,a\n1,p\n2,q\n3,r\n", b"id,t,a\n1,n,p\n2,,q\n3,,r\n4,m,s\n", b"id,a\n1,p\n2,w\n3,r\n",
-        b"id,a,t\n1,p,n\n2,w,\n3,r,\n4,s,m\n"],
-    // The base has.
-    [b"id,b,a\n1,,p\n2,,q\n", b"id,a\n1,w\n2,q\n", b"id,a\n1,p\n2,v\n", b"id,b,a\n1,,w\n2,,v\n"],
-    // Ours lacks one.
-    [b"id,a,b\n1,,x\n2,,y\n", b"id,b\n1,x\n2,z\n", b"b,id,a\nx,1,k\ny,2,\n", b"id,a,b\n1,k,x\n2,,z\n"],
-    // Theirs lacks one.
-    [b"id,a,b\n1,,x\n2,,y\n", b"b,id,a\nx,1,k\ny,2,\n", b"id,b\n1,x\n2,z\n", b"id,a,b\n1,k,x\n2,,z\n"],
-    // Each lacks two.
-    [b"id,a\n1,\n2,\n3,\n", b"id,o\n1,u\n2,\n3,\n", b"id,t\n1,\n2,v\n3,\n", b"id,a,o,t\n1,,u,\n2,,,v\n3,,,\n"],
+        b"id,t,a\n1,n,p\n2,,w\n3,,r\n4,m,s\n"],
+    // The base alone has one, which both dropped.
+    [b"id,b,a\n1,z,p\n2,,q\n", b"id,a\n1,p\n2,w\n", b"id,a\n1,p\n2,q\n", b"id,a\n1,p\n2,w\n"],
+    // Ours dropped one, and theirs moved the others.
+    [b"id,a,b\n1,,x\n2,u,y\n", b"id,b\n1,x\n2,z\n", b"b,id,a\nw,1,\ny,2,u\n", b"b,id\nw,1\nz,2\n"],
+    // Theirs dropped one, and ours moved the others.
+    [b"id,a,b\n1,,x\n2,u,y\n", b"b,id,a\nw,1,\ny,2,u\n", b"id,b\n1,x\n2,z\n", b"b,id\nw,1\nz,2\n"],
+    // Both dropped one, and each has one of its own.
+    [b"id,a\n1,\n2,\n3,\n", b"id,o\n1,u\n2,\n3,\n", b"id,t\n1,\n2,v\n3,\n", b"id,o,t\n1,u,\n2,,v\n3,,\n"],
+    // Both moved columns: they stand as in ours.
+    [b"id,a,b\n1,p,q\n", b"a,id,b\np,1,q\n", b"id,b,a\n1,q,r\n", b"a,id,b\nr,1,q\n"],
+    // Each put one between the others.
+    [b"id,a\n1,p\n", b"id,o,a\n1,u,p\n", b"t,id,a\n,1,p\n", b"id,o,a,t\n1,u,p,\n"],
 ];
 
-/// Three versions that lack columns of one another are merged under all of them, in the order of base, ours and theirs.
+/// Columns are merged as rows are: one that a side dropped is dropped, one that a side put there is there, and they stand as in the side
+/// that moved them, or as in ours.
 #[test]
 fn versions_with_other_columns_are_merged(rt: HostRuntime) -> Result<(), Fail> {
     for [base, ours, theirs, wanted] in MERGES {
         expect(merged(rt.alloc(), PLAIN, base, ours, theirs), 0, wanted)?;
     }
     Ok(())
+}
+
+// Changes and a table that they do not fit, or versions, of which a column goes that has cells; and what is said of them.
+const LOST_CHANGES: &[u8] = b"change,id,a,-b\n-,1,x,y\n+,1,x,\n";
+
+const LOST_OLD: &[u8] = b"id,a,b\n1,x,y\n2,u,\n3,v,w\n";
+
+const LOST: &[u8] =
+    b"column b goes, and has cells in these rows\n       id  a  b\ntable  3   v  w\n";
+
+const LOST_MERGES: [[&[u8]; 4]; 2] = [
+    // Theirs dropped a column that has a cell in a row of ours alone.
+    [
+        b"id,a,b\n1,x,y\n",
+        b"id,a,b\n1,x,y\n2,u,v\n",
+        b"id,a\n1,x\n",
+        b"column b goes, and has cells in these rows\n        id  a  b\nmerged  2   u  v\n",
+    ],
+    // Ours dropped one in which theirs changed an empty cell.
+    [
+        b"id,a,b\n1,,x\n2,,y\n",
+        b"id,b\n1,x\n2,z\n",
+        b"id,a,b\n1,k,x\n2,,y\n",
+        b"column a goes, and has cells in these rows\n        id  b  a\nmerged  1   x  k\n",
+    ],
+];
+
+/// A column does not go with cells in it that no change takes: the rows that have them are shown, and no table.
+#[test]
+fn cells_of_columns_that_go_are_not_lost(rt: HostRuntime) -> Result<(), Fail> {
+    let inputs = [LOST_OLD, LOST_CHANGES, b""];
+    expect(asked(rt.alloc(), PLAIN, Command::Apply, inputs), 1, LOST)?;
+    for [base, ours, theirs, wanted] in LOST_MERGES {
+        expect(merged(rt.alloc(), PLAIN, base, ours, theirs), 1, wanted)?;
+    }
+    Ok(())
+}
+
+// Tables that gain, lose and move columns, with names that begin with the marks of columns.
+const TABLES: [&[u8]; 8] = [
+    b"id,a,b\n1,p,q\n2,r,\n",
+    b"id,b,a\n1,q,p\n3,,s\n",
+    b"b,id\nq,1\n,2\n",
+    b"id,a,b,c\n1,p,q,\n2,r,,\n",
+    b"c,-a,id,+b,=,b\n,m,1,n,o,q\nu,,2,,,\n",
+    b"=,+b,id,-a\n,,1,m\n",
+    b"--a,id,=-a,-\nx,1,y,z\n",
+    b"id\n1\n2\n3\n",
+];
+
+/// What `diff` gives of two tables, made to the first, is the second, byte by byte, whatever became of columns; in parts too.
+#[test]
+fn changes_carry_what_became_of_columns(rt: HostRuntime) -> Result<(), Fail> {
+    let alloc = rt.alloc();
+    let settings = under("id");
+    for old in TABLES {
+        for new in TABLES {
+            for command in [Command::Diff, Command::SortedDiff] {
+                let changes = answered(asked(alloc, settings, command, [old, new, b""]))?;
+                let inputs = [old, changes.bytes.as_slice(), b""];
+                expect(asked(alloc, settings, Command::Apply, inputs), 0, new)?;
+            }
+        }
+    }
+    Ok(())
+}
+
+// A name that begins with a mark, in each of the fates.
+const MARKED_OLD: &[u8] = b"id,-a,+b,c\n1,p,q,r\n";
+
+const MARKED_NEW: &[u8] = b"id,+b,-d,=e\n1,q,s,\n";
+
+const MARKED: &[u8] = b"change,id,=+b,+-d,+=e,--a,-c\n-,1,q,,,p,r\n+,1,q,s,,,\n";
+
+/// The header of changes has `-` before the name of a column that goes, `+` before one that comes, and `=` before one that stays and whose
+/// name begins with one of the three.
+#[test]
+fn columns_of_changes_are_marked(rt: HostRuntime) -> Result<(), Fail> {
+    let inputs = [MARKED_OLD, MARKED_NEW, b""];
+    for command in [Command::Diff, Command::SortedDiff] {
+        expect(asked(rt.alloc(), PLAIN, command, inputs), 1, MARKED)?;
+    }
+    let alloc = rt.alloc();
+    let lost: [&[u8]; 3] = [b"id,a\n", b"change,-id,a\n", b""];
+    let outcome = asked(alloc, PLAIN, Command::Apply, lost);
+    expect_fault(
+        alloc,
+        outcome,
+        "changes: line 1: no column id; there are id, a",
+    )
 }
 
 const ROWS: &[u8] = b"1,p\n2,q\n";

@@ -1,7 +1,7 @@
 //! Each command on tables that are texts, and on readers and writers. What the tests know of the calls of `keyed_commands` stands here.
 
 use keyed_commands::{
-    Answer, Colours, Delimiter, Fault, Form, Format, Kind, Reading, Request, Settings,
+    Answer, Colours, Delimiter, Fault, Form, Format, Joining, Kind, Reading, Request, Settings,
     SortedRequest, Stream, apply, at, diff, diff_sorted, join, join_sorted, merge, stream_request,
     write_request, write_whole,
 };
@@ -134,7 +134,7 @@ impl Command {
             Command::Join | Command::SortedJoin => Request::Join {
                 left: first,
                 right: next,
-                kind: Kind::Outer,
+                how: Joining::of(Kind::Outer),
             },
         }
     }
@@ -174,11 +174,21 @@ pub fn write_answer<'a, R: Read + Drop, W: Write>(
         }
         Command::Join => {
             let (left, right) = (named("left", old), named("right", new));
-            write_whole_answer(join(alloc, settings, Kind::Outer, left, right), output)
+            write_whole_answer(
+                join(alloc, settings, Joining::of(Kind::Outer), left, right),
+                output,
+            )
         }
         Command::SortedJoin => {
             let (left, right) = (named("left", old), named("right", new));
-            join_sorted(alloc, settings.layout(), Kind::Outer, left, right, output)
+            join_sorted(
+                alloc,
+                settings.layout(),
+                Joining::of(Kind::Outer),
+                left,
+                right,
+                output,
+            )
         }
     }
 }
@@ -222,7 +232,7 @@ pub fn write_answer_of_files<'a, R: Files + Input + AllocGlobal, W: Write>(
             let request = SortedRequest::Join {
                 left: first,
                 right: next,
-                kind: Kind::Outer,
+                how: Joining::of(Kind::Outer),
             };
             stream_request(rt, settings.layout(), request, output)
         }
@@ -312,7 +322,7 @@ pub fn joined<'a>(
     right: &[u8],
 ) -> Result<Answer, Fault<'a>> {
     let (left, right) = (stream("left", left), stream("right", right));
-    join(alloc, settings, kind, left, right)
+    join(alloc, settings, Joining::of(kind), left, right)
 }
 
 /// The answer to `join` of sorted tables.
@@ -325,7 +335,14 @@ pub fn joined_in_parts<'a>(
 ) -> Result<Answer, Fault<'a>> {
     let mut bytes = Vec::new(alloc);
     let (left, right) = (stream("left", left), stream("right", right));
-    let status = join_sorted(alloc, settings.layout(), kind, left, right, &mut bytes)?;
+    let status = join_sorted(
+        alloc,
+        settings.layout(),
+        Joining::of(kind),
+        left,
+        right,
+        &mut bytes,
+    )?;
     Ok(Answer { bytes, status })
 }
 

@@ -58,7 +58,7 @@ fn columns_keep_their_names_and_order(rt: HostRuntime) -> Result<(), Fail> {
     };
     let old: &[u8] = b"change,id\nx,1\n";
     let new: &[u8] = b"change,id,more\ny,1,z\n";
-    let changes: &[u8] = b"change,change,id,more\n-,x,1,\n+,y,1,z\n";
+    let changes: &[u8] = b"change,change,id,+more\n-,x,1,\n+,y,1,z\n";
     expect(compared(alloc, settings, Format::Csv, old, new), 1, changes)?;
     expect(applied(alloc, settings, old, changes), 0, new)
 }

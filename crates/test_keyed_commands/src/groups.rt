@@ -129,3 +129,92 @@ fn groups_are_merged(rt: HostRuntime) -> Result<(), Fail> {
         b"id,a\n1,p\n1,q\n1,r\n",
     )
 }
+
+// Groups in an order of their own: with rows that stand twice, and some that one file alone has.
+const FIRST: &[u8] = b"id,a\n2,z\n1,q\n1,p\n1,q\n2,y\n";
+
+const NEXT: &[u8] = b"id,a\n1,s\n1,q\n2,y\n1,p\n1,r\n1,q\n1,q\n2,z\n";
+
+const ORDERED_CHANGES: &[u8] =
+    b"change,id,a\n-,1,q\n-,1,p\n-,1,q\n+,1,q\n+,1,p\n+,1,q\n+,1,s\n+,1,r\n+,1,q\n";
+
+const ORDERED_MADE: &[u8] = b"id,a\n2,z\n2,y\n1,q\n1,p\n1,q\n1,s\n1,r\n1,q\n";
+
+const ORDERED_REPORT: &[u8] =
+    b"       id  a\nadded  1   s\nadded  1   r\nadded  1   q\n3 added, 0 removed, 0 changed, 5 the same\n";
+
+const ORDERED_JOIN: &[u8] = b"id,left.a,right.a\n1,q,p\n1,q,q\n1,p,p\n1,p,q\n";
+
+const ORDERED_MISFITS: &[u8] = b"        id  a
+table   2   z
+table   2   y
+change  2   (no row)
+table   1   q
+table   1   p
+table   1   q
+change  1   q
+change  1   s
+";
+
+const ORDERED_CONFLICTS: &[u8] = b"        id  a
+base    2   z
+ours    2   z
+ours    2   b
+ours    2   a
+theirs  2   z
+theirs  2   c
+";
+
+/// Where rows come out in the order of the files, so do those of a group: those of the first file as they stand there, and then those that it
+/// lacks as they stand in the next.
+#[test]
+fn rows_of_groups_keep_the_order_of_the_files(rt: HostRuntime) -> Result<(), Fail> {
+    let alloc = rt.alloc();
+    let settings = Settings {
+        keeps_order: true,
+        ..GROUPS
+    };
+    let changes = compared(alloc, settings, Format::Csv, FIRST, NEXT);
+    expect(changes, 1, ORDERED_CHANGES)?;
+    expect(
+        applied(alloc, settings, FIRST, ORDERED_CHANGES),
+        0,
+        ORDERED_MADE,
+    )?;
+    expect(merged(alloc, settings, FIRST, FIRST, NEXT), 0, ORDERED_MADE)?;
+    expect(
+        compared(alloc, settings, TEXT, FIRST, NEXT),
+        1,
+        ORDERED_REPORT,
+    )?;
+    let join = joined(
+        alloc,
+        settings,
+        Kind::Inner,
+        b"id,a\n1,q\n1,p\n",
+        b"id,a\n1,p\n1,q\n",
+    );
+    expect(join, 0, ORDERED_JOIN)?;
+    let misfits = b"change,id,a\n+,2,z\n-,1,s\n-,1,q\n";
+    expect(applied(alloc, settings, FIRST, misfits), 1, ORDERED_MISFITS)?;
+    let (ours, theirs) = (b"id,a\n2,z\n2,b\n2,a\n", b"id,a\n2,c\n2,z\n");
+    let conflict = merged(alloc, settings, b"id,a\n2,z\n", ours, theirs);
+    expect(conflict, 1, ORDERED_CONFLICTS)
+}
+
+/// Changes that do not fit are shown in the order of the files too.
+#[test]
+fn misfits_keep_the_order_of_the_files(rt: HostRuntime) -> Result<(), Fail> {
+    let settings = Settings {
+        keeps_order: true,
+        ..PLAIN
+    };
+    let wanted =
+        b"        id  a\ntable   3   x\nchange  3   u\ntable   1   y\nchange  1   v\ntable   2   (no row)\nchange  2   w\n";
+    let changes = b"change,id,a\n-,2,w\n-,1,v\n-,3,u\n";
+    expect(
+        applied(rt.alloc(), settings, b"id,a\n3,x\n1,y\n", changes),
+        1,
+        wanted,
+    )
+}

@@ -25,6 +25,8 @@ mod misfits;
 #[cfg(test)]
 mod repeats;
 #[cfg(test)]
+mod shown;
+#[cfg(test)]
 mod sizes;
 #[cfg(test)]
 mod sorted;

@@ -81,7 +81,7 @@ column b removed
 changed  2   y  z -> \"\"  \"\" -> w
 0 added, 0 removed, 1 changed, 1 the same
 "),
-    (b"id,a\n1,x\n", b"id,a,b\n1,x,\n", Format::Csv, 1, "change,id,a,b\n"),
+    (b"id,a\n1,x\n", b"id,a,b\n1,x,\n", Format::Csv, 1, "change,id,a,+b\n"),
     // Bytes that are no UTF-8 and control characters stand escaped on the line of their row.
     (b"id,a\n1,\"x\ny\"\n", b"id,a\n1,\xff\n", TEXT, 1,
         "         id  a\nchanged  1   \"x\\ny\" -> \"\\xff\"\n0 added, 0 removed, 1 changed, 0 the same\n"),

@@ -35,6 +35,8 @@ static FILES: World = World {
             "id,v\n1,no row\n2,a\n3,a\n4,a\n5,\"\"\"a \"\n6,\"\n\"\n7,-> a\n8,\"\"\"\"\"\"\n9,\n\" b\",\\t\\\\\n",
         ),
         ("bare", "id,v\n"),
+        ("clashes", "id,a,left.a,side\n1,p,q,r\n"),
+        ("clashes too", "a,id\ns,1\n"),
         ("lengths", "id,a,bbb\n1,x,y\n"),
         ("more", "id,aa,cc,bb,dd\n1,x,,y,\n"),
         (
@@ -226,4 +228,29 @@ fn cells_that_differ_look_different(rt: HostRuntime) -> Result<(), Fail> {
 #[test]
 fn columns_that_changed_are_told(rt: HostRuntime) -> Result<(), Fail> {
     expect(rt.alloc(), FILES, &COLUMNS)
+}
+
+#[rattlefmt::skip]
+static NAMES: [Case<'static>; 9] = [
+    ("join|clashes|clashes too", 2, "", "keyed: clashes too: the join has two columns side: give another by --side\n"),
+    ("join|clashes|clashes too|--side|from", 2, "",
+        "keyed: clashes too: the join has two columns left.a: give another by --prefix\n"),
+    ("join|clashes|clashes too|--side|id|--prefix|l_,r_", 2, "",
+        "keyed: clashes too: the join has two columns id: give another by --side\n"),
+    ("join|clashes|clashes too|--side|from|--prefix|l_,r_", 0,
+        "from,id,l_a,left.a,side,r_a\nboth,1,p,q,r,s\n", ""),
+    ("join|clashes|clashes too|--side|from|--prefix|,r_|--sorted", 0,
+        "from,id,a,left.a,side,r_a\nboth,1,p,q,r,s\n", ""),
+    ("join|clashes|clashes too|--kind|inner|--prefix|x,x", 2, "",
+        "keyed: clashes too: the join has two columns xa: give another by --prefix\n"),
+    ("join|clashes|clashes too|--kind|left|--prefix|x,y|--sorted", 0, "id,xa,left.a,side,ya\n1,p,q,r,s\n", ""),
+    ("join|clashes|clashes too|--kind|semi", 0, "id,a,left.a,side\n1,p,q,r\n", ""),
+    ("join|clashes|clashes too|--prefix|x", 2, "", "keyed: --prefix: not two texts with a comma between them\n"),
+];
+
+/// A join has no two columns of one name: what stands before a name and the name of the first column can be chosen, and a clash that is left
+/// is said with its column and the option.
+#[test]
+fn no_two_columns_of_a_join_have_one_name(rt: HostRuntime) -> Result<(), Fail> {
+    expect(rt.alloc(), FILES, &NAMES)
 }
