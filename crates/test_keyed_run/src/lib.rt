@@ -11,6 +11,8 @@ mod faults;
 #[cfg(test)]
 mod inputs;
 #[cfg(test)]
+mod keys_shown;
+#[cfg(test)]
 mod outputs;
 #[cfg(test)]
 mod process;
