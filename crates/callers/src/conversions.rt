@@ -1,5 +1,5 @@
-//! Conversions, by name, by `?` and through the bounds of generic functions.
-ghost use Rattle.std.specs.Prelude.{◌≡◌, Some, Ok, IsErr, ◌↔◌, IsNone, IfOk, unwrap_or};
+//! Conversions, by name and through the bounds of generic functions.
+ghost use Rattle.std.specs.Prelude.{◌≡◌, Some, Ok, IsErr};
 ghost use Rattle.either_or_both.specs.Places.{left_place, right_place};
 ghost use Rattle.either_or_both.specs.Either as either;
 
@@ -41,27 +41,6 @@ pub fn absent_by_bound() -> Result<EitherOrBoth<u8, char>, TryFromOptionsError>
     ensures { IsErr result }
 {
     try_convert((None, None))
-}
-
-/// The errors of a program that meets the refusal.
-#[derive(Debug, PartialEq, Drop)]
-pub enum Fault {
-    NothingThere,
-}
-
-impl From<TryFromOptionsError> for Fault {
-    fn from(_refusal: TryFromOptionsError) -> Fault {
-        Fault::NothingThere
-    }
-}
-
-/// Two optional settings of which one has to be there.
-pub fn settings(user: Option<u8>, system: Option<u8>) -> Result<u8, Fault>
-    ensures ok { IfOk result (λ n. n ≡ unwrap_or user (unwrap_or system 0)) }
-    ensures err { IsErr result ↔ (IsNone user × IsNone system) }
-{
-    let layers = EitherOrBoth::try_from((user, system))?;
-    Ok(layers.reduce(|user, _| user))
 }
 
 /// A value read as one that may have both places, through a bound.

@@ -1,29 +1,24 @@
 //! What users of joined tables wanted to know of them: by a law that is called with the rows, or before them. A join of one's own stands
 //! in a function that says what its rows are; who calls that function calls the law.
-ghost use Rattle.std.specs.Prelude.{◌≡◌, ◌+◌, ◌<◌, ◌^◌, [], ◌∷◌, IfOk, List, Some, length, map};
-ghost use Rattle.std.specs.Prelude.{nat_eq, option_map, sum_by, true};
-ghost use Rattle.std.specs.Option.{option_and_then, option_eq};
-ghost use Rattle.std.specs.Prelude.{string_cmp};
-ghost use Rattle.std.specs.HashMap.{get_by};
-ghost use Rattle.either_or_both.specs.Places.{from_places, left_place, right_place};
+ghost use Rattle.std.specs.Prelude.{◌≡◌, ◌+◌, [], ◌∷◌, IfOk, Some, map};
+ghost use Rattle.std.specs.Prelude.{option_map, sum_by, true};
+ghost use Rattle.std.specs.Option.{option_eq};
+ghost use Rattle.either_or_both.specs.Places.{left_place};
 ghost use Rattle.either_or_both.specs.Order.{places_eq};
-ghost use Rattle.either_or_both.specs.Join.{IsJoin, Rising, value_under};
+ghost use Rattle.either_or_both.specs.Join.{Rising, value_under};
 ghost use Rattle.eob_joins.specs.Laws.{added, doubled};
 ghost use Rattle.eob_joins.specs.Layers.{topmost};
 ghost use Rattle.eob_joins.specs.Lookup.{shown_lookup, with_found};
-ghost use Rattle.eob_joins.specs.Versions.{IsMergeByKey};
-ghost use Rattle.eob_joins.specs.Tables.{AlikeRows, IsInnerJoin, IsKeptByKey, IsKeptOfJoin, SameRows, Tabulates, kept};
+ghost use Rattle.eob_joins.specs.Tables.{AlikeRows, IsKeptOfJoin, SameRows};
 
 use either_or_both::EitherOrBoth;
-use either_or_both::join::{outer_join, outer_join_lazily, outer_join_maps};
+use either_or_both::join::{outer_join, outer_join_lazily};
 use eob_joins::{
-    Layered, Lookup, LookupRow, Merged, apply, diff, law_alike_rows, law_changed_alike,
-    law_join_copy, law_join_right_rows, law_join_self_rows, law_join_sum, law_kept_join,
-    law_left_nested_join, law_right_nested_join, law_same_rows, lookup_join, lookup_join_lazily,
-    merge_version_maps, overlay_maps,
+    Layered, Lookup, LookupRow, apply, diff, law_changed_alike, law_join_copy, law_join_self_rows,
+    law_join_sum, law_kept_join, lookup_join, overlay_maps,
 };
 use std::alloc::{AllocError, Global};
-use std::collections::{BTreeMap, HashMap};
+use std::collections::BTreeMap;
 
 // The row of a left value.
 fn row_of<K: Drop>(row: (K, EitherOrBoth<u32, u32>)) -> Option<(K, u32)>
@@ -52,21 +47,6 @@ fn rows_of<K: Ord + Drop>(
         .collect(alloc)
 }
 
-/// What is kept of a join is a table: its keys rise, and under each key stands what is kept of the two look-ups.
-pub fn kept_table<K: Ord + Drop>(
-    alloc: Global,
-    left: Vec<(K, u32)>,
-    right: Vec<(K, u32)>,
-) -> Result<Vec<(K, u32)>, AllocError>
-    requires left { Rising K.cmp left.items }
-    requires right { Rising K.cmp right.items }
-    ensures { IfOk result (λ rows. IsKeptByKey K.cmp left_place left.items right.items rows.items) }
-{
-    let rows = rows_of(alloc, left, right)?;
-    law_kept_join::<K, u32, u32, u32>(&rows);
-    Ok(rows)
-}
-
 /// The keys of what is kept of a join rise, so that it may be joined again.
 pub fn kept_rises<K: Ord + Drop>(
     alloc: Global,
@@ -80,39 +60,6 @@ pub fn kept_rises<K: Ord + Drop>(
     let rows = rows_of(alloc, left, right)?;
     law_kept_join::<K, u32, u32, u32>(&rows);
     Ok(rows)
-}
-
-/// Under each key of what is kept of a join stands what is kept of the two look-ups.
-pub fn kept_values<K: Ord + Drop>(
-    alloc: Global,
-    left: Vec<(K, u32)>,
-    right: Vec<(K, u32)>,
-) -> Result<Vec<(K, u32)>, AllocError>
-    requires left { Rising K.cmp left.items }
-    requires right { Rising K.cmp right.items }
-    ensures { IfOk result (λ rows. (k : _) → value_under K.cmp rows.items k
-        ≡ option_and_then left_place
-        (from_places (value_under K.cmp left.items k) (value_under K.cmp right.items k))) }
-{
-    let rows = rows_of(alloc, left, right)?;
-    law_kept_join::<K, u32, u32, u32>(&rows);
-    Ok(rows)
-}
-
-// Three tables joined, the first with the join of the others.
-fn joined_to_right<K: Ord + Drop, A: Drop, B: Drop, C: Drop>(
-    alloc: Global,
-    first: Vec<(K, A)>,
-    second: Vec<(K, B)>,
-    third: Vec<(K, C)>,
-) -> Result<Vec<(K, EitherOrBoth<A, EitherOrBoth<B, C>>)>, AllocError>
-    requires first { Rising K.cmp first.items }
-    requires second { Rising K.cmp second.items }
-    requires third { Rising K.cmp third.items }
-    ensures { IfOk result (λ rows. (others : _) × IsJoin K.cmp second.items third.items others
-        × IsJoin K.cmp first.items others rows.items) }
-{
-    outer_join_lazily(first, outer_join_lazily(second, third)).collect(alloc)
 }
 
 // A row of a join of counts, with its counts added.
@@ -204,14 +151,7 @@ pub fn patched_texts<K: Ord + Drop>(
     Ok(rows)
 }
 
-/// How many keys two maps have together.
-pub fn count_keys(left: &BTreeMap<u32, String>, right: &BTreeMap<u32, u8>) -> usize
-    requires { length left.now.entries + length right.now.entries < 2 ^ 64 }
-{
-    outer_join_maps(left, right).count()
-}
-
-/// The same at once, of any map.
+/// Each item of a list with what a map has under its key, of any map.
 pub fn rows_with_values<'a, K: Drop, A: Drop, R: Lookup<K>>(
     alloc: Global,
     left: Vec<(K, A)>,
@@ -235,16 +175,4 @@ pub fn three_layers<K: Ord + Drop, V: Drop>(
     let layers = vec![in alloc; lowest, middle, highest]?;
     let rows = overlay_maps(alloc, layers)?;
     Ok(rows)
-}
-
-/// Three ordered maps merged: what the merge has under each key.
-pub fn merged_maps<K: Ord + Drop, V: Eq + Drop>(
-    alloc: Global,
-    base: BTreeMap<K, V>,
-    ours: BTreeMap<K, V>,
-    theirs: BTreeMap<K, V>,
-) -> Result<Merged<K, V>, AllocError>
-    ensures { IfOk result (λ m. IsMergeByKey K.cmp V.eq base.entries ours.entries theirs.entries m) }
-{
-    merge_version_maps(alloc, base, ours, theirs)
 }

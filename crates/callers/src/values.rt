@@ -42,13 +42,6 @@ pub fn chain(v: EitherOrBoth<u8, char>) -> EitherOrBoth<u16, char>
     v.left_and_then(|l| EitherOrBoth::Left(l as u16 + 2))
 }
 
-/// Looking at a value gives it back.
-pub fn looked_at(v: EitherOrBoth<u8, u8>) -> EitherOrBoth<u8, u8>
-    ensures { result ≡ v }
-{
-    v.inspect(|_x: &u8| ())
-}
-
 /// The left call comes first: the right one works on what that left of the accumulator.
 pub fn in_turn(v: EitherOrBoth<u8, u8>) -> u32
     ensures { MatchPlaces v (λ l r. result ≡ (20 + l) * 3 + r) (λ l. result ≡ 20 + l) (λ r. result ≡ 30 + r) }
