@@ -46,8 +46,10 @@ fn value(side: Side, key: u32) -> Option<u32> {
     }
 }
 
+type Table = Vec<(u32, u32)>;
+
 // The table, whose keys rise.
-fn table(rt: &impl Abort, alloc: Global, side: Side) -> Result<Vec<(u32, u32)>, Fail>
+fn table(rt: &impl Abort, alloc: Global, side: Side) -> Result<Table, Fail>
     ensures { IfOk result (λ table. Rising nat_cmp table.items) }
 {
     let mut table = Vec::new(alloc);
@@ -61,7 +63,9 @@ fn table(rt: &impl Abort, alloc: Global, side: Side) -> Result<Vec<(u32, u32)>, 
 }
 
 // What the even numbers and the multiples of three have under a key.
-fn places(key: u32) -> (Option<u32>, Option<u32>) {
+type Places = (Option<u32>, Option<u32>);
+
+fn places(key: u32) -> Places {
     (value(Side::Evens, key), value(Side::Threes, key))
 }
 
@@ -76,76 +80,131 @@ fn joined(alloc: Global) -> Result<Vec<(u32, EitherOrBoth<u32, u32>)>, AllocErro
     Ok(rows)
 }
 
-/// A full outer join has each key of either table, made at once, walked, and of slices.
+// A call that joins two tables.
+#[derive(Clone, Copy, Debug)]
+enum Call {
+    Outer,
+    Lazily,
+    Inner,
+    Left,
+    Right,
+    Semi,
+    Anti,
+}
+
+const CALLS: [Call; 7] = [
+    Call::Outer,
+    Call::Lazily,
+    Call::Inner,
+    Call::Left,
+    Call::Right,
+    Call::Semi,
+    Call::Anti,
+];
+
+// What a row of a join has of either table.
+trait Shown {
+    fn shown(self) -> Places;
+}
+
+impl Shown for EitherOrBoth<u32, u32> {
+    fn shown(self) -> Places {
+        self.unzip()
+    }
+}
+
+impl Shown for (u32, u32) {
+    fn shown(self) -> Places {
+        (Some(self.0), Some(self.1))
+    }
+}
+
+impl Shown for (u32, Option<u32>) {
+    fn shown(self) -> Places {
+        (Some(self.0), self.1)
+    }
+}
+
+impl Shown for (Option<u32>, u32) {
+    fn shown(self) -> Places {
+        (self.0, Some(self.1))
+    }
+}
+
+impl Shown for u32 {
+    fn shown(self) -> Places {
+        (Some(self), None)
+    }
+}
+
+// Whether the rows are those that a call is to give, each once and in order.
+fn are_rows<T: Shown + Drop>(call: Call, rows: Vec<(u32, T)>) -> bool {
+    let mut rows = rows.into_iter();
+    for key in 0..KEYS {
+        if let Some(want) = row_of(call, places(key)) {
+            match rows.next() {
+                Some(row) => {
+                    if row.0 != key || row.1.shown() != want {
+                        return false;
+                    }
+                }
+                None => return false,
+            }
+        }
+    }
+    rows.next().is_none()
+}
+
+// What a join shows of what both tables have under a key, if it has a row there.
+fn row_of(call: Call, places: Places) -> Option<Places> {
+    let (left, right) = (places.0.is_some(), places.1.is_some());
+    let has_row = match call {
+        Call::Outer | Call::Lazily => left || right,
+        Call::Inner | Call::Semi => left && right,
+        Call::Left => left,
+        Call::Right => right,
+        Call::Anti => left && !right,
+    };
+    match call {
+        _ if !has_row => None,
+        Call::Semi | Call::Anti => Some((places.0, None)),
+        _ => Some(places),
+    }
+}
+
+// Whether a call gives its rows of two tables.
+fn gives_rows(alloc: Global, call: Call, left: Table, right: Table) -> Result<bool, AllocError>
+    requires left { Rising nat_cmp left.items }
+    requires right { Rising nat_cmp right.items }
+{
+    Ok(match call {
+        Call::Outer => are_rows(call, outer_join(alloc, left, right)?),
+        Call::Lazily => are_rows(call, outer_join_lazily(left, right).collect(alloc)?),
+        Call::Inner => are_rows(call, inner_join(alloc, left, right)?),
+        Call::Left => are_rows(call, left_join(alloc, left, right)?),
+        Call::Right => are_rows(call, right_join(alloc, left, right)?),
+        Call::Semi => are_rows(call, semi_join(alloc, left, right)?),
+        Call::Anti => are_rows(call, anti_join(alloc, left, right)?),
+    })
+}
+
+/// Each join has each key of the tables that it is of, made at once, walked, and of slices.
 #[test]
-fn outer_joins_have_every_row(rt: HostRuntime) -> Result<(), Fail> {
+fn joins_have_every_row(rt: HostRuntime) -> Result<(), Fail> {
     let alloc = rt.alloc();
-    let want = joined(alloc)?;
+    for call in CALLS {
+        let left = table(&rt, alloc, Side::Evens)?;
+        let right = table(&rt, alloc, Side::Threes)?;
+        assert!(rt; gives_rows(alloc, call, left, right)?, "{call:?}");
+    }
     let left = table(&rt, alloc, Side::Evens)?;
     let right = table(&rt, alloc, Side::Threes)?;
     let mut rows = outer_join_slices(&left, &right);
+    let want = joined(alloc)?;
     for (key, row) in &want {
         assert!(rt; rows.next() == Some((key, row.as_ref())));
     }
     assert!(rt; rows.next().is_none());
-    let lazily = outer_join_lazily(left, right).collect::<Vec<_>>(alloc)?;
-    assert!(rt; lazily == want);
-    let left = table(&rt, alloc, Side::Evens)?;
-    let right = table(&rt, alloc, Side::Threes)?;
-    assert!(rt; outer_join(alloc, left, right)? == want);
-    Ok(())
-}
-
-/// An inner, a semi and an anti join have each key of both tables, and of the left one alone.
-#[test]
-fn inner_semi_and_anti_join_have_every_row(rt: HostRuntime) -> Result<(), Fail> {
-    let alloc = rt.alloc();
-    let mut inner = Vec::new(alloc);
-    let mut semi = Vec::new(alloc);
-    let mut anti = Vec::new(alloc);
-    for key in 0..KEYS {
-        match places(key) {
-            (Some(a), Some(b)) => {
-                inner.push((key, (a, b)))?;
-                semi.push((key, a))?;
-            }
-            (Some(a), None) => anti.push((key, a))?,
-            (None, _) => {}
-        }
-    }
-    let left = table(&rt, alloc, Side::Evens)?;
-    let right = table(&rt, alloc, Side::Threes)?;
-    assert!(rt; inner_join(alloc, left, right)? == inner);
-    let left = table(&rt, alloc, Side::Evens)?;
-    let right = table(&rt, alloc, Side::Threes)?;
-    assert!(rt; semi_join(alloc, left, right)? == semi);
-    let left = table(&rt, alloc, Side::Evens)?;
-    let right = table(&rt, alloc, Side::Threes)?;
-    assert!(rt; anti_join(alloc, left, right)? == anti);
-    Ok(())
-}
-
-/// A left and a right join have each key of their table.
-#[test]
-fn left_and_right_join_have_every_row(rt: HostRuntime) -> Result<(), Fail> {
-    let alloc = rt.alloc();
-    let mut lefts = Vec::new(alloc);
-    let mut rights = Vec::new(alloc);
-    for key in 0..KEYS {
-        let (a, b) = places(key);
-        if let Some(a) = a {
-            lefts.push((key, (a, b)))?;
-        }
-        if let Some(b) = b {
-            rights.push((key, (a, b)))?;
-        }
-    }
-    let left = table(&rt, alloc, Side::Evens)?;
-    let right = table(&rt, alloc, Side::Threes)?;
-    assert!(rt; left_join(alloc, left, right)? == lefts);
-    let left = table(&rt, alloc, Side::Evens)?;
-    let right = table(&rt, alloc, Side::Threes)?;
-    assert!(rt; right_join(alloc, left, right)? == rights);
     Ok(())
 }
 
@@ -176,35 +235,42 @@ fn versions(key: u32) -> Option<Versions<u32>> {
     EitherOrBoth::try_from((base, sides)).ok()
 }
 
+// Whether both sides changed the value under a key, and in two ways.
+fn clashes(key: u32) -> bool {
+    let (base, ours) = places(key);
+    let theirs = value(Side::Fours, key);
+    base != ours && base != theirs && ours != theirs
+}
+
 /// A join of three versions has each key of any of them; a merge of them has the rows that both sides changed in two ways, and one
 /// in which their side changed nothing has our side's rows.
 #[test]
 fn versions_and_merges_have_every_row(rt: HostRuntime) -> Result<(), Fail> {
     let alloc = rt.alloc();
-    let mut rows = Vec::new(alloc);
-    let mut clashes = Vec::new(alloc);
+    let mut all = Vec::new(alloc);
+    let mut conflicts = Vec::new(alloc);
     for key in 0..KEYS {
-        let (base, ours) = places(key);
-        let theirs = value(Side::Fours, key);
         if let Some(row) = versions(key) {
-            rows.push((key, row))?;
-            if base != ours && base != theirs && ours != theirs {
-                clashes.push((key, versions(key).unwrap_or(row)))?;
+            all.push((key, row))?;
+            if clashes(key) {
+                conflicts.push((key, row))?;
             }
         }
+    }
+    let ours = table(&rt, alloc, Side::Threes)?;
+    let merges = [
+        (Side::Fours, Merged::Conflicts(conflicts)),
+        (Side::Evens, Merged::Whole(ours)),
+    ];
+    for (side, want) in merges {
+        let base = table(&rt, alloc, Side::Evens)?;
+        let ours = table(&rt, alloc, Side::Threes)?;
+        let theirs = table(&rt, alloc, side)?;
+        assert!(rt; merge_versions(alloc, base, ours, theirs)? == want);
     }
     let base = table(&rt, alloc, Side::Evens)?;
     let ours = table(&rt, alloc, Side::Threes)?;
     let theirs = table(&rt, alloc, Side::Fours)?;
-    assert!(rt; join_versions(alloc, base, ours, theirs)? == rows);
-    let base = table(&rt, alloc, Side::Evens)?;
-    let ours = table(&rt, alloc, Side::Threes)?;
-    let theirs = table(&rt, alloc, Side::Fours)?;
-    assert!(rt; merge_versions(alloc, base, ours, theirs)? == Merged::Conflicts(clashes));
-    let base = table(&rt, alloc, Side::Evens)?;
-    let ours = table(&rt, alloc, Side::Threes)?;
-    let theirs = table(&rt, alloc, Side::Evens)?;
-    let whole = Merged::Whole(table(&rt, alloc, Side::Threes)?);
-    assert!(rt; merge_versions(alloc, base, ours, theirs)? == whole);
+    assert!(rt; join_versions(alloc, base, ours, theirs)? == all);
     Ok(())
 }
