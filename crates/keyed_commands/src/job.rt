@@ -1,4 +1,6 @@
 //! What the steps of a command share, and how they read tables.
+ghost use Rattle.std.specs.Prelude.{◌≡◌, ◌++◌, ◌∷◌, [], OnOk};
+ghost use Rattle.keyed_tables.specs.Arranged.{IsNoted, noted};
 
 use crate::row_order::{Grouped, RowOrder};
 use eob_joins::Change;
@@ -252,18 +254,26 @@ fn note_and_part(
     gone: &mut Vec<ReadRow>,
     come: &mut Vec<ReadRow>,
     signed: SignedRow,
-) -> Result<(), AllocError> {
+) -> Result<(), AllocError>
+    ensures noted { OnOk result
+        (IsNoted ⟦<Key as Ord>⟧.cmp ⟦<Key as Eq>⟧.eq signed.row.key (noted order.old) (noted order.new)) }
+{
     match signed.sign {
         Sign::Minus => note_and_push(order, gone, signed.row),
         Sign::Plus => note_and_push(order, come, signed.row),
     }
 }
 
+// Takes the key of a row, and puts the row behind the others.
 fn note_and_push(
     order: &mut Order,
     rows: &mut Vec<ReadRow>,
     row: ReadRow,
-) -> Result<(), AllocError> {
+) -> Result<(), AllocError>
+    ensures noted { OnOk result
+        (IsNoted ⟦<Key as Ord>⟧.cmp ⟦<Key as Eq>⟧.eq row.key (noted order.old) (noted order.new)) }
+    ensures pushed { OnOk result (rows.new.items ≡ rows.old.items ++ row ∷ []) }
+{
     order.note(&row.key)?;
     rows.push(row)?;
     Ok(())
