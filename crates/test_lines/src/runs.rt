@@ -225,7 +225,8 @@ fn is_answered(alloc: Global, input: &[u8], output: &[u8]) -> bool {
     outcome == Outcome::Done && writer.taken.as_slice() == output
 }
 
-/// A line is answered whole where it fills the buffer to the last byte, passes it by one, or is many times as long.
+/// A line is answered whole where it fills the buffer to the last byte, passes it by one, or is many times as long, also where it is the
+/// last one and has no end.
 #[test]
 fn answers_line_longer_than_buffer(rt: HostRuntime) -> Result<(), Fail> {
     let rows = [
@@ -241,6 +242,12 @@ fn answers_line_longer_than_buffer(rt: HostRuntime) -> Result<(), Fail> {
             is_answered(rt.alloc(), &input, &output),
             "a word of {length} bytes"
         );
+        if let Some((_end, unended)) = input.split_last() {
+            assert!(rt;
+                is_answered(rt.alloc(), unended, &output),
+                "a word of {length} bytes, and no end of the last line"
+            );
+        }
     }
     Ok(())
 }
