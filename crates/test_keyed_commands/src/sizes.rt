@@ -142,7 +142,7 @@ fn parts_end_at_any_row(rt: HostRuntime) -> Result<(), Fail> {
     Ok(())
 }
 
-/// Tables of more rows than any part, buffer or table of a test has are written to their last row.
+/// Tables of more rows than any part, buffer or table of a test has are written to their last row, whether keys may repeat or not.
 #[test]
 fn rows_are_never_too_many(rt: HostRuntime) -> Result<(), Fail> {
     let alloc = rt.alloc();
@@ -153,15 +153,18 @@ fn rows_are_never_too_many(rt: HostRuntime) -> Result<(), Fail> {
     let mut alone = String::from_str(alloc, "side,id,left.a,right.a\n")?;
     put_rows(&mut alone, "right,", 0..17_000, ",p")?;
     let (rows, come) = (rows.as_bytes(), come.as_bytes());
-    expect(
-        joined(alloc, PLAIN, Kind::Outer, none, rows),
-        0,
-        alone.as_bytes(),
-    )?;
-    expect(compared(alloc, PLAIN, Format::Csv, none, rows), 1, come)?;
-    expect(applied(alloc, PLAIN, none, come), 0, rows)?;
-    expect(merged(alloc, PLAIN, none, none, rows), 0, rows)?;
-    expect(joined(alloc, PLAIN, Kind::Semi, rows, rows), 0, rows)
+    for settings in [PLAIN, GROUPED] {
+        expect(
+            joined(alloc, settings, Kind::Outer, none, rows),
+            0,
+            alone.as_bytes(),
+        )?;
+        expect(compared(alloc, settings, Format::Csv, none, rows), 1, come)?;
+        expect(applied(alloc, settings, none, come), 0, rows)?;
+        expect(merged(alloc, settings, none, none, rows), 0, rows)?;
+        expect(joined(alloc, settings, Kind::Semi, rows, rows), 0, rows)?;
+    }
+    Ok(())
 }
 
 /// So are tables of more parts.
@@ -277,7 +280,7 @@ fn group(
 ) -> Result<String, AllocError> {
     let mut text = String::from_str(alloc, before)?;
     for number in 0..count {
-        writeln!(text, "{beginning}c{number:02}")?;
+        writeln!(text, "{beginning}c{number:04}")?;
     }
     for _ in 0..count {
         writeln!(text, "{beginning}d")?;
@@ -290,7 +293,7 @@ fn group(
 #[test]
 fn groups_are_never_too_large(rt: HostRuntime) -> Result<(), Fail> {
     let alloc = rt.alloc();
-    for count in [2, 3, 9, 70] {
+    for count in [2, 3, 9, 70, 3000] {
         let rows = group(alloc, "id,a\n", "1,", count, "")?;
         let come = group(alloc, "change,id,a\n", "+,1,", count, "")?;
         let end = format!(in alloc;
