@@ -231,7 +231,7 @@ fn whole_or_conflicts<K: Ord + Drop, V: Eq + Drop, M: Allocator + Copy>(
 }
 
 // Whether a row is in conflict.
-fn is_in_conflict<V: Eq>(row: &Versions<V>) -> bool
+pub(crate) fn is_in_conflict<V: Eq>(row: &Versions<V>) -> bool
     ensures { result ≡ clashes V.eq row.now }
 {
     match judge(row) {
@@ -304,7 +304,7 @@ fn merged_row<K: Drop, V: Eq + Drop>(row: (K, Versions<V>)) -> Option<(K, V)>
 }
 
 // The merged value of a row, where it is not in conflict: theirs where ours is the base, and else ours.
-fn merged_value<V: Eq + Drop>(values: Versions<V>) -> Option<V>
+pub(crate) fn merged_value<V: Eq + Drop>(values: Versions<V>) -> Option<V>
     ensures { result ≡ merged V.eq values }
 {
     match values {

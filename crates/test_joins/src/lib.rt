@@ -4,6 +4,8 @@
 #![tactic(auto)]
 
 #[cfg(test)]
+mod by_cell;
+#[cfg(test)]
 mod changes;
 #[cfg(test)]
 mod counts;
