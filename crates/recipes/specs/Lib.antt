@@ -1,2 +1,3 @@
 -- The words of the recipes' contracts.
 pub mod Cells
+pub mod Findings

@@ -2,8 +2,11 @@
 //! of it; none has a proof of its own. `test_recipes` has an answer of each.
 #![tactic(auto)]
 
+pub mod batch;
 pub mod changes;
 pub mod closures;
+pub mod difference;
+pub mod files;
 pub mod grouped;
 pub mod keys;
 pub mod layers;
@@ -21,6 +24,7 @@ pub mod serialized;
 pub mod settings;
 pub mod stock;
 pub mod three_tables;
+pub mod totals;
 pub mod upsert;
 pub mod verdicts;
 pub mod writing;

@@ -1,6 +1,6 @@
 //! Two lists lined up, with a filler beside the longer one's rest.
 ghost use Rattle.std.specs.Prelude.{◌≡◌};
-ghost use Rattle.either_or_both.specs.Prelude.{IfOk, aligned, map, reverse};
+ghost use Rattle.either_or_both.specs.Prelude.{IfOk, aligned, chars, map, reverse};
 ghost use Rattle.recipes.specs.Cells.{filled};
 
 use either_or_both::EitherOrBoth;
@@ -50,4 +50,29 @@ pub fn lined_up_at_ends(
         .into_iter_swap()
         .map(|item| item.or(filler, filler))
         .collect(alloc)
+}
+
+// The characters of a text, which a lemma of the standard library tells.
+#[tactic(auto, using(std::proofs::lemmas::Str::chars_from_encodes))]
+fn characters(alloc: Global, text: &str) -> Result<Vec<char>, AllocError>
+    ensures { IfOk result (λ list. list.items ≡ chars text.now) }
+{
+    text.chars().collect(alloc)
+}
+
+/// Two texts with their ends in one line, as numbers are written one below the other, from the first character on.
+pub fn lined_up_texts(
+    alloc: Global,
+    left: &str,
+    right: &str,
+    filler: char,
+) -> Result<Vec<(char, char)>, AllocError>
+    ensures { IfOk result (λ v. v.items
+        ≡ reverse (map (filled filler) (aligned (reverse (chars left.now)) (reverse (chars right.now))))) }
+{
+    let left = characters(alloc, left)?;
+    let right = characters(alloc, right)?;
+    let mut rows = lined_up_at_ends(alloc, &left, &right, filler)?;
+    rows.reverse();
+    Ok(rows)
 }

@@ -5,10 +5,11 @@ use either_or_both::join::is_rising;
 use eob_joins::is_ordered;
 use recipes::grouped::{by_customer, nth_account, nth_customer};
 use recipes::ledger::{count_unpaid, ledger};
-use recipes::matched::{counted, in_stock, inventory, on_sale, sold_out};
+use recipes::matched::{counted, on_sale, to_order};
 use recipes::own_join::still_due;
 use recipes::readme::{full_outer_join, joined_if_rising, port, side_by_side, split};
-use recipes::three_tables::joined;
+use recipes::three_tables::by_key;
+use recipes::totals::totals;
 use std::alloc::{AllocError, Global};
 use std::collections::BTreeMap;
 use std::test::Fail;
@@ -67,58 +68,46 @@ fn of_a_join_if_rising(rt: HostRuntime) -> Result<(), Fail> {
     Ok(())
 }
 
-// Articles with their names, and the stock of two of them and of one more.
+// Articles with their names, and the stock of three of them and of one more.
 fn shop(alloc: Global) -> Result<(Vec<(u32, &'static str)>, Vec<(u32, u32)>), AllocError> {
-    let articles = vec![in alloc; (1, "pen"), (2, "ink"), (4, "pad")]?;
-    let stock = vec![in alloc; (2, 40), (3, 9), (4, 7)]?;
+    let articles = vec![in alloc; (1, "pen"), (2, "ink"), (4, "pad"), (5, "nib"), (6, "wax")]?;
+    let stock = vec![in alloc; (2, 40), (3, 9), (4, 7), (6, 1)]?;
     Ok((articles, stock))
 }
 
-/// Articles that are in stock, with what there is of them.
+/// Articles that have run out, of which one has a supplier; another supplier's article is in stock.
+#[test]
+fn of_what_to_order(rt: HostRuntime) -> Result<(), Fail> {
+    let (articles, stock) = shop(rt.alloc())?;
+    let suppliers = vec![in rt.alloc(); (2, "Ada"), (5, "Bob")]?;
+    assert!(rt; is_rising(&articles) && is_rising(&stock) && is_rising(&suppliers));
+    let rows = to_order(rt.alloc(), articles, stock, suppliers)?;
+    let want = "[(1, (\"pen\", None)), (5, (\"nib\", Some(\"Bob\")))]";
+    expect_shown(rt.alloc(), &rows, want)
+}
+
+/// Articles that are in stock, with what there is of them, less one that was withdrawn.
 #[test]
 fn of_articles_on_sale(rt: HostRuntime) -> Result<(), Fail> {
     let (articles, stock) = shop(rt.alloc())?;
-    assert!(rt; is_rising(&articles) && is_rising(&stock));
-    let rows = on_sale(rt.alloc(), articles, stock)?;
-    expect_shown(rt.alloc(), &rows, "[(2, (\"ink\", 40)), (4, (\"pad\", 7))]")
+    let withdrawn = vec![in rt.alloc(); (1, 'w'), (4, 'w')]?;
+    assert!(rt; is_rising(&articles) && is_rising(&stock) && is_rising(&withdrawn));
+    let rows = on_sale(rt.alloc(), articles, stock, withdrawn)?;
+    expect_shown(rt.alloc(), &rows, "[(2, (\"ink\", 40)), (6, (\"wax\", 1))]")
 }
 
-/// All articles, with what there is of those that are in stock.
-#[test]
-fn of_the_inventory(rt: HostRuntime) -> Result<(), Fail> {
-    let (articles, stock) = shop(rt.alloc())?;
-    assert!(rt; is_rising(&articles) && is_rising(&stock));
-    let rows = inventory(rt.alloc(), articles, stock)?;
-    let want = "[(1, (\"pen\", None)), (2, (\"ink\", Some(40))), (4, (\"pad\", Some(7)))]";
-    expect_shown(rt.alloc(), &rows, want)
-}
-
-/// All that is in stock, with the names of those that are articles.
+/// What is in stock of what is asked for, with the names of those that are articles.
 #[test]
 fn of_what_was_counted(rt: HostRuntime) -> Result<(), Fail> {
     let (articles, stock) = shop(rt.alloc())?;
-    assert!(rt; is_rising(&articles) && is_rising(&stock));
-    let rows = counted(rt.alloc(), articles, stock)?;
-    let want = "[(2, (Some(\"ink\"), 40)), (3, (None, 9)), (4, (Some(\"pad\"), 7))]";
-    expect_shown(rt.alloc(), &rows, want)
-}
-
-/// Articles that are in stock.
-#[test]
-fn of_articles_in_stock(rt: HostRuntime) -> Result<(), Fail> {
-    let (articles, stock) = shop(rt.alloc())?;
-    assert!(rt; is_rising(&articles) && is_rising(&stock));
-    let rows = in_stock(rt.alloc(), articles, stock)?;
-    expect_shown(rt.alloc(), &rows, "[(2, \"ink\"), (4, \"pad\")]")
-}
-
-/// Articles that have run out.
-#[test]
-fn of_articles_sold_out(rt: HostRuntime) -> Result<(), Fail> {
-    let (articles, stock) = shop(rt.alloc())?;
-    assert!(rt; is_rising(&articles) && is_rising(&stock));
-    let rows = sold_out(rt.alloc(), articles, stock)?;
-    expect_shown(rt.alloc(), &rows, "[(1, \"pen\")]")
+    let asked = vec![in rt.alloc(); (1, '?'), (3, '?'), (4, '?')]?;
+    assert!(rt; is_rising(&articles) && is_rising(&stock) && is_rising(&asked));
+    let rows = counted(rt.alloc(), articles, stock, asked)?;
+    expect_shown(
+        rt.alloc(),
+        &rows,
+        "[(3, (None, 9)), (4, (Some(\"pad\"), 7))]",
+    )
 }
 
 /// Orders in which a customer stands twice.
@@ -160,7 +149,7 @@ fn of_three_tables(rt: HostRuntime) -> Result<(), Fail> {
     let second = vec![in alloc; (1, "x"), (2, "y")]?;
     let third = vec![in alloc; (1, 7), (2, 8), (3, 9), (4, 10)]?;
     assert!(rt; is_rising(&first) && is_rising(&second) && is_rising(&third));
-    let rows = joined(alloc, first, second, third)?;
+    let rows = by_key(alloc, first, second, third)?;
     let want = "[(1, Both('a', Both(\"x\", 7))), (2, Right(Both(\"y\", 8))), \
                 (3, Both('b', Right(9))), (4, Right(Right(10)))]";
     expect_shown(alloc, &rows, want)
@@ -197,4 +186,19 @@ fn of_a_join_of_ones_own(rt: HostRuntime) -> Result<(), Fail> {
     assert!(rt; is_rising(&ordered) && is_rising(&delivered));
     let rows = still_due(alloc, ordered, delivered)?;
     expect_shown(alloc, &rows, "[(\"ink\", 3), (\"pen\", 4)]")
+}
+
+/// Counts of two tables added: a key of each alone, and two of both.
+#[test]
+fn of_totals(rt: HostRuntime) -> Result<(), Fail> {
+    let alloc = rt.alloc();
+    let left = vec![in alloc; ("a", 4_294_967_295), ("b", 2), ("d", 0)]?;
+    let right = vec![in alloc; ("a", 4_294_967_295), ("c", 7), ("d", 0)]?;
+    assert!(rt; is_rising(&left) && is_rising(&right));
+    let rows = totals(alloc, left, right)?;
+    expect_shown(
+        alloc,
+        &rows,
+        "[(\"a\", 8589934590), (\"b\", 2), (\"c\", 7), (\"d\", 0)]",
+    )
 }

@@ -1,10 +1,13 @@
 //! Recipes on values: settings in layers, keys, readers, text, and pairs that are written or lined up.
 
+use crate::shown::expect_shown;
 use either_or_both::EitherOrBoth;
 use either_or_both::EitherOrBoth::{Both, Left, Right};
+use recipes::batch::{parse_batch, part};
 use recipes::closures::{feed_both, map_left_by};
+use recipes::difference::first_change;
 use recipes::keys::{number_of, put_number, sort};
-use recipes::lined_up::{lined_up, lined_up_at_ends, lined_up_reversed};
+use recipes::lined_up::{lined_up, lined_up_at_ends, lined_up_reversed, lined_up_texts};
 use recipes::readers::{next_line, opened};
 use recipes::serialized::{Row, from_json, to_json};
 use recipes::settings::{Layer, Settings, resolve};
@@ -82,6 +85,68 @@ fn of_lined_up(rt: HostRuntime) -> Result<(), Fail> {
     assert_eq!(rt; rows, vec![in alloc; ('c', '.'), ('b', '.'), ('a', 'x')]?);
     let rows = lined_up_at_ends(alloc, &['a', 'b', 'c'], &['x'], '.')?;
     assert_eq!(rt; rows, vec![in alloc; ('c', 'x'), ('b', '.'), ('a', '.')]?);
+    Ok(())
+}
+
+/// Two texts with their ends in one line: the shorter one on either side, and of characters of several bytes.
+#[test]
+fn of_lined_up_texts(rt: HostRuntime) -> Result<(), Fail> {
+    let alloc = rt.alloc();
+    for (left, right, want) in [
+        ("120", "7", "[('1', ' '), ('2', ' '), ('0', '7')]"),
+        ("é", "aß", "[(' ', 'a'), ('é', 'ß')]"),
+        ("", "", "[]"),
+    ] {
+        expect_shown(alloc, &lined_up_texts(alloc, left, right, ' ')?, want)?;
+    }
+    Ok(())
+}
+
+/// A batch of texts: numbers, and texts that are none with their places, with none of either, and with nothing.
+#[test]
+fn of_a_batch_of_texts(rt: HostRuntime) -> Result<(), Fail> {
+    let alloc = rt.alloc();
+    let rows: [(&[&str], &str); 4] = [
+        (
+            &["1", "x", "23", ""],
+            "Parsed { numbers: [1, 23], faults: [(1, \"x\"), (3, \"\")] }",
+        ),
+        (
+            &["4294967295", "0"],
+            "Parsed { numbers: [4294967295, 0], faults: [] }",
+        ),
+        (
+            &["4294967296"],
+            "Parsed { numbers: [], faults: [(0, \"4294967296\")] }",
+        ),
+        (&[], "Parsed { numbers: [], faults: [] }"),
+    ];
+    for (texts, want) in rows {
+        expect_shown(alloc, &parse_batch(alloc, texts)?, want)?;
+    }
+    let parted = part(alloc, vec![in alloc; Err('e'), Ok(2), Err('f')]?)?;
+    expect_shown(
+        alloc,
+        &parted,
+        "Parsed { numbers: [2], faults: ['e', 'f'] }",
+    )
+}
+
+/// Two lists that differ in an item, of which one ends first on either side, and that are equal.
+#[test]
+fn of_a_first_change(rt: HostRuntime) -> Result<(), Fail> {
+    let alloc = rt.alloc();
+    let rows: [(&[u32], &[u32], &str); 5] = [
+        (&[1, 2, 3], &[1, 5, 3], "Some((1, Both(2, 5)))"),
+        (&[1, 2], &[1], "Some((1, Left(2)))"),
+        (&[], &[4], "Some((0, Right(4)))"),
+        (&[7, 8], &[7, 8], "None"),
+        (&[], &[], "None"),
+    ];
+    for (old, new, want) in rows {
+        let found = first_change(old.to_vec(alloc)?, new.to_vec(alloc)?);
+        expect_shown(alloc, &found, want)?;
+    }
     Ok(())
 }
 
