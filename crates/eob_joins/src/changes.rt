@@ -150,25 +150,78 @@ fn applied_row<K: Drop, V: Drop>(row: (K, EitherOrBoth<V, Change<V>>)) -> Option
 /// A value with the change made to it that leads to another is the other, and so where one of them is absent: where values that count
 /// as equal are equal. With what [`diff`] and [`apply`] say of each key, the changes made to the old version have what the new one has.
 ///
-/// Of other values, such as texts and vectors, [`law_changed_alike`] says it.
+/// Of other values, such as texts and vectors, [`law_changed_alike`] says it. Call it before [`diff`], to know by look-ups the table that
+/// [`apply`] gives.
+///
+/// # Examples
+///
+/// ```
+/// law_changed_value::<char>();
+/// let old = vec![in alloc; (1, 'a'), (2, 'b')]?;
+/// let copy = vec![in alloc; (1, 'a'), (2, 'b')]?;
+/// let new = vec![in alloc; (2, 'c'), (3, 'd')]?;
+/// assert!(rt; is_rising(&old) && is_rising(&copy) && is_rising(&new));
+/// let changes = diff(alloc, old, new)?;
+/// assert_eq!(rt; apply(alloc, copy, changes)?, vec![in alloc; (2, 'c'), (3, 'd')]?);
+/// ```
 pub fn law_changed_value<V: Eq>()
     ensures { ChangedValueLaw V.eq }
 {}
 
 /// A value with the change made to it that leads to another counts as equal to the other, and so where one of them is absent. No premise
-/// on the values is asked, so that it holds of texts and vectors too.
+/// on the values is asked, so that it holds of texts and vectors too. Call it before [`diff`], as [`law_changed_value`].
+///
+/// # Examples
+///
+/// ```
+/// law_changed_alike::<&str>();
+/// let old = vec![in alloc; (1, "a")]?;
+/// let copy = vec![in alloc; (1, "a")]?;
+/// let new = vec![in alloc; (1, "b")]?;
+/// assert!(rt; is_rising(&old) && is_rising(&copy) && is_rising(&new));
+/// let changes = diff(alloc, old, new)?;
+/// assert_eq!(rt; apply(alloc, copy, changes)?, vec![in alloc; (1, "b")]?);
+/// ```
 pub fn law_changed_alike<V: Eq>()
     ensures { ChangedAlikeLaw V.eq }
 {}
 
 /// The changes from one version of a table to another, made to the first, give the second: where keys that count as equal are equal,
 /// and values too. Of other keys and values, such as texts and vectors, [`law_patched`] says it.
+///
+/// An answer of a caller's own cites it; a caller with none calls [`law_changed_value`], which speaks of one key.
+///
+/// # Examples
+///
+/// ```
+/// law_apply_diff::<u32, char>();
+/// let old = vec![in alloc; (1, 'a')]?;
+/// let copy = vec![in alloc; (1, 'a')]?;
+/// let new = vec![in alloc; (2, 'b')]?;
+/// assert!(rt; is_rising(&old) && is_rising(&copy) && is_rising(&new));
+/// let changes = diff(alloc, old, new)?;
+/// assert_eq!(rt; apply(alloc, copy, changes)?, vec![in alloc; (2, 'b')]?);
+/// ```
 pub fn law_apply_diff<K: Ord, V: Eq>()
     ensures { ApplyDiffLaw K.cmp V.eq }
 {}
 
 /// The changes from one version of a table to another, made to the first, give a table whose keys and values count as equal to those
 /// of the second, pair by pair.
+///
+/// An answer of a caller's own cites it; a caller with none calls [`law_changed_alike`], which speaks of one key.
+///
+/// # Examples
+///
+/// ```
+/// law_patched::<&str, &str>();
+/// let old = vec![in alloc; ("a", "x")]?;
+/// let copy = vec![in alloc; ("a", "x")]?;
+/// let new = vec![in alloc; ("a", "y")]?;
+/// assert!(rt; is_rising(&old) && is_rising(&copy) && is_rising(&new));
+/// let changes = diff(alloc, old, new)?;
+/// assert_eq!(rt; apply(alloc, copy, changes)?, vec![in alloc; ("a", "y")]?);
+/// ```
 pub fn law_patched<K: Ord, V: Eq>()
     ensures { PatchedLaw K.cmp V.eq }
 {}

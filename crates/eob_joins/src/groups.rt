@@ -136,6 +136,18 @@ pub fn is_ordered<K: Ord, V>(list: &[(K, V)]) -> bool
 }
 
 /// A list whose keys rise is ordered.
+///
+/// Call it before [`group_join`] or [`group_by_key`] of such a list, as of the entries of an ordered map.
+///
+/// # Examples
+///
+/// ```
+/// law_ordered_rises::<u32, char>();
+/// let list = vec![in alloc; (1, 'a'), (2, 'b')]?;
+/// assert!(rt; is_rising(&list));
+/// let groups = vec![in alloc; (1, vec![in alloc; 'a']?), (2, vec![in alloc; 'b']?)]?;
+/// assert_eq!(rt; group_by_key(alloc, list)?, groups);
+/// ```
 pub fn law_ordered_rises<K: Ord, V>()
     ensures { OrderedLaw K.cmp V }
 {}

@@ -138,7 +138,17 @@ pub fn overlay_index_maps<
 
 /// Where the keys of two maps are dealt out to numbered parts by any function that gives equal keys one number, the join of two parts
 /// of a number has under each key of that number what the join of the whole maps has, and no other key. So maps may be joined part by
-/// part, such as on many machines, each with the keys of one hash.
+/// part, such as on many machines, each with the keys of one hash. Call it before the parts are joined.
+///
+/// # Examples
+///
+/// ```
+/// law_map_join_parts::<u32, char, char>();
+/// let odd = IndexMap::from_array(alloc, [(1, 'a')])?;
+/// let odd_right = IndexMap::from_array(alloc, [(1, 'x'), (3, 'y')])?;
+/// let rows = outer_join_index_maps(alloc, odd, odd_right)?;
+/// assert_eq!(rt; rows.get(&3), Some(&Right('y')));
+/// ```
 pub fn law_map_join_parts<K: Eq, A, B>()
     ensures { MapPartsLaw K.eq A B }
 {}

@@ -329,18 +329,56 @@ pub(crate) fn merged_value<V: Eq + Drop>(values: Versions<V>) -> Option<V>
 }
 
 /// The join of three versions has under each key what the three have there.
+///
+/// Call it before [`join_versions`], whose rows are then known by look-ups.
+///
+/// # Examples
+///
+/// ```
+/// law_versions::<u32, char>();
+/// let base = vec![in alloc; (1, 'a')]?;
+/// let ours = vec![in alloc; (1, 'b')]?;
+/// let theirs = vec![in alloc; (2, 'c')]?;
+/// assert!(rt; is_rising(&base) && is_rising(&ours) && is_rising(&theirs));
+/// let rows = vec![in alloc; (1, Both('a', Left('b'))), (2, Right(Right('c')))]?;
+/// assert_eq!(rt; join_versions(alloc, base, ours, theirs)?, rows);
+/// ```
 pub fn law_versions<K: Ord, V>()
     ensures { VersionsLaw K.cmp V }
 {}
 
 /// The answer of a merge by look-ups: under each key of the merged table stands a function of the three values there, and no key is in
 /// conflict; or under each key that is in conflict stand its three values.
+///
+/// Call it with the answer of [`merge_versions`] before it is returned or matched.
+///
+/// # Examples
+///
+/// ```
+/// let base = vec![in alloc; (1, 'a'), (2, 'b')]?;
+/// let ours = vec![in alloc; (1, 'a'), (2, 'c')]?;
+/// let theirs = vec![in alloc; (1, 'd'), (2, 'b')]?;
+/// assert!(rt; is_rising(&base) && is_rising(&ours) && is_rising(&theirs));
+/// let merged = merge_versions(alloc, base, ours, theirs)?;
+/// law_merge(&merged);
+/// assert_eq!(rt; merged, Merged::Whole(vec![in alloc; (1, 'd'), (2, 'c')]?));
+/// ```
 pub fn law_merge<K: Ord, V: Eq, M: Allocator>(merge: &Merged<K, V, M>)
     ensures { MergeLaw K.cmp V.eq merge.now }
 {}
 
 /// The merged value of a key by its verdict: ours where our side alone changed it, theirs where theirs did, either where both changed
 /// it alike, and where neither did the value that it had.
+///
+/// Call it beside [`law_merge`], where a caller tells rows apart by what [`judge`] says of them.
+///
+/// # Examples
+///
+/// ```
+/// law_merged_value::<char>();
+/// let row = Both('a', Both('a', 'd'));
+/// assert_eq!(rt; judge(&row), Verdict::Theirs);
+/// ```
 pub fn law_merged_value<V: Eq>()
     ensures { MergedPlaceLaw V.eq }
 {}
