@@ -5,8 +5,12 @@
 
 mod laws;
 mod quotes;
+mod row_reader;
+mod row_writer;
 mod strict;
 
 pub use laws::{law_reads_back, law_reads_once, law_rows_have_cells};
 pub use quotes::{Marks, Place};
+pub use row_reader::RowReader;
+pub use row_writer::RowWriter;
 pub use strict::{QuoteFault, Strict};

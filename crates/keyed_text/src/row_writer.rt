@@ -1,0 +1,80 @@
+//! Rows written as a text, cell by cell.
+ghost use Rattle.std.specs.Prelude.{ℕ, List, [], ◌∷◌, Option, IfOk, OnOk, map};
+ghost use Rattle.std.specs.Io.KnownBytes.{Appends};
+ghost use Rattle.keyed_text.specs.Streams.{EndsRow, HasWritten, PutsCells};
+ghost use Rattle.keyed_text.specs.Texts.{rows_text};
+
+use crate::quotes::Marks;
+use csv::{Writer, WriterBuilder};
+use std::io::Write;
+
+/// A writer of rows over a writer of bytes. The cells of a row are put one by one, and then the row is ended.
+///
+/// A row has as many cells as the first one.
+///
+/// ```
+/// let mut rows = RowWriter::new(Vec::new(alloc), Marks { delimiter: b',', comment: None });
+/// rows.put_cell(b"id")?;
+/// rows.put_cell(b"price, net")?;
+/// rows.end_row()?;
+/// assert!(rt; rows.finish()?.as_slice() == b"id,\"price, net\"\n".as_slice());
+/// ```
+#[derive(Drop)]
+pub struct RowWriter<W: Write + Drop> {
+    writer: Writer<W>,
+}
+
+impl<W: Write + Drop> RowWriter<W> {
+    /// Returns a writer of rows behind the bytes that the writer has.
+    pub fn new(writer: W, marks: Marks) -> Self
+        ensures { HasWritten marks.delimiter marks.comment W.contents (W.contents writer) [] [] result }
+    {
+        RowWriter {
+            writer: WriterBuilder::new()
+                .delimiter(marks.delimiter)
+                .comment(marks.comment)
+                .from_writer(writer),
+        }
+    }
+
+    /// Puts a cell into the row.
+    ///
+    /// # Errors
+    ///
+    /// Returns the error of the writer, or that a request for memory was refused.
+    pub fn put_cell(&mut self, cell: &[u8]) -> Result<(), csv::Error>
+        ensures { OnOk result (PutsCells W.contents self.old self.new (cell.now ∷ [])) }
+    {
+        self.writer.write_field(cell)?;
+        Ok(())
+    }
+
+    /// Ends the row.
+    ///
+    /// # Errors
+    ///
+    /// Returns `UnequalLengths` if the row has another number of cells than the first one, and else the error of the writer, or that a
+    /// request for memory was refused.
+    pub fn end_row(&mut self) -> Result<(), csv::Error>
+        ensures { OnOk result (EndsRow W.contents self.old self.new) }
+    {
+        self.writer.end_record()?;
+        Ok(())
+    }
+
+    /// Returns the writer, which has the text of all rows.
+    ///
+    /// # Errors
+    ///
+    /// Returns the error of the writer, or that a request for memory was refused.
+    pub fn finish(self) -> Result<W, csv::Error>
+        ensures { IfOk result (λ writer. (d : ℕ) (c : Option ℕ) (there : Option (List ℕ)) (rows : List (List (List ℕ)))
+            → HasWritten d c W.contents there rows [] self
+            → Appends there (W.contents writer) (rows_text d c rows)) }
+    {
+        match self.writer.into_inner() {
+            Ok(writer) => Ok(writer),
+            Err(error) => Err(error.into_error()),
+        }
+    }
+}
