@@ -265,11 +265,7 @@ fn note_and_part(
 }
 
 // Takes the key of a row, and puts the row behind the others.
-fn note_and_push(
-    order: &mut Order,
-    rows: &mut Vec<ReadRow>,
-    row: ReadRow,
-) -> Result<(), AllocError>
+fn note_and_push(order: &mut Order, rows: &mut Vec<ReadRow>, row: ReadRow) -> Result<(), AllocError>
     ensures noted { OnOk result
         (IsNoted ⟦<Key as Ord>⟧.cmp ⟦<Key as Eq>⟧.eq row.key (noted order.old) (noted order.new)) }
     ensures pushed { OnOk result (rows.new.items ≡ rows.old.items ++ row ∷ []) }

@@ -7,7 +7,7 @@ use std::alloc::{AllocError, Global};
 use std::ops::Range;
 
 // The rows of a file under their keys, as they stand there.
-type RowsByKey = IndexMap<Cells, Vec<Cells>>;
+type RowsByKey = IndexMap<Key, Vec<Cells>>;
 
 /// The rows of the files in the order in which they stand there, where the rows of a group come out in this order.
 #[derive(Drop)]
@@ -95,12 +95,12 @@ impl RowOrder {
 
 fn note_row(alloc: Global, file: &mut RowsByKey, row: &ReadRow) -> Result<(), AllocError> {
     let cells = row.cells.clone()?;
-    match file.get_mut(row.key.cells()) {
+    match file.get_mut(&row.key) {
         Some(rows) => rows.push(cells)?,
         None => {
             let mut rows = Vec::new(alloc);
             rows.push(cells)?;
-            file.insert(row.key.cells().clone()?, rows)?;
+            file.insert(row.key.clone()?, rows)?;
         }
     }
     Ok(())
@@ -136,7 +136,7 @@ fn rows_in_order(
     let mut times = times_of(alloc, rows)?;
     let mut order = Vec::new(alloc);
     for file in files {
-        if let Some(there) = file.get(key.cells()) {
+        if let Some(there) = file.get(key) {
             for row in there {
                 put_row(&mut times, &mut order, row)?;
             }

@@ -165,7 +165,7 @@ struct ShownKey<'a>(&'a Key);
 
 impl fmt::Display for ShownKey<'_> {
     fn fmt<W: fmt::Write>(&self, f: &mut fmt::Formatter<W>) -> fmt::Result {
-        for (place, cell) in self.0.cells().iter().enumerate() {
+        for (place, cell) in self.0.iter().enumerate() {
             if place > 0 {
                 f.write_char(',')?;
             }

@@ -46,7 +46,7 @@ impl Written {
         for a in 0..sides.left.map_or(1, |group| group.rows().len()) {
             for b in 0..sides.right.map_or(1, |group| group.rows().len()) {
                 self.put_first(sides.first)?;
-                self.put(key.cells())?;
+                put_key(self, key)?;
                 put_side(self, sides.left, a, &columns.left.rest)?;
                 put_side(self, sides.right, b, &columns.right.rest)?;
                 self.end_row()?;
@@ -54,6 +54,13 @@ impl Written {
         }
         Ok(())
     }
+}
+
+fn put_key(written: &mut Written, key: &Key) -> Result<(), Reason> {
+    for cell in key.iter() {
+        written.put_cell(cell)?;
+    }
+    Ok(())
 }
 
 /// The names of the columns of a join: that of the first column, if it is an outer one, those of the key, and those of both tables. A name

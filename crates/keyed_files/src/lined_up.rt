@@ -1,7 +1,7 @@
 //! Text as a person reads it in a terminal: a cell on one line, and cells lined up in columns.
 
 use crate::columns::Columns;
-use keyed_rows::{Cells, Group, Key};
+use keyed_rows::{Cells, Group, Iter, Key};
 use std::alloc::{AllocError, Global};
 use std::fmt;
 use unicode_width::UnicodeWidthStr;
@@ -173,6 +173,10 @@ fn show_cell(alloc: Global, cell: &[u8]) -> Result<String, AllocError> {
 ///
 /// Returns `AllocError` if a request for memory was refused.
 pub fn put_shown(alloc: Global, line: &mut Line, cells: &Cells) -> Result<(), AllocError> {
+    put_cells_of(alloc, line, cells.iter())
+}
+
+fn put_cells_of(alloc: Global, line: &mut Line, cells: Iter<'_>) -> Result<(), AllocError> {
     for cell in cells {
         line.cells.push(show_cell(alloc, cell)?)?;
     }
@@ -198,7 +202,7 @@ pub fn heading(alloc: Global, columns: &Columns) -> Result<Line, AllocError> {
 /// Returns `AllocError` if a request for memory was refused.
 pub fn line_under(alloc: Global, word: &str, key: &Key) -> Result<Line, AllocError> {
     let mut line = line_of_word(alloc, word)?;
-    put_shown(alloc, &mut line, key.cells())?;
+    put_cells_of(alloc, &mut line, key.iter())?;
     Ok(line)
 }
 

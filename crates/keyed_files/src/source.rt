@@ -253,7 +253,7 @@ impl Places {
         record: &ByteRecord,
     ) -> Result<ReadRow, AllocError> {
         pick(picked, record, &self.key)?;
-        let key = Key::new(picked.clone()?);
+        let key = Key::copied(picked)?;
         pick(picked, record, &self.rest)?;
         Ok(ReadRow {
             key,

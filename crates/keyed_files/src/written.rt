@@ -84,7 +84,7 @@ impl Written {
         &mut self,
         first: Option<&[u8]>,
         columns: &Columns,
-        key: &Cells,
+        key: &Key,
         rest: &Cells,
     ) -> Result<(), Reason> {
         self.put_first(first)?;
@@ -114,22 +114,22 @@ impl Written {
         rows: &Group,
     ) -> Result<(), Reason> {
         for rest in rows.rows() {
-            self.put_row(sign.map(Sign::cell), columns, key.cells(), rest)?;
+            self.put_row(sign.map(Sign::cell), columns, key, rest)?;
         }
         Ok(())
     }
 }
 
-// The cells of a row, found by their places: the next place takes one step, and only an earlier one begins anew.
+// The cells of a key, found by their places: the next place takes one step, and only an earlier one begins anew.
 #[derive(Drop)]
 struct CellsByPlace<'a> {
-    cells: &'a Cells,
+    cells: &'a Key,
     next: Iter<'a>,
     place: usize,
 }
 
 impl<'a> CellsByPlace<'a> {
-    fn new(cells: &'a Cells) -> Self {
+    fn new(cells: &'a Key) -> Self {
         CellsByPlace {
             cells,
             next: cells.iter(),
@@ -163,7 +163,8 @@ pub fn begin_table(
     // Files with no row make a table of no column, whose header is none.
     let has_cell = first.is_some() || !columns.order.is_empty();
     if form.has_header && has_cell {
-        written.put_row(first, columns, &columns.key, &columns.rest)?;
+        let key = Key::copied(&columns.key)?;
+        written.put_row(first, columns, &key, &columns.rest)?;
     }
     Ok(written)
 }

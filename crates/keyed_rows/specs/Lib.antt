@@ -1,3 +1,4 @@
 pub mod Beginning
 pub mod Held
+pub mod Kept
 pub mod Layout

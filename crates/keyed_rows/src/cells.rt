@@ -7,7 +7,7 @@ ghost use Rattle.std.specs.Cmp.Lexicographic.{nat_list_cmp_total, nat_list_eq_eq
 ghost use Rattle.std.specs.Cmp.Lexicographic.{pointwise_decides, slice_cmp, texts_ties};
 ghost use Rattle.std.specs.Hash as fed;
 ghost use Rattle.std.specs.Ordering.{nat_cmp};
-ghost use Rattle.keyed_rows.specs.Layout.{code};
+ghost use Rattle.keyed_rows.specs.Layout.{IsBlock, cells_of, code};
 
 use crate::block;
 use crate::iter::Iter;
@@ -165,6 +165,16 @@ impl Cells {
         ensures bound { length self.now < 2 ^ 64 }
     {
         Iter::new(&self.block)
+    }
+
+    // The bytes of the cells.
+    #[inline(always)]
+    pub(crate) fn block(&self) -> &[u8]
+        ensures code { result.now ≡ code self.now }
+        ensures cells { self.now ≡ cells_of result.now }
+        ensures is_block { IsBlock result.now }
+    {
+        &self.block
     }
 }
 

@@ -1,5 +1,5 @@
 //! The key of a row, with its first eight bytes beside its cells.
-ghost use Rattle.std.specs.Prelude.{◌≡◌, Some, get_or, nat_eq, refl};
+ghost use Rattle.std.specs.Prelude.{◌≡◌, ◌^◌, ◌<◌, IfOk, IfSome, Some, get_or, length, nat_eq, refl};
 ghost use Rattle.std.specs.Cmp.{partial_equiv_from_equiv, partial_order_from_agreeing_total};
 ghost use Rattle.std.specs.Cmp.Lexicographic.{bytes_decides, lists_equiv, lists_ties, lists_total};
 ghost use Rattle.std.specs.Cmp.Lexicographic.{nat_list_cmp_total, nat_list_eq_equiv, pointwise};
@@ -7,41 +7,57 @@ ghost use Rattle.std.specs.Cmp.Lexicographic.{pointwise_decides, slice_cmp, text
 ghost use Rattle.std.specs.Hash as fed;
 ghost use Rattle.std.specs.Ordering.{nat_cmp};
 ghost use Rattle.keyed_rows.specs.Beginning.{Begins, KeyBegins};
-ghost use Rattle.keyed_rows.specs.Layout.{code};
+ghost use Rattle.keyed_rows.specs.Kept.{block_in};
+ghost use Rattle.keyed_rows.specs.Layout.{IsBlock, cells_of, code};
 
+use crate::block;
 use crate::cells::Cells;
+use crate::iter::Iter;
 use std::alloc::AllocError;
 use std::cmp::Ordering;
 use std::fmt;
 use std::hash::{Hash, Hasher};
 use std::marker::Model;
 
+// How many bytes of cells, each with its length, a key holds with no memory of its own: with them it takes 40 bytes.
+const ROOM: usize = 30;
+
 /// The cells of a row's key, in the order of their list.
 ///
-/// Beside the cells stand the first eight bytes of the first one, so that most keys are compared with no look at their memory. Beside
-/// that a key is what its [`Cells`] are: it has their value, their order and their hash.
+/// Beside the cells stand the first eight bytes of the first one, so that most keys are compared with no look at the others. A key whose
+/// cells take 30 bytes at most, each with one for its length, takes no memory of its own. Beside that a key is what its [`Cells`] are: it
+/// has their value, their order and their hash.
 ///
 /// ```
 /// let apple = Key::new(Cells::from_slices(alloc, &[b"apple"])?);
 /// let pear = Key::new(Cells::from_slices(alloc, &[b"pear"])?);
-/// assert!(rt; apple < pear && pear.cells().get(0) == Some(b"pear"));
+/// assert!(rt; apple < pear && pear.iter().next() == Some(b"pear"));
 /// ```
 #[derive(Drop)]
 pub struct Key {
     // The first eight bytes of the first cell as a number, with zeros behind a shorter one: a key with a lesser number is less.
     first: u64,
-    cells: Cells,
+    kept: Kept,
+}
+
+// The block of a key's cells: in the key itself, or as cells of its own.
+#[derive(Drop)]
+enum Kept {
+    Short { count: u8, bytes: [u8; ROOM] },
+    Long(Cells),
 }
 
 impl Model for Key {
     ghost use Rattle.std.specs.Prelude.{List, ℕ};
     ghost use Rattle.keyed_rows.specs.Beginning.{KeyBegins};
+    ghost use Rattle.keyed_rows.specs.Kept.{block_in};
+    ghost use Rattle.keyed_rows.specs.Layout.{IsBlock, cells_of};
 
     ghost Value = { List (List ℕ) };
 
-    ghost view = { λ a. a.cells };
+    ghost view = { λ a. cells_of (block_in a.kept) };
 
-    ghost invariant = { λ a. KeyBegins a.cells a.first };
+    ghost invariant = { λ a. IsBlock (block_in a.kept) × KeyBegins (cells_of (block_in a.kept)) a.first };
 }
 
 impl Key {
@@ -49,26 +65,107 @@ impl Key {
     ///
     /// ```
     /// let key = Key::new(Cells::from_slices(alloc, &[b"apple", b"red"])?);
-    /// assert!(rt; key.cells().len() == 2);
+    /// assert!(rt; key.iter().count() == 2);
     /// ```
     pub fn new(cells: Cells) -> Self
         ensures { result ≡ cells }
     {
         let first = first_of(&cells);
-        Key { first, cells }
+        let kept = keep(cells);
+        Key { first, kept }
     }
 
-    /// Returns the cells of the key.
+    /// Returns the key of a copy of these cells. Takes one request for memory, or none where they take 30 bytes at most.
+    ///
+    /// # Errors
+    ///
+    /// `AllocError` if the request for memory was refused.
+    ///
+    /// ```
+    /// let key = Key::copied(&Cells::from_slices(alloc, &[b"apple"])?)?;
+    /// assert!(rt; key.iter().next() == Some(b"apple"));
+    /// ```
+    pub fn copied(cells: &Cells) -> Result<Self, AllocError>
+        ensures { IfOk result (λ key. key ≡ cells.now) }
+    {
+        let first = first_of(cells);
+        let kept = keep_copy(cells)?;
+        Ok(Key { first, kept })
+    }
+
+    /// Returns an iterator over the cells of the key, first to last.
     ///
     /// ```
     /// let key = Key::new(Cells::from_slices(alloc, &[b"apple"])?);
-    /// assert!(rt; key.cells().get(0) == Some(b"apple"));
+    /// assert!(rt; key.iter().next() == Some(b"apple"));
     /// ```
-    pub fn cells(&self) -> &Cells
-        ensures { result.now ≡ self.now }
+    #[tactic(auto, using(crate::proofs::Facts::cells_fit))]
+    pub fn iter(&self) -> Iter<'_>
+        ensures rest { result ≡ self.now }
+        ensures bound { length self.now < 2 ^ 64 }
     {
-        &self.cells
+        Iter::new(self.block())
     }
+
+    // The bytes of the cells.
+    #[inline(always)]
+    fn block(&self) -> &[u8]
+        ensures is_block { IsBlock result.now }
+        ensures cells { self.now ≡ cells_of result.now }
+    {
+        bytes_of(&self.kept)
+    }
+}
+
+// The bytes of cells that are kept.
+#[inline(always)]
+fn bytes_of(kept: &Kept) -> &[u8]
+    ensures { result.now ≡ block_in kept.now }
+{
+    match kept {
+        Kept::Short { count, bytes } => match bytes.get(..*count as usize) {
+            Some(block) => block,
+            None => bytes,
+        },
+        Kept::Long(cells) => cells.block(),
+    }
+}
+
+// Keeps cells: in the key where there is room.
+fn keep(cells: Cells) -> Kept
+    ensures is_block { IsBlock (block_in result) }
+    ensures cells { cells_of (block_in result) ≡ cells }
+{
+    match shorten(cells.block()) {
+        Some(kept) => kept,
+        None => Kept::Long(cells),
+    }
+}
+
+// Keeps a copy of cells: in the key where there is room.
+fn keep_copy(cells: &Cells) -> Result<Kept, AllocError>
+    ensures is_block { IfOk result (λ kept. IsBlock (block_in kept)) }
+    ensures cells { IfOk result (λ kept. cells_of (block_in kept) ≡ cells.now) }
+{
+    match shorten(cells.block()) {
+        Some(kept) => Ok(kept),
+        None => Ok(keep(cells.clone()?)),
+    }
+}
+
+// A block in a key itself, if there is room.
+fn shorten(block: &[u8]) -> Option<Kept>
+    ensures { IfSome result (λ kept. block_in kept ≡ block.now) }
+{
+    if block.len() > ROOM {
+        return None;
+    }
+    let mut bytes = [0; ROOM];
+    bytes[..block.len()].copy_from_slice(block);
+    Some(Kept::Short {
+        count: block.len() as u8,
+        bytes,
+    })
 }
 
 // The first eight bytes of the first cell.
@@ -104,14 +201,27 @@ fn byte_at(cell: &[u8], place: usize) -> u8
     cell.get(place).copied().unwrap_or(0)
 }
 
+// The same cells, kept once more.
+fn copy_of(kept: &Kept) -> Result<Kept, AllocError>
+    ensures { IfOk result (λ copy. copy ≡ kept.now) }
+{
+    match kept {
+        Kept::Short { count, bytes } => Ok(Kept::Short {
+            count: *count,
+            bytes: *bytes,
+        }),
+        Kept::Long(cells) => Ok(Kept::Long(cells.clone()?)),
+    }
+}
+
 impl Clone for Key {
     ghost is_clone = { λ key copy. copy ≡ key };
 
     fn clone(&self) -> Result<Self, AllocError> {
-        let cells = self.cells.clone()?;
+        let kept = copy_of(&self.kept)?;
         Ok(Key {
             first: self.first,
-            cells,
+            kept,
         })
     }
 }
@@ -121,8 +231,9 @@ impl PartialEq for Key {
 
     ghost laws = { partial_equiv_from_equiv (lists_equiv nat_list_eq_equiv) };
 
+    #[tactic(auto, using(crate::proofs::Facts::same_blocks))]
     fn eq(&self, other: &Self) -> bool {
-        self.cells == other.cells
+        self.block() == other.block()
     }
 }
 
@@ -152,7 +263,7 @@ impl Ord for Key {
 
     fn cmp(&self, other: &Self) -> Ordering {
         match self.first.cmp(&other.first) {
-            Ordering::Equal => self.cells.cmp(&other.cells),
+            Ordering::Equal => block::compare(self.block(), other.block()),
             order => order,
         }
     }
@@ -165,13 +276,13 @@ impl Hash for Key {
         (pointwise_decides bytes_decides)).fed };
 
     fn hash<H: Hasher>(&self, state: &mut H) {
-        self.cells.hash(state);
+        self.block().hash(state);
     }
 }
 
-/// As its cells.
+/// As a list of its cells, each a list of its bytes.
 impl fmt::Debug for Key {
     fn fmt<W: fmt::Write>(&self, f: &mut fmt::Formatter<W>) -> fmt::Result {
-        write!(f, "{:?}", self.cells)
+        f.debug_list().entries(self.iter()).finish()
     }
 }

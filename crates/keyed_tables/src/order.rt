@@ -3,13 +3,13 @@ ghost use Rattle.std.specs.Prelude.{◌≡◌, [], None, Some, IfOk, IsPermutati
 ghost use Rattle.keyed_tables.specs.Arranged.{AreArranged, IsNoted, noted};
 
 use indexmap::IndexSet;
-use keyed_rows::{Cells, Key};
+use keyed_rows::Key;
 use std::alloc::{AllocError, Global};
 
 /// The keys of the files, in the order in which they stand there first, where rows come out in their order.
 #[derive(Drop)]
 pub struct Order {
-    keys: Option<IndexSet<Cells>>,
+    keys: Option<IndexSet<Key>>,
 }
 
 impl Order {
@@ -39,7 +39,7 @@ impl Order {
             (IsNoted ⟦<Key as Ord>⟧.cmp ⟦<Key as Eq>⟧.eq key.now (noted self.old) (noted self.new)) }
     {
         if let Some(keys) = &mut self.keys {
-            keys.insert(key.cells().clone()?)?;
+            keys.insert(key.clone()?)?;
         }
         Ok(())
     }
@@ -56,7 +56,7 @@ impl Order {
     {
         match &self.keys {
             Some(keys) => {
-                rows.sort_by_cached_key(|row| keys.get_index_of(row.0.cells()))?;
+                rows.sort_by_cached_key(|row| keys.get_index_of(&row.0))?;
                 Ok(rows)
             }
             None => Ok(rows),

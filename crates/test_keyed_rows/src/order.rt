@@ -77,13 +77,13 @@ static SHORT: [&[&[u8]]; 28] = [
     &[b"\xff\xff\xff\xff\xff\xff\xff\xff\xff"],
 ];
 
-// The short rows, and rows that differ in a length that takes one byte or nine.
+// The short rows, and rows that differ in whether a key keeps them in itself, or in a length that takes one byte or nine.
 fn rows(alloc: Global) -> Result<Vec<Vectors>, AllocError> {
     let mut rows = Vec::new(alloc);
     for row in SHORT {
         rows.push(vectors(alloc, row)?)?;
     }
-    for length in [254, 255, 300] {
+    for length in [28, 29, 30, 31, 254, 255, 300] {
         let mut row = Vec::new(alloc);
         row.push(vec![in alloc; b'a'; length]?)?;
         if length == 300 {
@@ -163,8 +163,11 @@ fn a_key_keeps_its_cells(rt: HostRuntime) -> Result<(), AllocError> {
     let alloc = rt.alloc();
     for row in &rows(alloc)? {
         let key = Key::new(packed(alloc, row)?);
-        assert!(rt; *key.cells() == packed(alloc, row)?);
-        assert!(rt; format!(in alloc; "{key:?}")? == format!(in alloc; "{:?}", key.cells())?);
+        let cells = packed(alloc, row)?;
+        assert!(rt;
+            key.iter().eq(cells.iter()) && Key::copied(&cells)? == key && key.clone()? == key
+        );
+        assert!(rt; format!(in alloc; "{key:?}")? == format!(in alloc; "{cells:?}")?);
     }
     Ok(())
 }
