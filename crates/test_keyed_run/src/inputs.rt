@@ -42,12 +42,12 @@ static ANSWERS: [Case<'static>; 26] = [
          table   7   (no row)\nchange  7   fig\n", ""),
     ("merge|base|new|old", 0, "id,name\n13,medlar\n2,quince\n", ""),
     ("merge|base|old|new|--keep-order", 0, "id,name\n2,quince\n13,medlar\n", ""),
-    ("merge|old|sized|coloured", 0, "id,name,size,colour\n2,pear,3,\n7,fig,2,\n9,sloe,,blue\n", ""),
-    ("merge|sized|old|coloured", 0, "id,size,name,colour\n2,,pear,\n7,,fig,\n9,,sloe,blue\n", ""),
-    ("merge|old|coloured|sized|--keep-order", 0, "id,name,colour,size\n7,fig,,2\n2,pear,,3\n9,sloe,blue,\n", ""),
+    ("merge|old|sized|coloured", 0, "id,size,name,colour\n2,3,pear,\n7,2,fig,\n9,,sloe,blue\n", ""),
+    ("merge|sized|old|coloured", 0, "id,name,colour\n2,pear,\n7,fig,\n9,sloe,blue\n", ""),
+    ("merge|old|coloured|sized|--keep-order", 0, "colour,id,name,size\n,7,fig,2\n,2,pear,3\nblue,9,sloe,\n", ""),
     ("merge|old|sized|red", 1,
-        "        id  name  size  colour\nbase    7   fig         \nours    7   fig   2     \n\
-         theirs  7   fig         red\n", ""),
+        "        id  size  name  colour\nbase    7         fig\nours    7   2     fig\n\
+         theirs  7         fig   red\n", ""),
     ("merge|mine|yours|theirs too", 1,
         "        id  size\nbase    2   a\nours    2   b\ntheirs  2   c\nbase    7   a\nours    7   b\ntheirs  7   c\n", ""),
     ("merge|yours|mine|theirs too|--keep-order", 1,

@@ -231,8 +231,10 @@ fn columns_that_changed_are_told(rt: HostRuntime) -> Result<(), Fail> {
 }
 
 #[rattlefmt::skip]
-static NAMES: [Case<'static>; 9] = [
-    ("join|clashes|clashes too", 2, "", "keyed: clashes too: the join has two columns side: give another by --side\n"),
+static NAMES: [Case<'static>; 10] = [
+    ("join|clashes|clashes too", 2, "", "keyed: clashes too: the join has two columns left.a: give another by --prefix\n"),
+    ("join|clashes|clashes too|--prefix|l_,r_", 2, "",
+        "keyed: clashes too: the join has two columns side: give another by --side\n"),
     ("join|clashes|clashes too|--side|from", 2, "",
         "keyed: clashes too: the join has two columns left.a: give another by --prefix\n"),
     ("join|clashes|clashes too|--side|id|--prefix|l_,r_", 2, "",
