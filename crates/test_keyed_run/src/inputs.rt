@@ -61,7 +61,7 @@ static ANSWERS: [Case<'static>; 26] = [
     ("join|old|new|--kind|anti", 0, "id,name\n7,fig\n", ""),
     ("join|new|old|--kind|anti|--sorted", 0, "id,name\n13,medlar\n", ""),
     ("diff|by two|by two later|--format|csv|--key|a,b", 1,
-        "change,a,b,v\n-,x,2,q\n+,x,2,s\n-,y,1,r\n+,y,2,t\n", ""),
+        "change,b,v,a\n-,2,q,x\n+,2,s,x\n-,1,r,y\n+,2,t,y\n", ""),
     ("join|by two|by two later|--kind|inner|--key|b,a", 0, "b,a,left.v,right.v\n1,x,p,p\n2,x,q,s\n", ""),
     ("join|by two|by two alone|--kind|semi|--key|a,b", 0, "a,b,v\nx,1,p\n", ""),
 ];
