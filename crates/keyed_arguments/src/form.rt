@@ -89,18 +89,26 @@ fn comment_of(
         return Ok(None);
     };
     let comment = match text.as_bytes() {
-        [byte] => Comment::new(*byte),
+        [byte] => comment_beside(*byte, delimiters),
         _ => None,
     };
     match comment {
-        Some(comment) if !delimiters.iter().any(|d| d.byte() == comment.byte()) => {
-            Ok(Some(comment))
-        }
-        _ => Err(ParseError::Value {
+        Some(comment) => Ok(Some(comment)),
+        None => Err(ParseError::Value {
             option: "comment",
             wrong: "not one byte that may begin a line and stands between no cells",
         }),
     }
+}
+
+// The byte as one that begins lines which are passed over, if it may, beside these delimiters.
+fn comment_beside(byte: u8, delimiters: [Delimiter; 3]) -> Option<Comment> {
+    for delimiter in delimiters {
+        if delimiter.byte() == byte {
+            return None;
+        }
+    }
+    Comment::new(byte)
 }
 
 // How many lines at the top of each file are passed over.
