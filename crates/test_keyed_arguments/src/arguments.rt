@@ -19,21 +19,42 @@ fn words_of(alloc: Global, line: &str) -> Result<Vec<String>, AllocError> {
 // What a command line asks for where the terminal has colours or has none: the byte between cells, the key, and whether there is a header,
 // rows come in the order of the files, rows with the same key are a group, and tables are read as they rise; and then the request.
 fn asked(alloc: Global, line: &str, terminal: Colours) -> Result<String, AllocError> {
-    match parse(alloc, &words_of(alloc, line)?, terminal) {
-        Ok(Command::Whole { settings, request }) => {
+    let words = words_of(alloc, line)?;
+    match parse(alloc, &words, terminal) {
+        Ok(command) => show_command(alloc, command),
+        Err(error) => show_error(alloc, &error),
+    }
+}
+
+fn show_command(alloc: Global, command: Command<'_>) -> Result<String, AllocError> {
+    match command {
+        Command::Whole { settings, request } => {
             let (keeps_order, groups) = (settings.keeps_order as u8, settings.groups as u8);
             let layout = show_layout(alloc, settings.layout())?;
-            let request = without_names(alloc, &format!(in alloc; "{request:?}")?)?;
+            let text = format!(in alloc; "{request:?}")?;
+            let request = without_names(alloc, &text)?;
             format!(in alloc; "{layout}, {keeps_order}, {groups}, 0] {request}")
         }
-        Ok(Command::Sorted { layout, request }) => {
+        Command::Sorted { layout, request } => {
             let layout = show_layout(alloc, layout)?;
-            let request = without_names(alloc, &format!(in alloc; "{request:?}")?)?;
+            let text = format!(in alloc; "{request:?}")?;
+            let request = without_names(alloc, &text)?;
             format!(in alloc; "{layout}, 0, 0, 1] {request}")
         }
-        Err(ParseError::Words(error)) if error.use_stderr() => "wrong".to_string(alloc),
-        Err(ParseError::Words(_)) => "a text".to_string(alloc),
-        Err(error) => format!(in alloc; "{error}"),
+    }
+}
+
+fn show_error(alloc: Global, error: &ParseError) -> Result<String, AllocError> {
+    match error {
+        ParseError::Words(words) => {
+            let shown = if words.use_stderr() {
+                "wrong"
+            } else {
+                "a text"
+            };
+            shown.to_string(alloc)
+        }
+        _ => format!(in alloc; "{error}"),
     }
 }
 
