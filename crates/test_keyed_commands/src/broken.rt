@@ -134,6 +134,23 @@ fn with_row(alloc: Global, text: &str, line: usize, row: &str) -> Result<String,
     Ok(changed)
 }
 
+// What is said of a row of so many cells.
+fn fault_of(
+    alloc: Global,
+    name: &str,
+    line: usize,
+    cells: usize,
+    columns: usize,
+) -> Result<String, AllocError> {
+    if cells == 1 {
+        format!(in alloc;
+            "{name}: line {line}: 1 cell, and there are {columns} columns (--ragged takes a short row)"
+        )
+    } else {
+        format!(in alloc; "{name}: line {line}: {cells} cells, and there are {columns} columns")
+    }
+}
+
 // Fails unless a row of another length is named, at every so many lines of the input at this place, from its last on.
 fn expect_lengths(
     alloc: Global,
@@ -157,19 +174,12 @@ fn expect_lengths(
     let lines = text.lines().count();
     for back in (0..lines.saturating_sub(1)).step_by(step) {
         let line = lines.saturating_sub(back);
-        for (row, cells) in [("x\n", "1 cell"), ("-,x,y,z\n", "4 cells")] {
+        for (row, cells) in [("x\n", 1), ("-,x,y,z\n", 4)] {
             let bad = with_row(alloc, text, line, row)?;
             let [first, next, last] = with_input(inputs(alloc, command, count)?, place, bad);
             let texts = [first.as_bytes(), next.as_bytes(), last.as_bytes()];
             let name = command.names().get(place).copied().unwrap_or("");
-            let remedy = if cells == "1 cell" {
-                " (--ragged takes a short row)"
-            } else {
-                ""
-            };
-            let wanted = format!(in alloc;
-                "{name}: line {line}: {cells}, and there are {columns} columns{remedy}"
-            )?;
+            let wanted = fault_of(alloc, name, line, cells, columns)?;
             expect_fault(alloc, asked(alloc, PLAIN, command, texts), &wanted)?;
         }
     }

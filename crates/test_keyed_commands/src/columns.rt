@@ -1,8 +1,8 @@
 //! Tests: columns of the key, columns that one table alone has, and tables with no header.
 
 use crate::commands::{
-    COMMANDS, Command, HEADLESS, PLAIN, TEXT, answered, asked, compared, expect, expect_fault,
-    merged, under,
+    COMMANDS, Command, HEADLESS, PLAIN, TEXT, answered, applied, asked, compared, expect,
+    expect_fault, merged, under,
 };
 use std::test::Fail;
 
@@ -250,8 +250,7 @@ fn changes_carry_what_became_of_columns(rt: HostRuntime) -> Result<(), Fail> {
         for new in TABLES {
             for command in [Command::Diff, Command::SortedDiff] {
                 let changes = answered(asked(alloc, settings, command, [old, new, b""]))?;
-                let inputs = [old, changes.bytes.as_slice(), b""];
-                expect(asked(alloc, settings, Command::Apply, inputs), 0, new)?;
+                expect(applied(alloc, settings, old, &changes.bytes), 0, new)?;
             }
         }
     }
