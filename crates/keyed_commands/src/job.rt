@@ -8,7 +8,7 @@ use keyed_files::{
     Columns, Fault, Form, JoinColumns, Layout, Opened, Reason, Settings, Sign, SignedRow, Two, at,
     write_table,
 };
-use keyed_rows::{Group, Key, ReadRow};
+use keyed_rows::{Group, Key, ReadRow, Release};
 use keyed_tables::{Order, Rows, grouped_rows, paired, unique_rows};
 use std::alloc::{AllocError, Global};
 use std::io::Read;
@@ -109,12 +109,13 @@ impl<'c, C> Job<'c, C> {
         Ok(arranged)
     }
 
-    // The rows by key, of which no two have the same unless they are groups. A key that repeats and may not is an error.
+    // The rows by key, of which no two have the same unless they are groups. A key that repeats and may not is an error. Rows last, since a
+    // run ends with its answer.
     fn gather(&self, rows: Vec<ReadRow>) -> Result<Table, Reason> {
         if self.groups {
-            Ok(grouped_rows(self.alloc, rows)?)
+            Ok(grouped_rows(self.alloc, rows, Release::AtExit)?)
         } else {
-            Ok(unique_rows(self.alloc, rows)?)
+            Ok(unique_rows(self.alloc, rows, Release::AtExit)?)
         }
     }
 

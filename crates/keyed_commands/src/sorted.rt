@@ -11,7 +11,7 @@ use crate::written::write_changes;
 use keyed_files::{
     Columns, Content, Fault, JoinColumns, Joining, Layout, Parts, Reason, Stream, Two, at,
 };
-use keyed_rows::{Cells, Key};
+use keyed_rows::{Cells, Key, Release};
 use keyed_tables::{changes_of, unique_rows};
 use std::alloc::{AllocError, Global};
 use std::io::{Read, Write};
@@ -210,7 +210,7 @@ fn rows_up_to<R: Read + Drop>(
             None => break,
         }
     }
-    Ok(unique_rows(alloc, rows)?)
+    Ok(unique_rows(alloc, rows, Release::AtDrop)?)
 }
 
 // The lesser key of those that are there.

@@ -5,6 +5,7 @@ ghost use Rattle.std.specs.Prelude.{◌≤◌, length};
 use crate::encoding::Encoding;
 use crate::first_cell::MARK;
 use crate::request::{Comment, Reading};
+use memchr::memchr2;
 use std::alloc::{AllocError, Global};
 use std::cell::Cell;
 use std::io;
@@ -196,7 +197,7 @@ impl Lines {
     {
         let from = self.pass(bytes);
         let line = &bytes[from..];
-        let end = line.iter().position(|byte| ends_line(*byte));
+        let end = memchr2(b'\n', b'\r', line);
         if end != Some(0) {
             self.note(line.first());
         }
@@ -251,9 +252,4 @@ impl Lines {
             self.row.set(Some(self.line));
         }
     }
-}
-
-// Whether a line ends at a byte.
-fn ends_line(byte: u8) -> bool {
-    byte == b'\n' || byte == b'\r'
 }
