@@ -1,1 +1,2 @@
+pub mod ChangeRows
 pub mod Keys

@@ -1,1 +1,3 @@
 pub mod NameLemmas
+pub mod PlacedLemmas
+pub mod WritingLemmas

@@ -1,4 +1,6 @@
 //! The bytes of a file on their way to the reader of CSV: line by line, and with quotes in order unless they are taken as they are.
+ghost use Rattle.std.specs.Prelude.{◌≡◌};
+ghost use Rattle.keyed_files.specs.Writing.{comment_of, delimiter_of};
 
 use crate::by_line::ByLine;
 use crate::request::{Comment, Form, Quotes};
@@ -42,7 +44,10 @@ impl<R> Checked<R> {
 }
 
 // The bytes that part a text of this form.
-fn marks_of(form: Form) -> Marks {
+pub(crate) fn marks_of(form: Form) -> Marks
+    ensures delimiter { result.delimiter ≡ delimiter_of form }
+    ensures comment { result.comment ≡ comment_of form }
+{
     Marks {
         delimiter: form.delimiter.byte(),
         comment: form.reading.comment.map(Comment::byte),

@@ -20,6 +20,7 @@ mod names;
 mod new_columns;
 mod opened;
 mod parts;
+mod placed;
 mod request;
 mod sign;
 mod source;
