@@ -7,7 +7,7 @@ use clap::{Arg, ArgAction, ArgMatches};
 use form::form_of;
 use keyed_files::{
     Colours, Command, Format, JoinNames, Joining, Kind, Reason, Request, Settings, SortedRequest,
-    key_names,
+    Wanted, key_names,
 };
 use std::alloc::{AllocError, Global};
 use std::{fmt, io};
@@ -101,15 +101,30 @@ fn command_of<'a>(
 ) -> Result<Command<'a>, ParseError> {
     let request = request_of(name, matches, terminal)?;
     let settings = settings_of(alloc, matches, request)?;
+    let wanted = wanted_of(matches);
     if !matches.get_flag("sorted") {
-        return Ok(Command::Whole { settings, request });
+        return Ok(Command::Whole {
+            settings,
+            request,
+            wanted,
+        });
     }
     match sorted_of(request) {
         Some(request) => Ok(Command::Sorted {
             layout: settings.layout(),
             request,
+            wanted,
         }),
         None => Err(ParseError::SortedTable),
+    }
+}
+
+// How much of the answer is wanted.
+fn wanted_of(matches: &ArgMatches<'_>) -> Wanted {
+    if matches.get_flag("quiet") {
+        Wanted::Status
+    } else {
+        Wanted::Answer
     }
 }
 
@@ -186,8 +201,9 @@ fn file_of<'a>(matches: &ArgMatches<'a>, name: &str) -> &'a str {
     matches.get_str(name).unwrap_or("-")
 }
 
+// An answer of which the status alone is wanted takes the form that is made with the least.
 fn format_of(matches: &ArgMatches<'_>, terminal: Colours) -> Format {
-    if matches.get_str("format") == Some("csv") {
+    if matches.get_str("format") == Some("csv") || matches.get_flag("quiet") {
         return Format::Csv;
     }
     Format::Table {
@@ -395,16 +411,27 @@ fn put_options<'a>(alloc: Global, args: &mut Vec<Arg<'a>>, name: &str) -> Result
         "diff" => {
             put(args, choice(alloc, FORMAT))?;
             put(args, choice(alloc, COLOR))?;
+            put(args, quiet(alloc))?;
+            put(args, sorted(alloc)?)
         }
+        "apply" | "merge" => put(args, quiet(alloc)),
         "join" => {
             put(args, choice(alloc, KIND))?;
             for (name, value, help) in &TEXTS_OF_JOIN {
                 put(args, text(alloc, name, value, help))?;
             }
+            put(args, sorted(alloc)?)
         }
-        _ => return Ok(()),
+        _ => Ok(()),
     }
-    put(args, sorted(alloc)?)
+}
+
+fn quiet<'a>(alloc: Global) -> Arg<'a> {
+    flag(
+        alloc,
+        "quiet",
+        "Nothing is printed: the status alone tells what came out",
+    )
 }
 
 // An option that is one of some words, of which the first is the default, with what stands for them in the help, and its own help.
@@ -483,15 +510,30 @@ fn put<T: Drop>(items: &mut Vec<T>, item: T) -> Result<(), AllocError> {
 }
 
 fn text<'a>(alloc: Global, name: &'a str, value: &'a str, help: &'a str) -> Arg<'a> {
-    Arg::new(alloc, name)
-        .long(name)
-        .value_name(value)
-        .help(help)
+    option(alloc, name).value_name(value).help(help)
 }
 
 fn flag<'a>(alloc: Global, name: &'a str, help: &'a str) -> Arg<'a> {
-    Arg::new(alloc, name)
-        .long(name)
-        .action(ArgAction::SetTrue)
-        .help(help)
+    option(alloc, name).action(ArgAction::SetTrue).help(help)
+}
+
+// An option by its name, and by its letter if it has one.
+fn option<'a>(alloc: Global, name: &'a str) -> Arg<'a> {
+    let option = Arg::new(alloc, name).long(name);
+    match letter_of(name) {
+        Some(letter) => option.short(letter),
+        None => option,
+    }
+}
+
+// The letter that stands for the name of an option, if one does.
+fn letter_of(name: &str) -> Option<char> {
+    match name {
+        "key" => Some('k'),
+        "delimiter" => Some('d'),
+        "group" => Some('g'),
+        "no-header" => Some('H'),
+        "quiet" => Some('q'),
+        _ => None,
+    }
 }

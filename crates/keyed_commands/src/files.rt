@@ -4,13 +4,13 @@ use crate::answers::{Answer, apply, diff, join, merge};
 use crate::sorted::{diff_sorted, join_sorted};
 use either_or_both::Either;
 use keyed_files::{
-    Command, Delimiter, Fault, Layout, Reason, Request, Settings, SortedRequest, Stream, at,
+    Command, Delimiter, Fault, Layout, Reason, Request, Settings, SortedRequest, Stream, Wanted, at,
 };
 use std::io::Write;
 use std::rt::Files;
 use std::{fs, io};
 
-/// Writes the answer to a command, and returns the status.
+/// Writes the answer to a command, unless its status alone is wanted, and returns the status.
 ///
 /// # Errors
 ///
@@ -21,8 +21,22 @@ pub fn write_command<'a, R: Files + Input + AllocGlobal, W: Write>(
     output: &mut W,
 ) -> Result<u8, Fault<'a>> {
     match command {
-        Command::Whole { settings, request } => write_request(rt, settings, request, output),
-        Command::Sorted { layout, request } => stream_request(rt, layout, request, output),
+        Command::Whole {
+            settings,
+            request,
+            wanted,
+        } => match wanted {
+            Wanted::Answer => write_request(rt, settings, request, output),
+            Wanted::Status => Ok(answer_request(rt, settings, request)?.status),
+        },
+        Command::Sorted {
+            layout,
+            request,
+            wanted,
+        } => match wanted {
+            Wanted::Answer => stream_request(rt, layout, request, output),
+            Wanted::Status => stream_request(rt, layout, request, &mut io::sink()),
+        },
     }
 }
 

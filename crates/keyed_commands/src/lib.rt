@@ -22,6 +22,6 @@ pub use files::{answer_request, stream_request, write_command, write_request, wr
 pub use keyed_files::{
     Colours, Command, Comment, Delimiter, Encoding, Fault, Form, Format, JoinNames, Joining, Kind,
     Layout, Lengths, Quotes, Reading, Reason, Request, Settings, Shown, ShownCell, ShownName,
-    SortedRequest, Stream, at,
+    SortedRequest, Stream, Wanted, at,
 };
 pub use sorted::{diff_sorted, join_sorted};

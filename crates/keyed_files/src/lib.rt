@@ -42,7 +42,7 @@ pub use opened::{Opened, Stream, Two, at};
 pub use parts::Parts;
 pub use request::{
     Colours, Command, Comment, Delimiter, Form, Format, JoinNames, Joining, Kind, Layout, Lengths,
-    Quotes, Reading, Request, Settings, SortedRequest,
+    Quotes, Reading, Request, Settings, SortedRequest, Wanted,
 };
 pub use sign::{Sign, SignedRow};
 pub use source::{Content, Places, Source};

@@ -259,6 +259,15 @@ pub enum SortedRequest<'a> {
     },
 }
 
+/// How much of an answer is wanted.
+#[derive(Clone, Copy, Debug)]
+pub enum Wanted {
+    /// All of it.
+    Answer,
+    /// The status alone: nothing is written.
+    Status,
+}
+
 /// What a command line asks for.
 #[derive(Clone, Copy, Debug)]
 pub enum Command<'a> {
@@ -266,11 +275,13 @@ pub enum Command<'a> {
     Whole {
         settings: Settings<'a>,
         request: Request<'a>,
+        wanted: Wanted,
     },
     /// An answer that is written while its tables are read.
     Sorted {
         layout: Layout<'a>,
         request: SortedRequest<'a>,
+        wanted: Wanted,
     },
 }
 

@@ -2,7 +2,7 @@
 
 use keyed_arguments::{ParseError, parse};
 use keyed_files::Colours::{Off, On};
-use keyed_files::{Colours, Command, JoinNames, Layout};
+use keyed_files::{Colours, Command, JoinNames, Layout, Wanted};
 use std::alloc::{AllocError, Global};
 use std::test::Fail;
 
@@ -28,19 +28,37 @@ fn asked(alloc: Global, line: &str, terminal: Colours) -> Result<String, AllocEr
 
 fn show_command(alloc: Global, command: Command<'_>) -> Result<String, AllocError> {
     match command {
-        Command::Whole { settings, request } => {
+        Command::Whole {
+            settings,
+            request,
+            wanted,
+        } => {
             let (keeps_order, groups) = (settings.keeps_order as u8, settings.groups as u8);
             let layout = show_layout(alloc, settings.layout())?;
             let text = format!(in alloc; "{request:?}")?;
             let request = without_names(alloc, &text)?;
-            format!(in alloc; "{layout}, {keeps_order}, {groups}, 0] {request}")
+            let only = show_wanted(wanted);
+            format!(in alloc; "{layout}, {keeps_order}, {groups}, 0] {request}{only}")
         }
-        Command::Sorted { layout, request } => {
+        Command::Sorted {
+            layout,
+            request,
+            wanted,
+        } => {
             let layout = show_layout(alloc, layout)?;
             let text = format!(in alloc; "{request:?}")?;
             let request = without_names(alloc, &text)?;
-            format!(in alloc; "{layout}, 0, 0, 1] {request}")
+            let only = show_wanted(wanted);
+            format!(in alloc; "{layout}, 0, 0, 1] {request}{only}")
         }
+    }
+}
+
+// What stands behind a request of which the status alone is wanted.
+fn show_wanted(wanted: Wanted) -> &'static str {
+    match wanted {
+        Wanted::Answer => "",
+        Wanted::Status => ", status",
     }
 }
 
@@ -136,6 +154,32 @@ static SETTINGS: [Asked; 11] = [
 #[test]
 fn option_sets_what_it_says(rt: HostRuntime) -> Result<(), Fail> {
     expect(&rt, &SETTINGS)
+}
+
+#[rattlefmt::skip]
+static LETTERS: [Asked; 14] = [
+    ("diff a b -k id -d ; -g -H",   On,  r#"';' Some("id") [0, 0, 1, 0] Diff { old: "a", new: "b", format: Table { colours: On } }"#),
+    ("apply -gHk 2 a b -d|",        On,  r#"'|' Some("2") [0, 0, 1, 0] Apply { old: "a", changes: "b" }"#),
+    ("merge a b -d tab c -k id,x",  On,  r#"'	' Some("id,x") [1, 0, 0, 0] Merge { base: "a", ours: "b", theirs: "c" }"#),
+    ("join -kid a b -g",            On,  r#"',' Some("id") [1, 0, 1, 0] Join { left: "a", right: "b", Outer }"#),
+    ("diff a b -q",                 On,  r#"',' None [1, 0, 0, 0] Diff { old: "a", new: "b", format: Csv }, status"#),
+    ("diff a b --quiet --format table --color always",
+                                    On,  r#"',' None [1, 0, 0, 0] Diff { old: "a", new: "b", format: Csv }, status"#),
+    ("diff a b -q --sorted",        On,  r#"',' None [1, 0, 0, 1] Diff { old: "a", new: "b" }, status"#),
+    ("apply a b -q",                On,  r#"',' None [1, 0, 0, 0] Apply { old: "a", changes: "b" }, status"#),
+    ("merge a b c --quiet",         On,  r#"',' None [1, 0, 0, 0] Merge { base: "a", ours: "b", theirs: "c" }, status"#),
+    ("join a b -q",                 On,  "wrong"),
+    ("join a b -gs --sorted",       On,  "wrong"),
+    ("join a b -g --sorted",        On,  "wrong"),
+    ("diff a b -k",                 On,  "wrong"),
+    ("diff a b -x",                 On,  "wrong"),
+];
+
+/// The letter of an option is the option, alone or with others behind one `-`. Nothing but the status is asked for by `-q`, of commands that
+/// have one to tell.
+#[test]
+fn letter_stands_for_its_option(rt: HostRuntime) -> Result<(), Fail> {
+    expect(&rt, &LETTERS)
 }
 
 const NO_PREFIX: &str = "keyed: --prefix: not two texts with a comma between them\n";

@@ -125,17 +125,18 @@ Arguments:
   <CHANGES>  What diff --format csv printed; - is the standard input
 
 Options:
-      --key <COLUMN[,COLUMN..]>  The columns that are the key, as a record of CSV; the first column else
-      --delimiter <BYTE>         The byte between cells, or tab; a tab else in files named .tsv or .tab, and a comma in others
+  -q, --quiet                    Nothing is printed: the status alone tells what came out
+  -k, --key <COLUMN[,COLUMN..]>  The columns that are the key, as a record of CSV; the first column else
+  -d, --delimiter <BYTE>         The byte between cells, or tab; a tab else in files named .tsv or .tab, and a comma in others
       --comment <BYTE>           Lines that begin with this byte are passed over
       --skip <N>                 So many lines at the top of each file are passed over
       --left-delimiter <BYTE>    The byte between the cells of the first file, and of what is written
       --right-delimiter <BYTE>   The byte between the cells of the second file
-      --no-header                The first row is no header: columns are named 1, 2 and so on
+  -H, --no-header                The first row is no header: columns are named 1, 2 and so on
       --ragged                   A short row has empty cells behind, and a long one may have empty ones
       --lenient                  Quotes that are not in order are taken as they are
       --keep-order               Rows come out in the order of the files, and not in that of their keys
-      --group                    Keys may repeat: rows with the same key are a group
+  -g, --group                    Keys may repeat: rows with the same key are a group
   -h, --help                     Print help
 ";
 

@@ -17,6 +17,8 @@ mod outputs;
 #[cfg(test)]
 mod process;
 #[cfg(test)]
+mod quiet;
+#[cfg(test)]
 mod reading;
 #[cfg(test)]
 mod runs;
