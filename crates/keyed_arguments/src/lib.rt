@@ -293,7 +293,8 @@ static TEXTS: [(&str, &str, &str); 4] = [
     (
         "key",
         "COLUMN[,COLUMN..]",
-        "The columns that are the key, as a record of CSV; the first column else",
+        "The columns that are the key, as a record of CSV; the first column else; \
+         LEFT=RIGHT where a column has two names",
     ),
     (
         "delimiter",

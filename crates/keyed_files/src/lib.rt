@@ -32,7 +32,7 @@ pub use fate::Fate;
 pub use fault::{Fault, Reason};
 pub use first_cell::quote_first;
 pub use joined_rows::{Sides, join_header};
-pub use key_record::key_names;
+pub use key_record::{KeyNames, key_names};
 pub use lined_up::{
     Colour, Grid, Line, Shown, ShownCell, ShownName, heading, line_under, line_up, put_both,
     put_shown, put_version,

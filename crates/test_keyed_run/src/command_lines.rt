@@ -126,7 +126,7 @@ Arguments:
 
 Options:
   -q, --quiet                    Nothing is printed: the status alone tells what came out
-  -k, --key <COLUMN[,COLUMN..]>  The columns that are the key, as a record of CSV; the first column else
+  -k, --key <COLUMN[,COLUMN..]>  The columns that are the key, as a record of CSV; the first column else; LEFT=RIGHT where a column has two names
   -d, --delimiter <BYTE>         The byte between cells, or tab; a tab else in files named .tsv or .tab, and a comma in others
       --comment <BYTE>           Lines that begin with this byte are passed over
       --skip <N>                 So many lines at the top of each file are passed over

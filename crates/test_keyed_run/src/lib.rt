@@ -26,3 +26,5 @@ mod runs;
 mod shapes;
 #[cfg(test)]
 mod tables;
+#[cfg(test)]
+mod two_names;
