@@ -70,6 +70,8 @@ pub enum Reason {
     TwiceStdin,
     /// Two rows have the same key, and keys may not repeat.
     RepeatedKey(RepeatedKey),
+    /// Two rows of the table in which rows are looked up have the same key.
+    RepeatedRight(RepeatedKey),
 }
 
 impl From<AllocError> for Reason {
@@ -281,6 +283,15 @@ impl fmt::Display for Reason {
                 write!(
                     f,
                     "line {}: duplicate key {}, first on line {}: give more columns by --key, or --group",
+                    repeated.second,
+                    ShownKey(&repeated.key),
+                    repeated.first
+                )
+            }
+            Reason::RepeatedRight(repeated) => {
+                write!(
+                    f,
+                    "line {}: duplicate key {}, first on line {}: give more columns by --key",
                     repeated.second,
                     ShownKey(&repeated.key),
                     repeated.first

@@ -4,6 +4,8 @@ ghost use Rattle.keyed_text.specs.Texts.{PartsCells};
 ghost use Rattle.keyed_files.specs.Delimiters.{PartsCells-prop};
 
 use crate::fault::{Fault, Reason};
+use crate::lookups::Lookup;
+use crate::overlays::Overlay;
 
 /// A byte that may stand between cells: an ASCII character that neither ends rows nor quotes cells.
 #[derive(Clone, Copy, Debug)]
@@ -269,7 +271,7 @@ pub enum Wanted {
 }
 
 /// What a command line asks for.
-#[derive(Clone, Copy, Debug)]
+#[derive(Debug, Drop)]
 pub enum Command<'a> {
     /// An answer that is written once all of it is known.
     Whole {
@@ -282,6 +284,16 @@ pub enum Command<'a> {
         layout: Layout<'a>,
         request: SortedRequest<'a>,
         wanted: Wanted,
+    },
+    /// Rows looked up in another table, which are written while they are read.
+    Lookup {
+        layout: Layout<'a>,
+        request: Lookup<'a>,
+    },
+    /// Tables that are laid one over the other.
+    Overlay {
+        settings: Settings<'a>,
+        request: Overlay<'a>,
     },
 }
 
@@ -316,7 +328,7 @@ impl SortedRequest<'_> {
 }
 
 // Tells that no more than one of the files is the standard input.
-fn check_files<'a>(files: &[&str]) -> Result<(), Fault<'a>> {
+pub(crate) fn check_files<'a>(files: &[&str]) -> Result<(), Fault<'a>> {
     if files.iter().filter(|file| **file == "-").count() > 1 {
         Err(Fault {
             file: "-",

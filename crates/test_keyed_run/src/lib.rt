@@ -13,7 +13,11 @@ mod inputs;
 #[cfg(test)]
 mod keys_shown;
 #[cfg(test)]
+mod lookups;
+#[cfg(test)]
 mod outputs;
+#[cfg(test)]
+mod overlays;
 #[cfg(test)]
 mod process;
 #[cfg(test)]
