@@ -40,6 +40,7 @@ pub fn diff<'a, R: Read + Drop>(
     new: Stream<'a, R>,
 ) -> Result<Answer, Fault<'a>> {
     let mut versions = Two::new(alloc, settings.form, Content::Rows, old, new)?;
+    versions.first.rename_key(alloc, settings.key)?;
     let columns = match format {
         Format::Csv => versions.change_columns(alloc, settings.key)?,
         Format::Table { .. } => versions.columns(alloc, settings.key)?,
@@ -92,6 +93,7 @@ pub fn apply<'a, R: Read + Drop>(
     changes: Stream<'a, R>,
 ) -> Result<Answer, Fault<'a>> {
     let mut inputs = Two::new(alloc, settings.form, Content::Changes, old, changes)?;
+    inputs.first.rename_key(alloc, settings.key)?;
     let columns = inputs.changed_columns(alloc, settings.key)?;
     apply_files(Job::new(alloc, settings, &columns), &mut inputs)
 }
@@ -158,6 +160,7 @@ pub fn merge<'a, R: Read + Drop>(
 ) -> Result<Answer, Fault<'a>> {
     let mut base = Opened::new(alloc, settings.form, Content::Rows, base)?;
     let mut sides = Two::new(alloc, settings.form, Content::Rows, ours, theirs)?;
+    base.rename_key(alloc, settings.key)?;
     let columns = columns_of_merge(alloc, settings, &base, &sides)?;
     merge_files(Job::new(alloc, settings, &columns), &mut base, &mut sides)
 }

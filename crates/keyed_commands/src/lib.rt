@@ -1,7 +1,7 @@
 //! Tables as CSV files, or on any reader and writer: compared, changed, merged and joined by key.
 //!
-//! `write_command` answers a command of the files that it names, `diff`, `apply`, `merge` and `join` one of any readers (`Stream`), and
-//! `diff_sorted` and `join_sorted` write while they read. The core, over tables in memory, is `keyed_tables`; files are read and written
+//! `write_command` answers a command of the files that it names, `diff`, `apply`, `merge`, `join` and `overlay` one of any readers
+//! (`Stream`), and `diff_sorted`, `join_sorted` and `lookup` write while they read. The core, over tables in memory, is `keyed_tables`; files are read and written
 //! by `keyed_files`.
 #![tactic(auto)]
 
@@ -10,6 +10,8 @@ mod changes;
 mod files;
 mod job;
 mod joined;
+mod layers;
+mod lookups;
 mod lost;
 mod merged;
 mod patch;
@@ -20,8 +22,11 @@ mod written;
 pub use answers::{Answer, apply, diff, join, merge};
 pub use files::{answer_request, stream_request, write_command, write_request, write_whole};
 pub use keyed_files::{
-    Colours, Command, Comment, Delimiter, Encoding, Fault, Form, Format, JoinNames, Joining, Kind,
-    Layout, Lengths, Quotes, Reading, Reason, Request, Settings, Shown, ShownCell, ShownName,
-    SortedRequest, Stream, at,
+    Colours, Command, Comment, Delimiter, Encoding, Fault, Finding, Form, Format, JoinNames,
+    Joining, Kind, Layer, Layout, Lengths, Lookup as LookupRequest, LookupKind, NamedFile,
+    Overlay as OverlayRequest, Quotes, Reading, Reason, Request, Settings, Shown, ShownCell,
+    ShownName, SortedRequest, Stream, Wanted, at,
 };
+pub use layers::overlay;
+pub use lookups::lookup;
 pub use sorted::{diff_sorted, join_sorted};

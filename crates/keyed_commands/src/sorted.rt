@@ -73,7 +73,8 @@ pub fn diff_sorted<'a, R: Read + Drop, W: Write>(
     new: Stream<'a, R>,
     output: &mut W,
 ) -> Result<u8, Fault<'a>> {
-    let versions = Two::new(alloc, layout.form, Content::Rows, old, new)?;
+    let mut versions = Two::new(alloc, layout.form, Content::Rows, old, new)?;
+    versions.first.rename_key(alloc, layout.key)?;
     let has_lone = at(
         versions.next.file,
         versions.column_changes().has_lone(alloc),

@@ -3,6 +3,7 @@
 use crate::columns::place_of;
 use crate::fate::Fate;
 use crate::fault::Reason;
+use crate::key_record::KeyNames;
 use crate::names::Names;
 use csv::ByteRecord;
 use keyed_rows::Cells;
@@ -108,6 +109,31 @@ impl Header {
         Ok(header)
     }
 
+    /// Gives the columns of a key, which have the first of their names, the others. A header with no name, as of an empty file, stays so.
+    ///
+    /// # Errors
+    ///
+    /// Returns `NoColumn` if the header lacks a column that gets another name, `RepeatedColumn` if it has one more than once, `NamedTwice`
+    /// if two columns would have one name, and `NoMemory` if a request for memory was refused.
+    pub fn rename(&mut self, alloc: Global, key: &KeyNames) -> Result<(), Reason> {
+        let there = Names::of_cells(alloc, &self.names)?;
+        self.check_key(alloc, &there, &renamed_of(alloc, key)?)?;
+        let mut names = Cells::new(alloc);
+        let mut seen = Names::new(alloc);
+        for name in &self.names {
+            let name = key.other_of(name).unwrap_or(name);
+            if !seen.add(alloc, name)? {
+                return Err(Reason::NamedTwice {
+                    line: self.line,
+                    name: Vec::from_slice(alloc, name)?,
+                });
+            }
+            names.push(name)?;
+        }
+        self.names = names;
+        Ok(())
+    }
+
     /// Tells that each name of a key is that of one column. A header with no name, as of an empty file, is asked for none.
     ///
     /// # Errors
@@ -133,6 +159,17 @@ impl Header {
         }
         Ok(())
     }
+}
+
+// The first of the names of those columns of a key that have two.
+fn renamed_of(alloc: Global, key: &KeyNames) -> Result<Cells, AllocError> {
+    let mut names = Cells::new(alloc);
+    for (first, other) in key.first.iter().zip(key.others.iter()) {
+        if first != other {
+            names.push(first)?;
+        }
+    }
+    Ok(names)
 }
 
 // The fate of a column and its name, behind as many cells: behind none, as in a table of rows, a name has no mark.

@@ -4,13 +4,13 @@ ghost use Rattle.keyed_files.specs.JoinedRows.{join_heading, joined_row, joined_
 ghost use Rattle.keyed_files.specs.JoinedRows.{rows_beside, side_count, side_row};
 ghost use Rattle.keyed_files.specs.Writing.{PutsCells, PutsRows};
 
-use crate::columns::JoinColumns;
+use crate::columns::{Columns, JoinColumns};
 use crate::fault::Reason;
 use crate::names::Names;
 use crate::request::{Joining, Kind};
 use crate::written::Written;
 use keyed_rows::{Cells, Group, Key};
-use std::alloc::Global;
+use std::alloc::{AllocError, Global};
 
 /// What a row of a join has: the rows of each side, and a cell that stands before its key, if there is one.
 #[derive(Clone, Copy)]
@@ -168,22 +168,37 @@ pub fn join_header(
     for name in &left.key {
         header.put(alloc, name)?;
     }
-    header.put_side(alloc, names.left, &left.rest, &right.rest)?;
-    header.put_side(alloc, names.right, &right.rest, &left.rest)?;
+    let of_right = Names::of_cells(alloc, &right.rest)?;
+    header.put_side(alloc, names.left, &left.rest, &of_right)?;
+    header.put_side(
+        alloc,
+        names.right,
+        &right.rest,
+        &names_of_left(alloc, left)?,
+    )?;
     Ok(header.names)
+}
+
+// The names of all columns of the left table.
+pub(crate) fn names_of_left(alloc: Global, left: &Columns) -> Result<Names, AllocError> {
+    let mut names = Names::of_cells(alloc, &left.key)?;
+    for name in &left.rest {
+        names.add(alloc, name)?;
+    }
+    Ok(names)
 }
 
 // The names of the columns of a join, no two of which are the same.
 #[derive(Drop)]
-struct JoinHeader<'a> {
+pub(crate) struct JoinHeader<'a> {
     first: Option<&'a [u8]>,
-    names: Cells,
+    pub names: Cells,
     there: Names,
 }
 
 impl<'a> JoinHeader<'a> {
     // The name of the first column, if there is one.
-    fn new(alloc: Global, first: Option<&'a [u8]>) -> Result<Self, Reason> {
+    pub fn new(alloc: Global, first: Option<&'a [u8]>) -> Result<Self, Reason> {
         let mut header = JoinHeader {
             first,
             names: Cells::new(alloc),
@@ -196,7 +211,7 @@ impl<'a> JoinHeader<'a> {
     }
 
     // Puts the name of the next column.
-    fn put(&mut self, alloc: Global, name: &[u8]) -> Result<(), Reason> {
+    pub fn put(&mut self, alloc: Global, name: &[u8]) -> Result<(), Reason> {
         if self.there.add(alloc, name)? {
             self.names.push(name)?;
             return Ok(());
@@ -212,22 +227,32 @@ impl<'a> JoinHeader<'a> {
     }
 
     // Puts the names of a side, with a word before each that the other side has too.
-    fn put_side(
+    pub fn put_side(
         &mut self,
         alloc: Global,
         word: &str,
         names: &Cells,
-        others: &Cells,
+        others: &Names,
     ) -> Result<(), Reason> {
-        let others = Names::of_cells(alloc, others)?;
         for name in names {
-            let mut told = Vec::new(alloc);
-            if others.has(name) {
-                told.extend_from_slice(word.as_bytes())?;
-            }
-            told.extend_from_slice(name)?;
-            self.put(alloc, &told)?;
+            self.put_told(alloc, word, name, others)?;
         }
         Ok(())
+    }
+
+    // Puts the name of the next column, with a word before it if it is one of others.
+    pub fn put_told(
+        &mut self,
+        alloc: Global,
+        word: &str,
+        name: &[u8],
+        others: &Names,
+    ) -> Result<(), Reason> {
+        let mut told = Vec::new(alloc);
+        if others.has(name) {
+            told.extend_from_slice(word.as_bytes())?;
+        }
+        told.extend_from_slice(name)?;
+        self.put(alloc, &told)
     }
 }

@@ -8,6 +8,7 @@ use crate::checked::Checked;
 use crate::columns::Columns;
 use crate::fault::Reason;
 use crate::header::Header;
+use crate::key_record::KeyNames;
 use crate::names::Names;
 use crate::request::{Comment, Form, Lengths, Quotes};
 use crate::sign::{Sign, SignedRow};
@@ -51,6 +52,15 @@ impl<R> Source<R> {
     /// In a table of changes, the names of the columns that go.
     pub fn gone(&self) -> &Cells {
         &self.header.gone
+    }
+
+    /// Gives the columns of a key, which have the names of the first table, those of the others.
+    ///
+    /// # Errors
+    ///
+    /// Returns the errors of `Header::rename`.
+    pub(crate) fn rename(&mut self, key: &KeyNames) -> Result<(), Reason> {
+        self.header.rename(self.alloc, key)
     }
 }
 

@@ -3,4 +3,5 @@ pub mod ClimbLemmas
 pub mod GatherLemmas
 pub mod KeyLemmas
 pub mod OrderLemmas
+pub mod OverlayLemmas
 pub mod RepeatLemmas

@@ -1,4 +1,5 @@
 pub mod Arranged
 pub mod Gathered
+pub mod Laid
 pub mod Repeated
 pub mod RisingRows

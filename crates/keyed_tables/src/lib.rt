@@ -6,10 +6,12 @@
 
 mod gather;
 mod order;
+mod overlay;
 mod table;
 mod versions;
 
 pub use gather::{grouped_rows, unique_rows};
 pub use order::Order;
+pub use overlay::{filled_over, laid_over};
 pub use table::Rows;
 pub use versions::{changes_of, merge_of, paired, patched};

@@ -1,11 +1,12 @@
 //! Each command on tables that are texts, and on readers and writers. What the tests know of the calls of `keyed_commands` stands here.
 
 use keyed_commands::{
-    Answer, Colours, Delimiter, Fault, Form, Format, Joining, Kind, Reading, Request, Settings,
-    SortedRequest, Stream, apply, at, diff, diff_sorted, join, join_sorted, merge, stream_request,
-    write_request, write_whole,
+    Answer, Colours, Command as AnyCommand, Delimiter, Fault, Finding, Form, Format, JoinNames,
+    Joining, Kind, Layer, LookupKind, LookupRequest, NamedFile, OverlayRequest, Reading, Request,
+    Settings, SortedRequest, Stream, apply, at, diff, diff_sorted, join, join_sorted, lookup,
+    merge, overlay, stream_request, write_command, write_request, write_whole,
 };
-use std::alloc::Global;
+use std::alloc::{AllocError, Global};
 use std::io::{Read, Write};
 use std::rt::Files;
 use std::test::Fail;
@@ -90,17 +91,27 @@ pub enum Command {
     Join,
     SortedDiff,
     SortedJoin,
+    Lookup,
+    Overlay,
 }
 
 /// All of them.
-pub const COMMANDS: [Command; 6] = [
+pub const COMMANDS: [Command; 8] = [
     Command::Diff,
     Command::Apply,
     Command::Merge,
     Command::Join,
     Command::SortedDiff,
     Command::SortedJoin,
+    Command::Lookup,
+    Command::Overlay,
 ];
+
+/// Each row of the left table, whether it is found or not.
+pub const FOUND: Finding<'static> = Finding {
+    kind: LookupKind::Left,
+    names: JoinNames::PLAIN,
+};
 
 impl Command {
     /// The names of its inputs, as faults have them.
@@ -109,12 +120,13 @@ impl Command {
             Command::Diff | Command::SortedDiff => &["old", "new"],
             Command::Apply => &["old", "changes"],
             Command::Merge => &["base", "ours", "theirs"],
-            Command::Join | Command::SortedJoin => &["left", "right"],
+            Command::Join | Command::SortedJoin | Command::Lookup => &["left", "right"],
+            Command::Overlay => &["base", "over"],
         }
     }
 
-    /// The command of these files.
-    pub fn of<'a>(self, files: [&'a str; 3]) -> Request<'a> {
+    // The command of these files, whole.
+    fn of<'a>(self, files: [&'a str; 3]) -> Request<'a> {
         let [first, next, last] = files;
         match self {
             Command::Diff | Command::SortedDiff => Request::Diff {
@@ -131,11 +143,12 @@ impl Command {
                 ours: next,
                 theirs: last,
             },
-            Command::Join | Command::SortedJoin => Request::Join {
-                left: first,
-                right: next,
-                how: Joining::of(Kind::Outer),
-            },
+            Command::Join | Command::SortedJoin | Command::Lookup | Command::Overlay =>
+                Request::Join {
+                    left: first,
+                    right: next,
+                    how: Joining::of(Kind::Outer),
+                },
         }
     }
 }
@@ -190,7 +203,30 @@ pub fn write_answer<'a, R: Read + Drop, W: Write>(
                 output,
             )
         }
+        Command::Lookup => {
+            let (left, right) = (named("left", old), named("right", new));
+            lookup(alloc, settings.layout(), FOUND, left, right, output)
+        }
+        Command::Overlay => {
+            let tables = at(
+                "base",
+                two_of(alloc, named("base", old), named("over", new)),
+            )?;
+            write_whole_answer(overlay(alloc, settings, Layer::Rows, tables), output)
+        }
     }
+}
+
+// Two tables.
+fn two_of<'a, R: Drop>(
+    alloc: Global,
+    first: Stream<'a, R>,
+    next: Stream<'a, R>,
+) -> Result<Vec<Stream<'a, R>>, AllocError> {
+    let mut tables = Vec::new(alloc);
+    tables.push(first)?;
+    tables.push(next)?;
+    Ok(tables)
 }
 
 // A file by another name.
@@ -236,8 +272,41 @@ pub fn write_answer_of_files<'a, R: Files + Input + AllocGlobal, W: Write>(
             };
             stream_request(rt, settings.layout(), request, output)
         }
+        Command::Lookup => {
+            let request = LookupRequest {
+                left: first,
+                right: next,
+                how: FOUND,
+            };
+            let layout = settings.layout();
+            write_command(rt, AnyCommand::Lookup { layout, request }, output)
+        }
+        Command::Overlay => {
+            let files = at(first, two_files(rt.alloc(), first, next))?;
+            let request = OverlayRequest {
+                files,
+                layer: Layer::Rows,
+            };
+            write_command(rt, AnyCommand::Overlay { settings, request }, output)
+        }
         _ => write_request(rt, settings, command.of(files), output),
     }
+}
+
+// Two files with commas between their cells.
+fn two_files<'a>(
+    alloc: Global,
+    first: &'a str,
+    next: &'a str,
+) -> Result<Vec<NamedFile<'a>>, AllocError> {
+    let mut files = Vec::new(alloc);
+    for file in [first, next] {
+        files.push(NamedFile {
+            file,
+            delimiter: Delimiter::COMMA,
+        })?;
+    }
+    Ok(files)
 }
 
 /// Writes the answer to `diff` of files as a person reads it, and returns the status.

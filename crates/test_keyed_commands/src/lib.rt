@@ -17,6 +17,8 @@ mod form;
 #[cfg(test)]
 mod groups;
 #[cfg(test)]
+mod looked_up;
+#[cfg(test)]
 mod made;
 #[cfg(test)]
 mod merge;
