@@ -1,4 +1,6 @@
 pub mod Arranged
 pub mod Gathered
+pub mod Marked
 pub mod Repeated
 pub mod RisingRows
+pub mod RowsByCell
