@@ -2,13 +2,19 @@
 #![tactic(auto)]
 
 mod form;
+mod git;
+mod merging;
+mod output;
 
 use clap::{Arg, ArgAction, ArgMatches};
 use form::form_of;
+use git::{git_asked, put_git_commands};
 use keyed_files::{
-    Colours, Command, Format, JoinNames, Joining, Kind, Reason, Request, Settings, SortedRequest,
-    key_names,
+    Asked, Colours, Command, Format, JoinNames, Joining, Kind, Reason, Request, Settings,
+    SortedRequest, key_names,
 };
+use merging::{merging_of, put_merging};
+use output::{output_of, put_output};
 use std::alloc::{AllocError, Global};
 use std::{fmt, io};
 
@@ -74,7 +80,7 @@ impl fmt::Display for ParseError {
     }
 }
 
-/// The command that the words of a command line make. Where `--color` leaves it open, a table that a person reads has colours or not as
+/// What the words of a command line ask for. Where `--color` leaves it open, a table that a person reads has colours or not as
 /// the terminal has.
 ///
 /// # Errors
@@ -85,10 +91,16 @@ pub fn parse<'a>(
     alloc: Global,
     words: &'a [String],
     terminal: Colours,
-) -> Result<Command<'a>, ParseError> {
+) -> Result<Asked<'a>, ParseError> {
     let matches = command(alloc)?.try_get_matches_from(words)?;
     match matches.subcommand() {
-        Some((name, matches)) => command_of(alloc, name, matches, terminal),
+        Some((name, matches)) => match git_asked(alloc, name, matches, words, terminal)? {
+            Some(asked) => Ok(asked),
+            None => Ok(Asked::Answer {
+                command: command_of(alloc, name, matches, terminal)?,
+                output: output_of(matches),
+            }),
+        },
         None => Err(ParseError::from(AllocError)),
     }
 }
@@ -140,6 +152,7 @@ fn request_of<'a>(
             base: file_of(matches, "BASE"),
             ours: file_of(matches, "OURS"),
             theirs: file_of(matches, "THEIRS"),
+            how: merging_of(matches),
         },
         "join" => Request::Join {
             left: file_of(matches, "LEFT"),
@@ -362,6 +375,7 @@ fn subcommands<'a>(alloc: Global) -> Result<Vec<clap::Command<'a>>, AllocError> 
     for below in &COMMANDS {
         put(&mut commands, subcommand(alloc, below)?)?;
     }
+    put_git_commands(alloc, &mut commands)?;
     Ok(commands)
 }
 
@@ -402,6 +416,7 @@ fn put_options<'a>(alloc: Global, args: &mut Vec<Arg<'a>>, name: &str) -> Result
                 put(args, text(alloc, name, value, help))?;
             }
         }
+        "merge" => return put_merging(alloc, args),
         _ => return Ok(()),
     }
     put(args, sorted(alloc)?)
@@ -473,7 +488,7 @@ fn put_settings<'a>(
     for (name, help) in &FLAGS {
         put(args, flag(alloc, name, help))?;
     }
-    Ok(())
+    put_output(alloc, args)
 }
 
 // Puts an item behind the others. One that there is no memory for is dropped.

@@ -102,11 +102,16 @@ pub fn answer_request<'a, R: Files + Input + AllocGlobal>(
             let old = stream_of(rt, old, None);
             apply(alloc, settings, old, stream_of(rt, changes, next))
         }
-        Request::Merge { base, ours, theirs } => {
+        Request::Merge {
+            base,
+            ours,
+            theirs,
+            how,
+        } => {
             let base = stream_of(rt, base, None);
             let ours = stream_of(rt, ours, next);
             let theirs = stream_of(rt, theirs, settings.form.reading.last);
-            merge(alloc, settings, base, ours, theirs)
+            merge(alloc, settings, how, base, ours, theirs)
         }
         Request::Join { left, right, how } => {
             let left = stream_of(rt, left, None);

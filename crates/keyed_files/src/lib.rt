@@ -4,6 +4,7 @@
 //! Tables by key stand above this crate, in `keyed_commands`.
 #![tactic(auto)]
 
+mod asked;
 mod by_line;
 mod checked;
 mod column_changes;
@@ -16,6 +17,7 @@ mod header;
 mod joined_rows;
 mod key_record;
 mod lined_up;
+mod merging;
 mod names;
 mod new_columns;
 mod opened;
@@ -25,6 +27,7 @@ mod sign;
 mod source;
 mod written;
 
+pub use asked::{Asked, GitDiff, GitMerge};
 pub use column_changes::ColumnChanges;
 pub use columns::{Columns, JoinColumns, Place, columns_of, join_columns};
 pub use encoding::Encoding;
@@ -37,6 +40,7 @@ pub use lined_up::{
     Colour, Grid, Line, Shown, ShownCell, ShownName, heading, line_under, line_up, put_both,
     put_shown, put_version,
 };
+pub use merging::{Conflicts, Merging, Unit};
 pub use new_columns::{changed_columns, marked_names, merged_columns};
 pub use opened::{Opened, Stream, Two, at};
 pub use parts::Parts;

@@ -4,6 +4,7 @@ ghost use Rattle.keyed_text.specs.Texts.{PartsCells};
 ghost use Rattle.keyed_files.specs.Delimiters.{PartsCells-prop};
 
 use crate::fault::{Fault, Reason};
+use crate::merging::Merging;
 
 /// A byte that may stand between cells: an ASCII character that neither ends rows nor quotes cells.
 #[derive(Clone, Copy, Debug)]
@@ -233,6 +234,7 @@ pub enum Request<'a> {
         base: &'a str,
         ours: &'a str,
         theirs: &'a str,
+        how: Merging,
     },
     /// Two tables joined by key.
     Join {
@@ -284,7 +286,12 @@ impl Request<'_> {
         match self {
             Request::Diff { old, new, .. } => check_files(&[old, new]),
             Request::Apply { old, changes } => check_files(&[old, changes]),
-            Request::Merge { base, ours, theirs } => check_files(&[base, ours, theirs]),
+            Request::Merge {
+                base,
+                ours,
+                theirs,
+                ..
+            } => check_files(&[base, ours, theirs]),
             Request::Join { left, right, .. } => check_files(&[left, right]),
         }
     }

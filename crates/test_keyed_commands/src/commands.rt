@@ -1,9 +1,9 @@
 //! Each command on tables that are texts, and on readers and writers. What the tests know of the calls of `keyed_commands` stands here.
 
 use keyed_commands::{
-    Answer, Colours, Delimiter, Fault, Form, Format, Joining, Kind, Reading, Request, Settings,
-    SortedRequest, Stream, apply, at, diff, diff_sorted, join, join_sorted, merge, stream_request,
-    write_request, write_whole,
+    Answer, Colours, Delimiter, Fault, Form, Format, Joining, Kind, Merging, Outcome, Reading,
+    Request, Settings, SortedRequest, Stream, apply, at, diff, diff_sorted, join, join_sorted,
+    merge, stream_request, write_request, write_whole,
 };
 use std::alloc::Global;
 use std::io::{Read, Write};
@@ -130,6 +130,7 @@ impl Command {
                 base: first,
                 ours: next,
                 theirs: last,
+                how: Merging::PLAIN,
             },
             Command::Join | Command::SortedJoin => Request::Join {
                 left: first,
@@ -170,7 +171,8 @@ pub fn write_answer<'a, R: Read + Drop, W: Write>(
         Command::Merge => {
             let (base, ours) = (named("base", old), named("ours", new));
             let theirs = stream("theirs", last);
-            write_whole_answer(merge(alloc, settings, base, ours, theirs), output)
+            let answer = merge(alloc, settings, Merging::PLAIN, base, ours, theirs);
+            write_whole_answer(answer, output)
         }
         Command::Join => {
             let (left, right) = (named("left", old), named("right", new));
@@ -262,7 +264,11 @@ pub fn asked<'a>(
     let [first, next, last] = inputs;
     let mut bytes = Vec::new(alloc);
     let status = write_answer(alloc, settings, command, (first, next, last), &mut bytes)?;
-    Ok(Answer { bytes, status })
+    Ok(Answer {
+        bytes,
+        status,
+        outcome: Outcome::Made,
+    })
 }
 
 /// The answer to `diff`.
@@ -313,6 +319,19 @@ pub fn merged<'a>(
     asked(alloc, settings, Command::Merge, [base, ours, theirs])
 }
 
+/// The answer to `merge`, merged in this way.
+pub fn merged_by<'a>(
+    alloc: Global,
+    settings: Settings<'a>,
+    how: Merging,
+    base: &[u8],
+    ours: &[u8],
+    theirs: &[u8],
+) -> Result<Answer, Fault<'a>> {
+    let (base, ours) = (stream("base", base), stream("ours", ours));
+    merge(alloc, settings, how, base, ours, stream("theirs", theirs))
+}
+
 /// The answer to `join`.
 pub fn joined<'a>(
     alloc: Global,
@@ -343,7 +362,11 @@ pub fn joined_in_parts<'a>(
         right,
         &mut bytes,
     )?;
-    Ok(Answer { bytes, status })
+    Ok(Answer {
+        bytes,
+        status,
+        outcome: Outcome::Made,
+    })
 }
 
 /// The answer of a command whose inputs are good.
