@@ -56,7 +56,12 @@ pub fn files_of(request: Request<'_>) -> [&str; 3] {
     match request {
         Request::Diff { old, new, .. } => [old, new, new],
         Request::Apply { old, changes } => [old, changes, changes],
-        Request::Merge { base, ours, theirs } => [base, ours, theirs],
+        Request::Merge {
+            base,
+            ours,
+            theirs,
+            ..
+        } => [base, ours, theirs],
         Request::Join { left, right, .. } => [left, right, right],
     }
 }

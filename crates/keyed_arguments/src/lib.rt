@@ -2,15 +2,21 @@
 #![tactic(auto)]
 
 mod form;
+mod git;
+mod merging;
 mod more;
+mod output;
 
 use clap::{Arg, ArgAction, ArgMatches};
 use form::{files_of, form_of};
+use git::{git_asked, put_git_commands};
 use keyed_files::{
-    Colours, Command, Format, JoinNames, Joining, Kind, Reason, Request, Settings, SortedRequest,
-    Wanted, key_names,
+    Asked, Colours, Command, Format, JoinNames, Joining, Kind, Reason, Request, Settings,
+    SortedRequest, Wanted, key_names,
 };
+use merging::{merging_of, put_merging};
 use more::{lookup_of, overlay_of};
+use output::{output_of, put_output};
 use std::alloc::{AllocError, Global};
 use std::{fmt, io};
 
@@ -76,7 +82,7 @@ impl fmt::Display for ParseError {
     }
 }
 
-/// The command that the words of a command line make. Where `--color` leaves it open, a table that a person reads has colours or not as
+/// What the words of a command line ask for. Where `--color` leaves it open, a table that a person reads has colours or not as
 /// the terminal has.
 ///
 /// # Errors
@@ -87,10 +93,16 @@ pub fn parse<'a>(
     alloc: Global,
     words: &'a [String],
     terminal: Colours,
-) -> Result<Command<'a>, ParseError> {
+) -> Result<Asked<'a>, ParseError> {
     let matches = command(alloc)?.try_get_matches_from(words)?;
     match matches.subcommand() {
-        Some((name, matches)) => command_of(alloc, name, matches, terminal),
+        Some((name, matches)) => match git_asked(alloc, name, matches, words, terminal)? {
+            Some(asked) => Ok(asked),
+            None => Ok(Asked::Answer {
+                command: command_of(alloc, name, matches, terminal)?,
+                output: output_of(matches),
+            }),
+        },
         None => Err(ParseError::from(AllocError)),
     }
 }
@@ -162,6 +174,7 @@ fn request_of<'a>(
             base: file_of(matches, "BASE"),
             ours: file_of(matches, "OURS"),
             theirs: file_of(matches, "THEIRS"),
+            how: merging_of(matches),
         },
         "join" => Request::Join {
             left: file_of(matches, "LEFT"),
@@ -400,6 +413,7 @@ fn subcommands<'a>(alloc: Global) -> Result<Vec<clap::Command<'a>>, AllocError> 
     for below in &COMMANDS {
         put(&mut commands, subcommand(alloc, below)?)?;
     }
+    put_git_commands(alloc, &mut commands)?;
     Ok(commands)
 }
 
@@ -440,10 +454,14 @@ fn put_options<'a>(alloc: Global, args: &mut Vec<Arg<'a>>, name: &str) -> Result
         "diff" => {
             put(args, choice(alloc, FORMAT))?;
             put(args, choice(alloc, COLOR))?;
-            put(args, quiet(alloc))?;
+            put(args, quiet(alloc)?)?;
             put(args, sorted(alloc)?)
         }
-        "apply" | "merge" => put(args, quiet(alloc)),
+        "apply" => put(args, quiet(alloc)?),
+        "merge" => {
+            put(args, quiet(alloc)?)?;
+            put_merging(alloc, args)
+        }
         "join" => {
             put(args, choice(alloc, KIND))?;
             put(args, prefix(alloc))?;
@@ -486,12 +504,13 @@ fn cells<'a>(alloc: Global) -> Result<Arg<'a>, AllocError> {
     cells.conflicts_with("group")
 }
 
-fn quiet<'a>(alloc: Global) -> Arg<'a> {
-    flag(
+fn quiet<'a>(alloc: Global) -> Result<Arg<'a>, AllocError> {
+    let quiet = flag(
         alloc,
         "quiet",
         "Nothing is printed: the status alone tells what came out",
-    )
+    );
+    quiet.conflicts_with("output")
 }
 
 // An option that is one of some words, of which the first is the default, with what stands for them in the help, and its own help.
@@ -569,7 +588,7 @@ fn put_settings<'a>(
             put(args, flag(alloc, name, help))?;
         }
     }
-    Ok(())
+    put_output(alloc, args)
 }
 
 // Whether a command has a flag. The rows of a look-up stand as in the left table, whose keys may repeat.

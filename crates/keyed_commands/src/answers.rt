@@ -6,17 +6,21 @@ use crate::changes::{count_rows, report};
 use crate::job::{Changes, Job, Table};
 use crate::joined::{JoinForm, join_as_csv};
 use crate::lost::render_lost;
+use crate::marks::{has_conflict, parted, write_marked};
 use crate::merged::render_conflicts;
 use crate::patch::{all_fit, render_misfits};
 use crate::written::write_changes;
-use eob_joins::Merged;
+use eob_joins::{Merged, Versions};
 use keyed_files::{
-    ColumnChanges, Columns, Content, Fault, Format, JoinColumns, Joining, Opened, Reason, Settings,
-    Stream, Two, at, columns_of, merged_columns,
+    ColumnChanges, Columns, Conflicts, Content, Fault, Format, JoinColumns, Joining, Merging,
+    Opened, Reason, Settings, Stream, Two, Unit, at, columns_of, merged_columns,
 };
 use keyed_rows::{Cells, Group, Key};
-use keyed_tables::{changes_of, merge_of, patched};
-use std::alloc::Global;
+use keyed_tables::{
+    Marked, changes_of, marked_merge_by_cell_of, marked_merge_of, merge_by_cell_of, merge_of,
+    patched,
+};
+use std::alloc::{AllocError, Global};
 use std::io::Read;
 
 /// What stands on the output, and the status that the program ends with.
@@ -24,6 +28,16 @@ use std::io::Read;
 pub struct Answer {
     pub bytes: Vec<u8>,
     pub status: u8,
+    pub outcome: Outcome,
+}
+
+/// What the bytes of an answer are.
+#[derive(Clone, Copy, Debug)]
+pub enum Outcome {
+    /// What the command was asked for.
+    Made,
+    /// A report of the rows for which there is no such: rows in conflict, changes that do not fit, or cells that would be lost.
+    Stopped,
 }
 
 /// The answer to `diff`.
@@ -77,6 +91,7 @@ fn diff_tables(
     Ok(Answer {
         bytes,
         status: if is_same { 0 } else { 1 },
+        outcome: Outcome::Made,
     })
 }
 
@@ -113,6 +128,7 @@ fn apply_tables(job: &Job<'_, Columns>, tables: (Table, Changes)) -> Result<Answ
         Ok(Answer {
             bytes: render_misfits(job, tables)?.into_bytes(),
             status: 1,
+            outcome: Outcome::Stopped,
         })
     }
 }
@@ -136,11 +152,13 @@ fn answer_of_rows(
         Ok(Answer {
             bytes: job.write_rows(rows)?,
             status: 0,
+            outcome: Outcome::Made,
         })
     } else {
         Ok(Answer {
             bytes: lost.into_bytes(),
             status: 1,
+            outcome: Outcome::Stopped,
         })
     }
 }
@@ -154,6 +172,7 @@ fn answer_of_rows(
 pub fn merge<'a, R: Read + Drop>(
     alloc: Global,
     settings: Settings<'a>,
+    how: Merging,
     base: Stream<'a, R>,
     ours: Stream<'a, R>,
     theirs: Stream<'a, R>,
@@ -162,7 +181,8 @@ pub fn merge<'a, R: Read + Drop>(
     let mut sides = Two::new(alloc, settings.form, Content::Rows, ours, theirs)?;
     base.rename_key(alloc, settings.key)?;
     let columns = columns_of_merge(alloc, settings, &base, &sides)?;
-    merge_files(Job::new(alloc, settings, &columns), &mut base, &mut sides)
+    let job = Job::new(alloc, settings, &columns);
+    merge_files(job, how, &mut base, &mut sides)
 }
 
 // The columns of the three tables.
@@ -183,11 +203,12 @@ fn columns_of_merge<'a, R>(
 
 fn merge_files<'a, R: Read + Drop>(
     mut job: Job<'_, Columns>,
+    how: Merging,
     base: &mut Opened<'a, R>,
     sides: &mut Two<'a, R>,
 ) -> Result<Answer, Fault<'a>> {
     let versions = read_versions(&mut job, base, sides)?;
-    at(sides.next.file, merge_tables(&job, versions))
+    at(sides.next.file, merge_tables(&job, how, versions))
 }
 
 // The rows of three versions of a table.
@@ -209,14 +230,76 @@ fn read_versions<'a, R: Read + Drop>(
     Ok(ThreeVersions { base, ours, theirs })
 }
 
-fn merge_tables(job: &Job<'_, Columns>, versions: ThreeVersions) -> Result<Answer, Reason> {
-    let ThreeVersions { base, ours, theirs } = versions;
-    match merge_of(job.alloc, base, ours, theirs)? {
-        Merged::Whole(rows) => answer_of_rows(job, "merged", rows),
-        Merged::Conflicts(rows) => Ok(Answer {
-            bytes: render_conflicts(job.alloc, job.columns, &job.arrange(rows)?)?.into_bytes(),
+fn merge_tables(
+    job: &Job<'_, Columns>,
+    how: Merging,
+    versions: ThreeVersions,
+) -> Result<Answer, Reason> {
+    match how.conflicts {
+        Conflicts::Report => match merge_rows(job.alloc, how.unit, versions)? {
+            Merged::Whole(rows) => answer_of_rows(job, "merged", rows),
+            Merged::Conflicts(rows) => report_conflicts(job, rows),
+        },
+        Conflicts::Marks => mark_conflicts(job, marked_rows(job.alloc, how.unit, versions)?),
+    }
+}
+
+// Rows in conflict as a person reads them.
+fn report_conflicts(
+    job: &Job<'_, Columns>,
+    rows: Vec<(Key, Versions<Group>)>,
+) -> Result<Answer, Reason> {
+    Ok(Answer {
+        bytes: render_conflicts(job.alloc, job.columns, &job.arrange(rows)?)?.into_bytes(),
+        status: 1,
+        outcome: Outcome::Stopped,
+    })
+}
+
+// The merged table, with rows in conflict between marks. Where there are some and a column goes, which may be what they differ by, these
+// rows are reported.
+fn mark_conflicts(
+    job: &Job<'_, Columns>,
+    rows: Vec<(Key, Marked<Group>)>,
+) -> Result<Answer, Reason> {
+    if has_conflict(&rows) && job.columns.count_written() == job.columns.rest.len() {
+        return Ok(Answer {
+            bytes: write_marked(job, job.arrange(rows)?)?,
             status: 1,
-        }),
+            outcome: Outcome::Made,
+        });
+    }
+    let (settled, stuck) = parted(job.alloc, rows)?;
+    if stuck.is_empty() {
+        answer_of_rows(job, "merged", settled)
+    } else {
+        report_conflicts(job, stuck)
+    }
+}
+
+// The rows of three versions merged.
+fn merge_rows(
+    alloc: Global,
+    unit: Unit,
+    versions: ThreeVersions,
+) -> Result<Merged<Key, Group>, AllocError> {
+    let ThreeVersions { base, ours, theirs } = versions;
+    match unit {
+        Unit::Row => merge_of(alloc, base, ours, theirs),
+        Unit::Cell => merge_by_cell_of(alloc, base, ours, theirs),
+    }
+}
+
+// The same with rows in conflict in their places.
+fn marked_rows(
+    alloc: Global,
+    unit: Unit,
+    versions: ThreeVersions,
+) -> Result<Vec<(Key, Marked<Group>)>, AllocError> {
+    let ThreeVersions { base, ours, theirs } = versions;
+    match unit {
+        Unit::Row => marked_merge_of(alloc, base, ours, theirs),
+        Unit::Cell => marked_merge_by_cell_of(alloc, base, ours, theirs),
     }
 }
 
@@ -247,5 +330,9 @@ fn join_files<'a, R: Read + Drop>(
 ) -> Result<Answer, Fault<'a>> {
     let (left, right) = job.read_sides(sides)?;
     let bytes = at(sides.next.file, join_as_csv(&job, form, left, right))?;
-    Ok(Answer { bytes, status: 0 })
+    Ok(Answer {
+        bytes,
+        status: 0,
+        outcome: Outcome::Made,
+    })
 }

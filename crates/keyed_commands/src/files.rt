@@ -65,6 +65,21 @@ fn write_overlay<'a, R: Files + Input + AllocGlobal, W: Write>(
     request: OverlayRequest<'a>,
     output: &mut W,
 ) -> Result<u8, Fault<'a>> {
+    let answer = answer_overlay(rt, settings, request)?;
+    at("the standard output", write_whole(output, &answer.bytes))?;
+    Ok(answer.status)
+}
+
+/// The table that is made of those that are laid one over the other, of the files that are named.
+///
+/// # Errors
+///
+/// Returns `TwiceStdin` if the standard input is named twice, and the fault of the first input that is bad.
+pub fn answer_overlay<'a, R: Files + Input + AllocGlobal>(
+    rt: &R,
+    settings: Settings<'a>,
+    request: OverlayRequest<'a>,
+) -> Result<Answer, Fault<'a>> {
     let alloc = rt.alloc();
     request.check_stdin(alloc)?;
     let mut tables = Vec::new(alloc);
@@ -72,9 +87,7 @@ fn write_overlay<'a, R: Files + Input + AllocGlobal, W: Write>(
         let stream = stream_of(rt, named.file, Some(named.delimiter));
         at(named.file, tables.push(stream))?;
     }
-    let answer = overlay(alloc, settings, request.layer, tables)?;
-    at("the standard output", write_whole(output, &answer.bytes))?;
-    Ok(answer.status)
+    overlay(alloc, settings, request.layer, tables)
 }
 
 /// Writes the answer to a request, all of it or nothing of it where something is wrong with an input, and returns the status.
@@ -153,11 +166,16 @@ pub fn answer_request<'a, R: Files + Input + AllocGlobal>(
             let old = stream_of(rt, old, None);
             apply(alloc, settings, old, stream_of(rt, changes, next))
         }
-        Request::Merge { base, ours, theirs } => {
+        Request::Merge {
+            base,
+            ours,
+            theirs,
+            how,
+        } => {
             let base = stream_of(rt, base, None);
             let ours = stream_of(rt, ours, next);
             let theirs = stream_of(rt, theirs, settings.form.reading.last);
-            merge(alloc, settings, base, ours, theirs)
+            merge(alloc, settings, how, base, ours, theirs)
         }
         Request::Join { left, right, how } => {
             let left = stream_of(rt, left, None);

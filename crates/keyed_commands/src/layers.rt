@@ -1,6 +1,6 @@
 //! Tables that are laid one over the other, the last one on top.
 
-use crate::answers::Answer;
+use crate::answers::{Answer, Outcome};
 use crate::job::{Job, Table};
 use keyed_files::{
     Columns, Content, Fault, Layer, Opened, Reason, Settings, Stream, at, columns_of,
@@ -120,5 +120,6 @@ fn answer_rows(job: &Job<'_, Columns>, rows: Option<Table>) -> Result<Answer, Re
     Ok(Answer {
         bytes: job.write_rows(rows)?,
         status: 0,
+        outcome: Outcome::Made,
     })
 }

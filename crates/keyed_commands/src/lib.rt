@@ -6,27 +6,33 @@
 #![tactic(auto)]
 
 mod answers;
+mod as_written;
 mod changes;
 mod files;
+mod git;
 mod job;
 mod joined;
 mod layers;
 mod lookups;
 mod lost;
+mod marks;
 mod merged;
+mod output;
 mod patch;
 mod row_order;
 mod sorted;
 mod written;
 
-pub use answers::{Answer, apply, diff, join, merge};
+pub use answers::{Answer, Outcome, apply, diff, join, merge};
 pub use files::{answer_request, stream_request, write_command, write_request, write_whole};
+pub use git::{write_git_diff, write_git_merge, write_git_setup, write_git_unmerged};
 pub use keyed_files::{
-    Colours, Command, Comment, Delimiter, Encoding, Fault, Finding, Form, Format, JoinNames,
-    Joining, Kind, Layer, Layout, Lengths, Lookup as LookupRequest, LookupKind, NamedFile,
-    Overlay as OverlayRequest, Quotes, Reading, Reason, Request, Settings, Shown, ShownCell,
-    ShownName, SortedRequest, Stream, Wanted, at,
+    Asked, Colours, Command, Comment, Conflicts, Delimiter, Encoding, Fault, Finding, Form, Format,
+    GitDiff, GitMerge, JoinNames, Joining, Kind, Layer, Layout, Lengths, Lookup as LookupRequest,
+    LookupKind, Merging, NamedFile, Overlay as OverlayRequest, Quotes, Reading, Reason, Request,
+    Settings, Shown, ShownCell, ShownName, SortedRequest, Stream, Unit, Wanted, at,
 };
 pub use layers::overlay;
 pub use lookups::lookup;
+pub use output::write_into_file;
 pub use sorted::{diff_sorted, join_sorted};

@@ -4,7 +4,7 @@
 ghost use Rattle.std.specs.Prelude.{◌≡◌, ◌↔◌, ◌⊎◌, IfSome, IsNone, option_map};
 ghost use Rattle.keyed_commands.specs.Keys.{IsAtMost};
 
-use crate::answers::Answer;
+use crate::answers::{Answer, Outcome};
 use crate::job::{Job, Table};
 use crate::joined::{JoinForm, join_as_csv};
 use crate::written::write_changes;
@@ -39,7 +39,11 @@ impl Work<'_> {
             Work::Changes(job, marked) => changes_as_csv(job, marked, part),
             Work::Join(job, how) => {
                 let bytes = join_as_csv(job, how, part.left, part.right)?;
-                Ok(Answer { bytes, status: 0 })
+                Ok(Answer {
+                    bytes,
+                    status: 0,
+                    outcome: Outcome::Made,
+                })
             }
         }
     }
@@ -57,7 +61,11 @@ fn changes_as_csv(job: &Job<'_, Columns>, marked: &Cells, part: Part) -> Result<
     let changes = changes_of(job.alloc, part.left, part.right)?;
     let status = if changes.is_empty() { 0 } else { 1 };
     let bytes = write_changes(job, marked, changes)?;
-    Ok(Answer { bytes, status })
+    Ok(Answer {
+        bytes,
+        status,
+        outcome: Outcome::Made,
+    })
 }
 
 /// Writes the changes between two tables as CSV while they are read, and returns the status.

@@ -4,6 +4,7 @@
 //! Tables by key stand above this crate, in `keyed_commands`.
 #![tactic(auto)]
 
+mod asked;
 mod by_line;
 mod checked;
 mod column_changes;
@@ -17,6 +18,7 @@ mod joined_rows;
 mod key_record;
 mod lined_up;
 mod lookups;
+mod merging;
 mod names;
 mod new_columns;
 mod opened;
@@ -28,6 +30,7 @@ mod sign;
 mod source;
 mod written;
 
+pub use asked::{Asked, GitDiff, GitMerge};
 pub use column_changes::ColumnChanges;
 pub use columns::{Columns, JoinColumns, Place, columns_of, join_columns};
 pub use encoding::Encoding;
@@ -41,6 +44,7 @@ pub use lined_up::{
     put_shown, put_version,
 };
 pub use lookups::{Finding, Lookup, LookupKind, lookup_header};
+pub use merging::{Conflicts, Merging, Unit};
 pub use new_columns::{changed_columns, marked_names, merged_columns};
 pub use opened::{Opened, Stream, Two, at};
 pub use overlays::{Layer, NamedFile, Overlay};

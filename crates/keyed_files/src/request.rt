@@ -5,6 +5,7 @@ ghost use Rattle.keyed_files.specs.Delimiters.{PartsCells-prop};
 
 use crate::fault::{Fault, Reason};
 use crate::lookups::Lookup;
+use crate::merging::Merging;
 use crate::overlays::Overlay;
 
 /// A byte that may stand between cells: an ASCII character that neither ends rows nor quotes cells.
@@ -235,6 +236,7 @@ pub enum Request<'a> {
         base: &'a str,
         ours: &'a str,
         theirs: &'a str,
+        how: Merging,
     },
     /// Two tables joined by key.
     Join {
@@ -307,7 +309,12 @@ impl Request<'_> {
         match self {
             Request::Diff { old, new, .. } => check_files(&[old, new]),
             Request::Apply { old, changes } => check_files(&[old, changes]),
-            Request::Merge { base, ours, theirs } => check_files(&[base, ours, theirs]),
+            Request::Merge {
+                base,
+                ours,
+                theirs,
+                ..
+            } => check_files(&[base, ours, theirs]),
             Request::Join { left, right, .. } => check_files(&[left, right]),
         }
     }

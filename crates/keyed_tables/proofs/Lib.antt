@@ -1,4 +1,5 @@
 pub mod ArrangeLemmas
+pub mod CellRowLemmas
 pub mod ClimbLemmas
 pub mod GatherLemmas
 pub mod KeyLemmas

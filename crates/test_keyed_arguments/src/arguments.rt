@@ -3,7 +3,8 @@
 use keyed_arguments::{ParseError, parse};
 use keyed_files::Colours::{Off, On};
 use keyed_files::{
-    Colours, Command, Finding, Form, JoinNames, Layout, Lookup, Overlay, Settings, Wanted,
+    Asked as Parsed, Colours, Command, Finding, Form, JoinNames, Layout, Lookup, Overlay, Settings,
+    Wanted,
 };
 use std::alloc::{AllocError, Global};
 use std::fmt::Write;
@@ -24,9 +25,45 @@ fn words_of(alloc: Global, line: &str) -> Result<Vec<String>, AllocError> {
 fn asked(alloc: Global, line: &str, terminal: Colours) -> Result<String, AllocError> {
     let words = words_of(alloc, line)?;
     match parse(alloc, &words, terminal) {
-        Ok(command) => show_command(alloc, command),
+        Ok(asked) => show_asked(alloc, asked),
         Err(error) => show_error(alloc, &error),
     }
+}
+
+// The command and the file that its answer goes into, if there is one; or what git asks for.
+fn show_asked(alloc: Global, asked: Parsed<'_>) -> Result<String, AllocError> {
+    match asked {
+        Parsed::Answer {
+            command,
+            output: Some(file),
+        } => {
+            let command = show_command(alloc, command)?;
+            format!(in alloc; "{command} into {file:?}")
+        }
+        Parsed::Answer {
+            command,
+            output: None,
+        } => show_command(alloc, command),
+        Parsed::GitDiff {
+            settings,
+            format,
+            diff,
+        } => {
+            let settings = show_settings(alloc, settings)?;
+            format!(in alloc; "{settings} {format:?} {diff:?}")
+        }
+        Parsed::GitMerge { settings, merge } => {
+            let settings = show_settings(alloc, settings)?;
+            format!(in alloc; "{settings} {merge:?}")
+        }
+        other => format!(in alloc; "{other:?}"),
+    }
+}
+
+fn show_settings(alloc: Global, settings: Settings<'_>) -> Result<String, AllocError> {
+    let (keeps_order, groups) = (settings.keeps_order as u8, settings.groups as u8);
+    let layout = show_layout(alloc, settings.layout())?;
+    format!(in alloc; "{layout}, {keeps_order}, {groups}, 0]")
 }
 
 fn show_command(alloc: Global, command: Command<'_>) -> Result<String, AllocError> {
@@ -36,12 +73,11 @@ fn show_command(alloc: Global, command: Command<'_>) -> Result<String, AllocErro
             request,
             wanted,
         } => {
-            let (keeps_order, groups) = (settings.keeps_order as u8, settings.groups as u8);
-            let layout = show_layout(alloc, settings.layout())?;
+            let settings = show_settings(alloc, settings)?;
             let text = format!(in alloc; "{request:?}")?;
             let request = without_names(alloc, &text)?;
             let only = show_wanted(wanted);
-            format!(in alloc; "{layout}, {keeps_order}, {groups}, 0] {request}{only}")
+            format!(in alloc; "{settings} {request}{only}")
         }
         Command::Sorted {
             layout,
@@ -142,7 +178,7 @@ fn expect<R: AllocGlobal>(rt: &R, lines: &[Asked]) -> Result<(), Fail> {
 }
 
 #[rattlefmt::skip]
-static REQUESTS: [Asked; 14] = [
+static REQUESTS: [Asked; 20] = [
     ("diff a b",                On,  r#"',' None [1, 0, 0, 0] Diff { old: "a", new: "b", format: Table { colours: On } }"#),
     ("diff a b --color auto",   Off, r#"',' None [1, 0, 0, 0] Diff { old: "a", new: "b", format: Table { colours: Off } }"#),
     ("diff a b --color never",  On,  r#"',' None [1, 0, 0, 0] Diff { old: "a", new: "b", format: Table { colours: Off } }"#),
@@ -150,13 +186,19 @@ static REQUESTS: [Asked; 14] = [
     ("diff a - --format table", Off, r#"',' None [1, 0, 0, 0] Diff { old: "a", new: "-", format: Table { colours: Off } }"#),
     ("diff - b --format csv",   On,  r#"',' None [1, 0, 0, 0] Diff { old: "-", new: "b", format: Csv }"#),
     ("apply a b",               On,  r#"',' None [1, 0, 0, 0] Apply { old: "a", changes: "b" }"#),
-    ("merge a b c",             On,  r#"',' None [1, 0, 0, 0] Merge { base: "a", ours: "b", theirs: "c" }"#),
+    ("merge a b c",             On,  r#"',' None [1, 0, 0, 0] Merge { base: "a", ours: "b", theirs: "c", how: Merging { unit: Row, conflicts: Report } }"#),
+    ("merge a b c --by-cell",   On,  r#"',' None [1, 0, 0, 0] Merge { base: "a", ours: "b", theirs: "c", how: Merging { unit: Cell, conflicts: Report } }"#),
     ("join a b",                On,  r#"',' None [1, 0, 0, 0] Join { left: "a", right: "b", Outer }"#),
     ("join a b --kind inner",   On,  r#"',' None [1, 0, 0, 0] Join { left: "a", right: "b", Inner }"#),
     ("join a b --kind left",    On,  r#"',' None [1, 0, 0, 0] Join { left: "a", right: "b", Left }"#),
     ("join a b --kind right",   On,  r#"',' None [1, 0, 0, 0] Join { left: "a", right: "b", Right }"#),
     ("join a b --kind semi",    On,  r#"',' None [1, 0, 0, 0] Join { left: "a", right: "b", Semi }"#),
     ("join --kind=anti a b",    On,  r#"',' None [1, 0, 0, 0] Join { left: "a", right: "b", Anti }"#),
+    ("merge a b c --conflicts marks", On, r#"',' None [1, 0, 0, 0] Merge { base: "a", ours: "b", theirs: "c", how: Merging { unit: Row, conflicts: Marks } }"#),
+    ("diff a b -o c",           On,  r#"',' None [1, 0, 0, 0] Diff { old: "a", new: "b", format: Table { colours: On } } into "c""#),
+    ("apply a b --output=a",    On,  r#"',' None [1, 0, 0, 0] Apply { old: "a", changes: "b" } into "a""#),
+    ("apply a b --output -",    On,  r#"',' None [1, 0, 0, 0] Apply { old: "a", changes: "b" }"#),
+    ("join a b --sorted -oc",   On,  r#"',' None [1, 0, 0, 1] Join { left: "a", right: "b", Outer } into "c""#),
 ];
 
 /// A command takes its files in order, and what it is asked to write.
@@ -170,8 +212,8 @@ static SETTINGS: [Asked; 11] = [
     ("diff a b --format csv --key id",  On,  r#"',' Some("id") [1, 0, 0, 0] Diff { old: "a", new: "b", format: Csv }"#),
     ("apply a b --key id,day",          On,  r#"',' Some("id,day") [1, 0, 0, 0] Apply { old: "a", changes: "b" }"#),
     ("apply a b --delimiter ;",         On,  r#"';' None [1, 0, 0, 0] Apply { old: "a", changes: "b" }"#),
-    ("merge a b c --no-header",         On,  r#"',' None [0, 0, 0, 0] Merge { base: "a", ours: "b", theirs: "c" }"#),
-    ("merge a b c --keep-order",        On,  r#"',' None [1, 1, 0, 0] Merge { base: "a", ours: "b", theirs: "c" }"#),
+    ("merge a b c --no-header",         On,  r#"',' None [0, 0, 0, 0] Merge { base: "a", ours: "b", theirs: "c", how: Merging { unit: Row, conflicts: Report } }"#),
+    ("merge a b c --keep-order",        On,  r#"',' None [1, 1, 0, 0] Merge { base: "a", ours: "b", theirs: "c", how: Merging { unit: Row, conflicts: Report } }"#),
     ("join a b --group",                On,  r#"',' None [1, 0, 1, 0] Join { left: "a", right: "b", Outer }"#),
     ("join a b --sorted",               On,  r#"',' None [1, 0, 0, 1] Join { left: "a", right: "b", Outer }"#),
     ("diff a b --format csv --sorted",  On,  r#"',' None [1, 0, 0, 1] Diff { old: "a", new: "b" }"#),
@@ -336,7 +378,8 @@ fn words_that_make_no_request_are_refused(rt: HostRuntime) -> Result<(), Fail> {
 fn reading(alloc: Global, line: &str) -> Result<String, AllocError> {
     let words = words_of(alloc, line)?;
     let form = match parse(alloc, &words, Off) {
-        Ok(command) => form_of(command),
+        Ok(Parsed::Answer { command, .. }) => form_of(command),
+        Ok(_) => return "no command".to_string(alloc),
         Err(error) => return format!(in alloc; "{error}"),
     };
     let reading = form.reading;
@@ -426,4 +469,23 @@ fn option_says_how_files_are_read(rt: HostRuntime) -> Result<(), Fail> {
         }
     }
     Ok(())
+}
+
+#[rattlefmt::skip]
+static OF_GIT: [Asked; 8] = [
+    ("git-diff p a b c d e f",     On,  r#"',' None [1, 1, 0, 0] Table { colours: On } GitDiff { path: "p", renamed: None, old: "a", new: "d" }"#),
+    ("git-diff p.tsv a 0 1 d 0 1", Off, r#"'\t' None [1, 1, 0, 0] Table { colours: Off } GitDiff { path: "p.tsv", renamed: None, old: "a", new: "d" }"#),
+    ("git-diff --key id p a b c d e f q r", Off,
+        r#"',' Some("id") [1, 1, 0, 0] Table { colours: Off } GitDiff { path: "p", renamed: Some("q"), old: "a", new: "d" }"#),
+    ("git-diff p",                 On,  r#"GitUnmerged { path: "p" }"#),
+    ("git-merge a b c",            On,  r#"',' None [1, 1, 0, 0] GitMerge { base: "a", ours: "b", theirs: "c" }"#),
+    ("git-merge --group a b c p.tsv", On, r#"'\t' None [1, 1, 1, 0] GitMerge { base: "a", ours: "b", theirs: "c" }"#),
+    ("git-setup --key id,day",     On,  r#"GitSetup { options: ["--key", "id,day"] }"#),
+    ("git-setup --key",            On,  "wrong"),
+];
+
+/// A command for git takes the words that git gives it, keeps the order of files, and takes what stands between cells from the path.
+#[test]
+fn command_for_git_takes_its_words(rt: HostRuntime) -> Result<(), Fail> {
+    expect(&rt, &OF_GIT)
 }

@@ -7,7 +7,7 @@ use crate::commands::{
     write_answer_of_files, write_report_of_files,
 };
 use crate::made::{inputs, with_input};
-use keyed_commands::{Answer, Fault};
+use keyed_commands::{Answer, Fault, Outcome};
 use std::alloc::{AllocError, Global};
 use std::io;
 use std::io::{ErrorKind, Write};
@@ -68,7 +68,11 @@ fn broken_off<'a>(
     );
     let mut bytes = Vec::new(alloc);
     let status = write_answer(alloc, PLAIN, command, inputs, &mut bytes)?;
-    Ok(Answer { bytes, status })
+    Ok(Answer {
+        bytes,
+        status,
+        outcome: Outcome::Made,
+    })
 }
 
 // Fails unless each input is named that fails, at every so many bytes from its end on.

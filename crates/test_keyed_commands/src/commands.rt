@@ -2,9 +2,9 @@
 
 use keyed_commands::{
     Answer, Colours, Command as AnyCommand, Delimiter, Fault, Finding, Form, Format, JoinNames,
-    Joining, Kind, Layer, LookupKind, LookupRequest, NamedFile, OverlayRequest, Reading, Request,
-    Settings, SortedRequest, Stream, apply, at, diff, diff_sorted, join, join_sorted, lookup,
-    merge, overlay, stream_request, write_command, write_request, write_whole,
+    Joining, Kind, Layer, LookupKind, LookupRequest, Merging, NamedFile, Outcome, OverlayRequest,
+    Reading, Request, Settings, SortedRequest, Stream, apply, at, diff, diff_sorted, join,
+    join_sorted, lookup, merge, overlay, stream_request, write_command, write_request, write_whole,
 };
 use std::alloc::{AllocError, Global};
 use std::io::{Read, Write};
@@ -142,6 +142,7 @@ impl Command {
                 base: first,
                 ours: next,
                 theirs: last,
+                how: Merging::PLAIN,
             },
             Command::Join | Command::SortedJoin | Command::Lookup | Command::Overlay =>
                 Request::Join {
@@ -183,7 +184,8 @@ pub fn write_answer<'a, R: Read + Drop, W: Write>(
         Command::Merge => {
             let (base, ours) = (named("base", old), named("ours", new));
             let theirs = stream("theirs", last);
-            write_whole_answer(merge(alloc, settings, base, ours, theirs), output)
+            let answer = merge(alloc, settings, Merging::PLAIN, base, ours, theirs);
+            write_whole_answer(answer, output)
         }
         Command::Join => {
             let (left, right) = (named("left", old), named("right", new));
@@ -331,7 +333,11 @@ pub fn asked<'a>(
     let [first, next, last] = inputs;
     let mut bytes = Vec::new(alloc);
     let status = write_answer(alloc, settings, command, (first, next, last), &mut bytes)?;
-    Ok(Answer { bytes, status })
+    Ok(Answer {
+        bytes,
+        status,
+        outcome: Outcome::Made,
+    })
 }
 
 /// The answer to `diff`.
@@ -382,6 +388,19 @@ pub fn merged<'a>(
     asked(alloc, settings, Command::Merge, [base, ours, theirs])
 }
 
+/// The answer to `merge`, merged in this way.
+pub fn merged_by<'a>(
+    alloc: Global,
+    settings: Settings<'a>,
+    how: Merging,
+    base: &[u8],
+    ours: &[u8],
+    theirs: &[u8],
+) -> Result<Answer, Fault<'a>> {
+    let (base, ours) = (stream("base", base), stream("ours", ours));
+    merge(alloc, settings, how, base, ours, stream("theirs", theirs))
+}
+
 /// The answer to `join`.
 pub fn joined<'a>(
     alloc: Global,
@@ -412,7 +431,11 @@ pub fn joined_in_parts<'a>(
         right,
         &mut bytes,
     )?;
-    Ok(Answer { bytes, status })
+    Ok(Answer {
+        bytes,
+        status,
+        outcome: Outcome::Made,
+    })
 }
 
 /// The answer of a command whose inputs are good.

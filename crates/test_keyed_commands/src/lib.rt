@@ -11,6 +11,8 @@ mod columns;
 #[cfg(test)]
 mod commands;
 #[cfg(test)]
+mod disk;
+#[cfg(test)]
 mod faults;
 #[cfg(test)]
 mod form;
@@ -21,9 +23,13 @@ mod looked_up;
 #[cfg(test)]
 mod made;
 #[cfg(test)]
+mod marks;
+#[cfg(test)]
 mod merge;
 #[cfg(test)]
 mod misfits;
+#[cfg(test)]
+mod output;
 #[cfg(test)]
 mod repeats;
 #[cfg(test)]

@@ -104,13 +104,16 @@ const HELP: &str = "Compares, changes, merges and joins tables of CSV by key.
 Usage: keyed <COMMAND>
 
 Commands:
-  diff     Prints the rows that changed. Status 0: none did, 1: some did, 2: trouble.
-  apply    Prints a table with changes made to it. Status 0: all fit, 1: some do not, 2: trouble.
-  merge    Prints two versions of a table merged over their base. Status 0: merged, 1: rows in conflict, 2: trouble.
-  join     Prints two tables joined by key as CSV. Status 0, or 2: trouble.
-  lookup   Prints each row of a table with the row of another that has its key. Status 0, or 2: trouble.
-  overlay  Prints tables laid one over the other. Status 0, or 2: trouble.
-  help     Print this message or the help of the given subcommand(s)
+  diff       Prints the rows that changed. Status 0: none did, 1: some did, 2: trouble.
+  apply      Prints a table with changes made to it. Status 0: all fit, 1: some do not, 2: trouble.
+  merge      Prints two versions of a table merged over their base. Status 0: merged, 1: rows in conflict, 2: trouble.
+  join       Prints two tables joined by key as CSV. Status 0, or 2: trouble.
+  lookup     Prints each row of a table with the row of another that has its key. Status 0, or 2: trouble.
+  overlay    Prints tables laid one over the other. Status 0, or 2: trouble.
+  git-diff   Prints the rows that changed, for git diff. Status 0, or 2: trouble.
+  git-merge  Merges two versions into the file of ours, for git merge. Status 0: merged, 1: rows in conflict, 129: trouble.
+  git-setup  Prints the commands that tell git of both, with these options.
+  help       Print this message or the help of the given subcommand(s)
 
 Options:
   -h, --help     Print help
@@ -139,6 +142,7 @@ Options:
       --lenient                  Quotes that are not in order are taken as they are
       --keep-order               Rows come out in the order of the files, and not in that of their keys
   -g, --group                    Keys may repeat: rows with the same key are a group
+  -o, --output <FILE>            The file that the answer goes into, once it is whole; it may be one of those that are read
   -h, --help                     Print help
 ";
 
@@ -202,7 +206,7 @@ fn command_is_required(rt: HostRuntime) -> Result<(), Fail> {
     assert_eq!(rt; status, 2);
     assert!(rt; output.is_empty());
     let first = "error: 'keyed' requires a subcommand but one was not provided\n";
-    let commands = "  [subcommands: diff, apply, merge, join, lookup, overlay, help]\n\n";
+    let commands = "  [subcommands: diff, apply, merge, join, lookup, overlay, git-diff, git-merge, git-setup, help]\n\n";
     let want = format!(in alloc; "{first}{commands}Usage: keyed <COMMAND>{TRY_HELP}")?;
     assert_eq!(rt; said, want);
     Ok(())

@@ -9,6 +9,8 @@ mod escaped;
 #[cfg(test)]
 mod faults;
 #[cfg(test)]
+mod git;
+#[cfg(test)]
 mod inputs;
 #[cfg(test)]
 mod keys_shown;
