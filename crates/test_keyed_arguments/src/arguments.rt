@@ -230,17 +230,18 @@ fn option_sets_what_it_says(rt: HostRuntime) -> Result<(), Fail> {
 }
 
 #[rattlefmt::skip]
-static LETTERS: [Asked; 14] = [
+static LETTERS: [Asked; 15] = [
     ("diff a b -k id -d ; -g -H",   On,  r#"';' Some("id") [0, 0, 1, 0] Diff { old: "a", new: "b", format: Table { colours: On } }"#),
     ("apply -gHk 2 a b -d|",        On,  r#"'|' Some("2") [0, 0, 1, 0] Apply { old: "a", changes: "b" }"#),
-    ("merge a b -d tab c -k id,x",  On,  r#"'\t' Some("id,x") [1, 0, 0, 0] Merge { base: "a", ours: "b", theirs: "c" }"#),
+    ("merge a b -d tab c -k id,x",  On,  r#"'\t' Some("id,x") [1, 0, 0, 0] Merge { base: "a", ours: "b", theirs: "c", how: Merging { unit: Row, conflicts: Report } }"#),
     ("join -kid a b -g",            On,  r#"',' Some("id") [1, 0, 1, 0] Join { left: "a", right: "b", Outer }"#),
+    ("diff a b -q -o out",          On,  "wrong"),
     ("diff a b -q",                 On,  r#"',' None [1, 0, 0, 0] Diff { old: "a", new: "b", format: Csv }, status"#),
     ("diff a b --quiet --format table --color always",
                                     On,  r#"',' None [1, 0, 0, 0] Diff { old: "a", new: "b", format: Csv }, status"#),
     ("diff a b -q --sorted",        On,  r#"',' None [1, 0, 0, 1] Diff { old: "a", new: "b" }, status"#),
     ("apply a b -q",                On,  r#"',' None [1, 0, 0, 0] Apply { old: "a", changes: "b" }, status"#),
-    ("merge a b c --quiet",         On,  r#"',' None [1, 0, 0, 0] Merge { base: "a", ours: "b", theirs: "c" }, status"#),
+    ("merge a b c --quiet",         On,  r#"',' None [1, 0, 0, 0] Merge { base: "a", ours: "b", theirs: "c", how: Merging { unit: Row, conflicts: Report } }, status"#),
     ("join a b -q",                 On,  "wrong"),
     ("join a b -gs --sorted",       On,  "wrong"),
     ("join a b -g --sorted",        On,  "wrong"),

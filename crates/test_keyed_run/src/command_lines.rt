@@ -206,7 +206,8 @@ fn command_is_required(rt: HostRuntime) -> Result<(), Fail> {
     assert_eq!(rt; status, 2);
     assert!(rt; output.is_empty());
     let first = "error: 'keyed' requires a subcommand but one was not provided\n";
-    let commands = "  [subcommands: diff, apply, merge, join, lookup, overlay, git-diff, git-merge, git-setup, help]\n\n";
+    let commands =
+        "  [subcommands: diff, apply, merge, join, lookup, overlay, git-diff, git-merge, git-setup, help]\n\n";
     let want = format!(in alloc; "{first}{commands}Usage: keyed <COMMAND>{TRY_HELP}")?;
     assert_eq!(rt; said, want);
     Ok(())
