@@ -1,5 +1,5 @@
 //! From the rows of a file to a table.
-ghost use Rattle.std.specs.Prelude.{◌≡◌, ◌++◌, All, IfErr, IfOk, OnOk, drop, find, length, map, option_map, zip};
+ghost use Rattle.std.specs.Prelude.{◌≡◌, All, IfErr, IfOk, OnOk, ◌∷◌, drop, find, length, map, option_map, zip};
 ghost use Rattle.std.specs.Ordering.{is_eq, on, then_cmp};
 ghost use Rattle.eob_joins.specs.Groups.{key_runs, run_rest, run_values};
 ghost use Rattle.keyed_tables.specs.Gathered.{AloneLaw, AreInOrder, HoldsRows, alone};
@@ -118,8 +118,7 @@ fn group_rows(
                     line: _,
                     cells,
                 } = row;
-                let first = Group::with_release(cells, release);
-                let group = take_group(alloc, &key, first, &mut rows)?;
+                let group = take_group(alloc, &key, cells, &mut rows, release)?;
                 groups.push((key, group))?;
             }
             None => return Ok(groups),
@@ -127,19 +126,20 @@ fn group_rows(
     }
 }
 
-// A group of one row, and the cells of the rows with the same key that come next, which leave the queue.
+// The cells of a row, and those of the rows with the same key that come next, which leave the queue.
 fn take_group(
     alloc: Global,
     key: &Key,
-    first: Group,
+    first: Cells,
     rows: &mut VecDeque<ReadRow>,
+    release: Release,
 ) -> Result<Group, AllocError>
     ensures values { IfOk result (λ group. group
-        ≡ first ++ run_values ⟦<Key as Ord>⟧.cmp key.now (map (λ row. (row.key, row.cells)) rows.old.items)) }
+        ≡ first ∷ run_values ⟦<Key as Ord>⟧.cmp key.now (map (λ row. (row.key, row.cells)) rows.old.items)) }
     ensures rest { OnOk result (map (λ row. (row.key, row.cells)) rows.new.items
         ≡ run_rest ⟦<Key as Ord>⟧.cmp key.now (map (λ row. (row.key, row.cells)) rows.old.items)) }
 {
-    let mut group = first;
+    let mut group = Group::with_release(first, release);
     'group: loop {
         match rows.front() {
             Some(next) => {
