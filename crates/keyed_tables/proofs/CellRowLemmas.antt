@@ -1,6 +1,8 @@
 -- Rows merged cell by cell.
-use Rattle.std.proofs.Common.{◌≡◌, ℕ, zero, suc, ◌&&◌, ◌==◌, ap, eqb-true, Bool, true, false, true≢false, List, [], ◌∷◌, length, Option, Some, None, arith, refl, sym, subst, map, zip}
+use Rattle.std.proofs.Common.{◌≡◌, ◌∙◌, ℕ, zero, suc, ◌&&◌, ◌==◌, ap, eqb-true, Bool, true, false, true≢false, List, [], ◌∷◌, length, Option, Some, None, arith, refl, sym, subst, map, zip, Bor, ◌⊎◌, ⊎_elim}
 use Rattle.std.specs.Prelude.{if◌then◌else◌, slice_get}
+use Rattle.std.specs.Iterator.{YieldsFirstRef}
+use Rattle.std.specs.Iterator.Adapters.{Zip, zip_first, zip_second, zip_steps}
 use Rattle.eob_joins.specs.Versions.{merged_place}
 use Rattle.eob_joins.specs.Cells.{AreMergedCells, same_length}
 use Rattle.keyed_tables.specs.RowsByCell.{cell_eq, cell_of}
@@ -44,3 +46,28 @@ merged_map b p q w l e =
       cells = cells_of_merge b p q ours theirs;
     } in
     subst (AreMergedCells cell_eq b p q) (sym e) made
+
+zip_none : (a : List (List ℕ)) → map cell_of (zip a []) ≡ []
+zip_none [] = refl
+zip_none (x ∷ xs) = refl
+
+zip_nil : (a q : List (List ℕ)) → map cell_of (zip a (zip [] q)) ≡ []
+zip_nil a q = zip_none a
+
+zip_nil_2 : (a p : List (List ℕ)) → map cell_of (zip a (zip p [])) ≡ []
+zip_nil_2 a [] = zip_none a
+zip_nil_2 a (x ∷ xs) = zip_none a
+
+-- where one of three rows of cells has ended, no cells are left to merge
+pub none_left : (s t : Zip (List (List ℕ)) (Zip (List (List ℕ)) (List (List ℕ)))) (r : Option (Bor (List ℕ) × (Bor (List ℕ) × Bor (List ℕ)))) → r ≡ None
+    → zip_steps (YieldsFirstRef (λ cells. cells)) (zip_steps (YieldsFirstRef (λ cells. cells)) (YieldsFirstRef (λ cells. cells))) s r t
+    → map cell_of (zip (zip_first s) (zip (zip_first (zip_second s)) (zip_second (zip_second s)))) ≡ []
+none_left s t (Some p) e h = absurd (cc)
+none_left s t None e h =
+    ⊎_elim
+    (λ g. ap (λ l. map cell_of (zip l (zip (zip_first (zip_second s)) (zip_second (zip_second s))))) g.1.0)
+    (λ g. ⊎_elim
+    (λ k. ap (λ l. map cell_of (zip (zip_first s) (zip l (zip_second (zip_second s))))) k.1.0 ∙ zip_nil (zip_first s) (zip_second (zip_second s)))
+    (λ k. ap (λ l. map cell_of (zip (zip_first s) (zip (zip_first (zip_second s)) l))) k.1.0 ∙ zip_nil_2 (zip_first s) (zip_first (zip_second s)))
+    g.1)
+    h

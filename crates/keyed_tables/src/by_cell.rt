@@ -83,8 +83,8 @@ fn merged_row(
     ours: Option<&Cells>,
     theirs: Option<&Cells>,
 ) -> Result<Option<Cells>, AllocError>
-    ensures { IfOk result (IsMergedRow (option_map (λ row. row.now) base) (option_map (λ row. row.now) ours)
-        (option_map (λ row. row.now) theirs)) }
+    ensures { IfOk result (IsMergedRow (option_map (λ row. row.now) base.entry)
+        (option_map (λ row. row.now) ours.entry) (option_map (λ row. row.now) theirs.entry)) }
 {
     match base {
         Some(base) => match ours {
@@ -99,7 +99,6 @@ fn merged_row(
 }
 
 // Three rows merged, if they have one length and no cell of them is in conflict.
-#[tactic(auto, using(crate::proofs::CellRowLemmas::merged_map))]
 fn merge_rows(
     alloc: Global,
     base: &Cells,
