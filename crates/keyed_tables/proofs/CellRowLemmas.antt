@@ -2,7 +2,8 @@
 use Rattle.std.proofs.Common.{◌≡◌, ◌∙◌, ℕ, zero, suc, ◌&&◌, ◌==◌, ap, eqb-true, Bool, true, false, true≢false, List, [], ◌∷◌, length, Option, Some, None, arith, refl, sym, subst, map, zip, Bor, ◌⊎◌, ⊎_elim}
 use Rattle.std.specs.Prelude.{if◌then◌else◌, slice_get}
 use Rattle.std.specs.Iterator.{YieldsFirstRef}
-use Rattle.std.specs.Iterator.Adapters.{Zip, zip_first, zip_second, zip_steps}
+use Rattle.std.specs.declared.iter.Zip.{Zip}
+use Rattle.std.specs.Iterator.Adapters.{zip_first, zip_second, zip_steps}
 use Rattle.eob_joins.specs.Versions.{merged_place}
 use Rattle.eob_joins.specs.Cells.{AreMergedCells, same_length}
 use Rattle.keyed_tables.specs.RowsByCell.{cell_eq, cell_of}
