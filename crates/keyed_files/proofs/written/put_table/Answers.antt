@@ -16,3 +16,7 @@ returns c =
 pub loop-row-preserved-in_ok-put_rows : goal.loop-row-preserved-in_ok-put_rows
 loop-row-preserved-in_ok-put_rows c end h =
     c.loop-row.invariant end (table-then c.args.columns.now.order.items _ _ _ _ _ c.in-Some.row c.in-Some.ensures.steps.0 c.in_ok-put_rows.ensures h)
+
+pub loop-row-preserved-in_ok-put_rows-2 : goal.loop-row-preserved-in_ok-put_rows-2
+loop-row-preserved-in_ok-put_rows-2 c end h =
+    c.loop-row.invariant end (table-then c.args.columns.now.order.items _ _ _ _ _ c.in-Some.row c.in-Some.ensures.steps.0 c.in_ok-put_rows.ensures h)
