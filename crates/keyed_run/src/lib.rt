@@ -133,12 +133,11 @@ fn write_asked<'a, R: Files + Input + AllocGlobal, W: Write>(
     match asked {
         Asked::Answer {
             command,
-            output: Some(file),
-        } => write_into_file(rt, command, file, output),
-        Asked::Answer {
-            command,
-            output: None,
-        } => write_command(rt, command, output),
+            output: place,
+        } => match place {
+            Some(file) => write_into_file(rt, command, file, output),
+            None => write_command(rt, command, output),
+        },
         Asked::GitDiff {
             settings,
             format,

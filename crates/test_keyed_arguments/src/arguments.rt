@@ -33,17 +33,13 @@ fn asked(alloc: Global, line: &str, terminal: Colours) -> Result<String, AllocEr
 // The command and the file that its answer goes into, if there is one; or what git asks for.
 fn show_asked(alloc: Global, asked: Parsed<'_>) -> Result<String, AllocError> {
     match asked {
-        Parsed::Answer {
-            command,
-            output: Some(file),
-        } => {
+        Parsed::Answer { command, output } => {
             let command = show_command(alloc, command)?;
-            format!(in alloc; "{command} into {file:?}")
+            match output {
+                Some(file) => format!(in alloc; "{command} into {file:?}"),
+                None => Ok(command),
+            }
         }
-        Parsed::Answer {
-            command,
-            output: None,
-        } => show_command(alloc, command),
         Parsed::GitDiff {
             settings,
             format,
