@@ -9,6 +9,7 @@ use keyed_files::{
     Command, Delimiter, Fault, Layout, Lookup as LookupRequest, Overlay as OverlayRequest, Reason,
     Request, Settings, SortedRequest, Stream, Wanted, at,
 };
+use std::alloc::AllocError;
 use std::io::Write;
 use std::rt::Files;
 use std::{fs, io};
@@ -85,9 +86,19 @@ pub fn answer_overlay<'a, R: Files + Input + AllocGlobal>(
     let mut tables = Vec::new(alloc);
     for named in request.files {
         let stream = stream_of(rt, named.file, Some(named.delimiter));
-        at(named.file, tables.push(stream))?;
+        at(named.file, put(&mut tables, stream))?;
     }
     overlay(alloc, settings, request.layer, tables)
+}
+
+/// Puts an item behind the others. The error of `push` holds the item, and so is none that a fault can be of.
+///
+/// # Errors
+///
+/// Returns `AllocError` if a request for memory was refused.
+pub fn put<T: Drop>(items: &mut Vec<T>, item: T) -> Result<(), AllocError> {
+    items.push(item)?;
+    Ok(())
 }
 
 /// Writes the answer to a request, all of it or nothing of it where something is wrong with an input, and returns the status.

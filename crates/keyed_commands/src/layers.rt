@@ -1,6 +1,7 @@
 //! Tables that are laid one over the other, the last one on top.
 
 use crate::answers::{Answer, Outcome};
+use crate::files::put;
 use crate::job::{Job, Table};
 use keyed_files::{
     Columns, Content, Fault, Layer, Opened, Reason, Settings, Stream, at, columns_of,
@@ -44,7 +45,7 @@ fn open_all<'a, R: Read + Drop>(
         if opened.is_empty() {
             table.rename_key(alloc, settings.key)?;
         }
-        at(file, opened.push(table))?;
+        at(file, put(&mut opened, table))?;
     }
     Ok(opened)
 }

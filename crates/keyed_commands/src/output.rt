@@ -187,38 +187,42 @@ impl<F: OpenFile + Drop> Draft<F> {
 
     // Puts the draft, which is whole, in its place.
     fn put<R: Files<File = F>>(self, rt: &R) -> Result<(), Reason> {
-        match self.place {
+        let Draft { file, place } = self;
+        match place {
             Place::Itself => Ok(()),
-            Place::Beside(
-                Beside {
-                    name,
-                    place,
-                    permissions,
-                },
-            ) => {
-                if let Some(permissions) = permissions {
-                    // Where the system does not let it have them, it has those of a new file.
-                    let _ = self.file.set_permissions(permissions);
-                }
-                match fs::rename(rt, name.as_str(), place.as_str()) {
-                    Ok(()) => Ok(()),
-                    Err(error) => {
-                        let _ = fs::remove_file(rt, name.as_str());
-                        Err(Reason::from(error))
-                    }
-                }
-            }
+            Place::Beside(beside) => beside.take_place(rt, &file),
         }
     }
 
     // Removes what is written.
     fn remove<R: Files<File = F>>(self, rt: &R) {
-        match self.place {
+        let Draft { file: _file, place } = self;
+        match place {
             Place::Itself => {}
-            Place::Beside(Beside { name, .. }) => {
-                let _ = fs::remove_file(rt, name.as_str());
+            Place::Beside(beside) => beside.remove(rt),
+        }
+    }
+}
+
+impl Beside {
+    // Has the file beside take the place of the other one, with its permissions.
+    fn take_place<F: OpenFile, R: Files<File = F>>(&self, rt: &R, file: &F) -> Result<(), Reason> {
+        if let Some(permissions) = self.permissions {
+            // Where the system does not let it have them, it has those of a new file.
+            let _ = file.set_permissions(permissions);
+        }
+        match fs::rename(rt, self.name.as_str(), self.place.as_str()) {
+            Ok(()) => Ok(()),
+            Err(error) => {
+                self.remove(rt);
+                Err(Reason::from(error))
             }
         }
+    }
+
+    // Removes the file beside.
+    fn remove<R: Files>(&self, rt: &R) {
+        let _ = fs::remove_file(rt, self.name.as_str());
     }
 }
 
