@@ -131,9 +131,15 @@ enum Place {
 // A file that is to take the place of another, and the permissions that this one has, if it is there.
 #[derive(Drop)]
 struct Beside {
+    draft: Names,
+    permissions: Option<Permissions>,
+}
+
+// The name of a file, and that of the file whose place it is to take.
+#[derive(Drop)]
+struct Names {
     name: String,
     place: String,
-    permissions: Option<Permissions>,
 }
 
 impl<F: OpenFile + Drop> Draft<F> {
@@ -172,8 +178,7 @@ impl<F: OpenFile + Drop> Draft<F> {
                     return Ok(Draft {
                         file,
                         place: Place::Beside(Beside {
-                            name,
-                            place,
+                            draft: Names { name, place },
                             permissions,
                         }),
                     });
@@ -190,7 +195,13 @@ impl<F: OpenFile + Drop> Draft<F> {
         let Draft { file, place } = self;
         match place {
             Place::Itself => Ok(()),
-            Place::Beside(beside) => beside.take_place(rt, &file),
+            Place::Beside(Beside { draft, permissions }) => {
+                if let Some(permissions) = permissions {
+                    // Where the system does not let it have them, it has those of a new file.
+                    let _ = file.set_permissions(permissions);
+                }
+                draft.take_place(rt)
+            }
         }
     }
 
@@ -199,18 +210,19 @@ impl<F: OpenFile + Drop> Draft<F> {
         let Draft { file: _file, place } = self;
         match place {
             Place::Itself => {}
-            Place::Beside(beside) => beside.remove(rt),
+            Place::Beside(
+                Beside {
+                    draft,
+                    permissions: _permissions,
+                },
+            ) => draft.remove(rt),
         }
     }
 }
 
-impl Beside {
-    // Has the file beside take the place of the other one, with its permissions.
-    fn take_place<F: OpenFile, R: Files<File = F>>(&self, rt: &R, file: &F) -> Result<(), Reason> {
-        if let Some(permissions) = self.permissions {
-            // Where the system does not let it have them, it has those of a new file.
-            let _ = file.set_permissions(permissions);
-        }
+impl Names {
+    // Has the file beside take the place of the other one.
+    fn take_place<R: Files>(&self, rt: &R) -> Result<(), Reason> {
         match fs::rename(rt, self.name.as_str(), self.place.as_str()) {
             Ok(()) => Ok(()),
             Err(error) => {
