@@ -3,16 +3,18 @@
 
 mod form;
 mod more;
+mod view;
 
 use clap::{Arg, ArgAction, ArgMatches};
 use form::{files_of, form_of};
 use keyed_files::{
-    Colours, Command, Format, JoinNames, Joining, Kind, Reason, Request, Settings, SortedRequest,
-    Wanted, key_names,
+    Colours, Command, Comparing, Format, JoinNames, Joining, Kind, Reason, Request, Settings,
+    SortedRequest, Wanted, key_names,
 };
 use more::{lookup_of, overlay_of};
 use std::alloc::{AllocError, Global};
 use std::{fmt, io};
+use view::comparing_of;
 
 /// Why the words of a command line make no command. Its `Display` is the text for the user.
 #[derive(Drop)]
@@ -24,8 +26,11 @@ pub enum ParseError {
         option: &'static str,
         wrong: &'static str,
     },
-    /// What is given for the columns of the key is not such.
-    Key(Reason),
+    /// What is given for an option are no names of columns.
+    Names {
+        option: &'static str,
+        reason: Reason,
+    },
     /// Tables are to be compared as they are read, and the answer to be lined up, for which all its rows must be known.
     SortedTable,
 }
@@ -47,7 +52,7 @@ impl ParseError {
     pub fn use_stderr(&self) -> bool {
         match self {
             ParseError::Words(error) => error.use_stderr(),
-            ParseError::Value { .. } | ParseError::Key(_) | ParseError::SortedTable => true,
+            ParseError::Value { .. } | ParseError::Names { .. } | ParseError::SortedTable => true,
         }
     }
 
@@ -70,7 +75,7 @@ impl fmt::Display for ParseError {
         match self {
             ParseError::Words(error) => write!(f, "{error}"),
             ParseError::Value { option, wrong } => writeln!(f, "keyed: --{option}: {wrong}"),
-            ParseError::Key(reason) => writeln!(f, "keyed: --key: {reason}"),
+            ParseError::Names { option, reason } => writeln!(f, "keyed: --{option}: {reason}"),
             ParseError::SortedTable => f.write_str("keyed: diff --sorted needs --format csv\n"),
         }
     }
@@ -106,7 +111,7 @@ fn command_of<'a>(
         "overlay" => return overlay_of(alloc, matches),
         _ => {}
     }
-    let request = request_of(name, matches, terminal)?;
+    let request = request_of(alloc, name, matches, terminal)?;
     let settings = settings_of(alloc, matches, files_of(request))?;
     let wanted = wanted_of(matches);
     if !matches.get_flag("sorted") {
@@ -141,7 +146,10 @@ fn sorted_of(request: Request<'_>) -> Option<SortedRequest<'_>> {
         Request::Diff {
             old,
             new,
-            format: Format::Csv,
+            how: Comparing {
+                format: Format::Csv,
+                view: _view,
+            },
         } => Some(SortedRequest::Diff { old, new }),
         Request::Join { left, right, how } => Some(SortedRequest::Join { left, right, how }),
         _ => None,
@@ -149,6 +157,7 @@ fn sorted_of(request: Request<'_>) -> Option<SortedRequest<'_>> {
 }
 
 fn request_of<'a>(
+    alloc: Global,
     name: &str,
     matches: &ArgMatches<'a>,
     terminal: Colours,
@@ -174,7 +183,7 @@ fn request_of<'a>(
         _ => Request::Diff {
             old: file_of(matches, "OLD"),
             new: file_of(matches, "NEW"),
-            format: format_of(matches, terminal),
+            how: comparing_of(alloc, matches, terminal)?,
         },
     })
 }
@@ -208,20 +217,6 @@ fn file_of<'a>(matches: &ArgMatches<'a>, name: &str) -> &'a str {
     matches.get_str(name).unwrap_or("-")
 }
 
-// An answer of which the status alone is wanted takes the form that is made with the least.
-fn format_of(matches: &ArgMatches<'_>, terminal: Colours) -> Format {
-    if matches.get_str("format") == Some("csv") || matches.get_flag("quiet") {
-        return Format::Csv;
-    }
-    Format::Table {
-        colours: match matches.get_str("color").unwrap_or("auto") {
-            "always" => Colours::On,
-            "never" => Colours::Off,
-            _ => terminal,
-        },
-    }
-}
-
 fn kind_of(name: &str) -> Kind {
     match name {
         "inner" => Kind::Inner,
@@ -241,7 +236,10 @@ fn settings_of<'a>(
     let key = matches.get_str("key");
     if let Some(names) = key {
         if let Err(reason) = key_names(alloc, names) {
-            return Err(ParseError::Key(reason));
+            return Err(ParseError::Names {
+                option: "key",
+                reason,
+            });
         }
     }
     Ok(Settings {
@@ -440,6 +438,7 @@ fn put_options<'a>(alloc: Global, args: &mut Vec<Arg<'a>>, name: &str) -> Result
         "diff" => {
             put(args, choice(alloc, FORMAT))?;
             put(args, choice(alloc, COLOR))?;
+            put_view(alloc, args)?;
             put(args, quiet(alloc))?;
             put(args, sorted(alloc)?)
         }
@@ -457,6 +456,37 @@ fn put_options<'a>(alloc: Global, args: &mut Vec<Arg<'a>>, name: &str) -> Result
         "overlay" => put(args, cells(alloc)?),
         _ => Ok(()),
     }
+}
+
+// Puts the options that say what of the changes is shown.
+fn put_view<'a>(alloc: Global, args: &mut Vec<Arg<'a>>) -> Result<(), AllocError> {
+    let only = text(
+        alloc,
+        "only",
+        "COLUMN[,COLUMN..]",
+        "The columns that are compared and shown, beside those of the key",
+    );
+    put(args, only.conflicts_with("ignore")?)?;
+    let ignore = text(
+        alloc,
+        "ignore",
+        "COLUMN[,COLUMN..]",
+        "The columns that are not",
+    );
+    put(args, ignore)?;
+    let summary = flag(
+        alloc,
+        "summary",
+        "The counts alone, and what became of columns",
+    );
+    put(args, summary.conflicts_with("limit")?)?;
+    let limit = text(
+        alloc,
+        "limit",
+        "N",
+        "So many rows at most, and how many more there are; counts are of all",
+    );
+    put(args, limit)
 }
 
 fn prefix<'a>(alloc: Global) -> Arg<'a> {
@@ -505,9 +535,9 @@ struct OneOf {
 
 const FORMAT: OneOf = OneOf {
     name: "format",
-    shown: "table|csv",
-    words: &["table", "csv"],
-    help: "A table to read, or CSV that apply takes",
+    shown: "FORMAT",
+    words: &["table", "csv", "json", "markdown", "html"],
+    help: "A table to read, CSV that apply takes, JSON, a line a row, a table of Markdown, or a page of HTML",
 };
 
 const COLOR: OneOf = OneOf {

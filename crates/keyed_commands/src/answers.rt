@@ -2,7 +2,7 @@
 //!
 //! Each has three steps: its headers are read, then the rows under its columns, and then the tables are answered.
 
-use crate::changes::{count_rows, report};
+use crate::changes::{Look, count_rows, report};
 use crate::job::{Changes, Job, Table};
 use crate::joined::{JoinForm, join_as_csv};
 use crate::lost::render_lost;
@@ -11,8 +11,8 @@ use crate::patch::{all_fit, render_misfits};
 use crate::written::write_changes;
 use eob_joins::Merged;
 use keyed_files::{
-    ColumnChanges, Columns, Content, Fault, Format, JoinColumns, Joining, Opened, Reason, Settings,
-    Stream, Two, at, columns_of, merged_columns,
+    ColumnChanges, Columns, Comparing, Content, Fault, Format, JoinColumns, Joining, Opened,
+    Reason, Settings, Stream, Two, at, columns_of, merged_columns, names_among, picked_columns,
 };
 use keyed_rows::{Cells, Group, Key};
 use keyed_tables::{changes_of, merge_of, patched};
@@ -31,37 +31,46 @@ pub struct Answer {
 /// # Errors
 ///
 /// Returns the fault of a table that can't be opened or read, that lacks a column of the key, or in which a key stands twice where keys may
-/// not repeat; also want of memory, as the fault of one of them.
+/// not repeat; of a column that is picked and is in neither table; also want of memory, as the fault of one of them.
 pub fn diff<'a, R: Read + Drop>(
     alloc: Global,
     settings: Settings<'a>,
-    format: Format,
+    how: Comparing<'a>,
     old: Stream<'a, R>,
     new: Stream<'a, R>,
 ) -> Result<Answer, Fault<'a>> {
     let mut versions = Two::new(alloc, settings.form, Content::Rows, old, new)?;
     versions.first.rename_key(alloc, settings.key)?;
-    let columns = match format {
+    let columns = match how.format {
         Format::Csv => versions.change_columns(alloc, settings.key)?,
-        Format::Table { .. } => versions.columns(alloc, settings.key)?,
+        Format::Table { .. } | Format::Json | Format::Markdown | Format::Html => {
+            let columns = versions.columns(alloc, settings.key)?;
+            let picked = picked_columns(alloc, how.view.columns, columns);
+            at(versions.next.file, picked)?
+        }
     };
-    diff_files(Job::new(alloc, settings, &columns), format, &mut versions)
+    diff_files(Job::new(alloc, settings, &columns), how, &mut versions)
 }
 
 fn diff_files<'a, R: Read + Drop>(
     mut job: Job<'_, Columns>,
-    format: Format,
+    how: Comparing<'_>,
     versions: &mut Two<'a, R>,
 ) -> Result<Answer, Fault<'a>> {
     let tables = job.read_both(versions)?;
     let marked = versions.marked_names(job.alloc)?;
-    let answer = diff_tables(&job, format, versions.column_changes(), &marked, tables);
+    let old_names = names_among(job.alloc, versions.first.header(), job.columns);
+    let old_names = at(versions.first.file, old_names)?;
+    let new_names = names_among(job.alloc, versions.next.header(), job.columns);
+    let new_names = at(versions.next.file, new_names)?;
+    let column_changes = ColumnChanges::new(&old_names, &new_names);
+    let answer = diff_tables(&job, how, column_changes, &marked, tables);
     at(versions.next.file, answer)
 }
 
 fn diff_tables(
     job: &Job<'_, Columns>,
-    format: Format,
+    how: Comparing<'_>,
     column_changes: ColumnChanges<'_>,
     marked: &Cells,
     tables: (Table, Table),
@@ -70,14 +79,25 @@ fn diff_tables(
     let rows = count_rows(&old.pairs);
     let changes = job.arrange(changes_of(job.alloc, old, new)?)?;
     let is_same = changes.is_empty() && !column_changes.has_lone(job.alloc)?;
-    let bytes = match format {
-        Format::Csv => write_changes(job, marked, changes)?,
-        Format::Table { colours } => report(job, colours, column_changes, rows, &changes)?,
+    let bytes = match look_of(how.format) {
+        Some(look) => report(job, look, how.view.rows, column_changes, rows, &changes)?,
+        None => write_changes(job, marked, changes)?,
     };
     Ok(Answer {
         bytes,
         status: if is_same { 0 } else { 1 },
     })
+}
+
+// How changes are shown, unless they are to be applied.
+fn look_of(format: Format) -> Option<Look> {
+    match format {
+        Format::Csv => None,
+        Format::Table { colours } => Some(Look::Table(colours)),
+        Format::Json => Some(Look::Json),
+        Format::Markdown => Some(Look::Markdown),
+        Format::Html => Some(Look::Html),
+    }
 }
 
 /// The answer to `apply`.

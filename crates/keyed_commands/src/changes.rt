@@ -2,48 +2,118 @@
 ghost use Rattle.std.specs.Prelude.{◌≡◌, ◌-◌, ◌^◌, filter, is_none, is_some, length, map, min, sum};
 ghost use Rattle.either_or_both.specs.Prelude.{left_place, option_zip, right_place};
 
+use crate::html::html;
 use crate::job::Job;
+use crate::json::{json_counts, json_rows};
+use crate::markdown::markdown;
 use either_or_both::EitherOrBoth;
 use eob_joins::Change;
 use indexmap::IndexMap;
 use keyed_files::{
-    Colour, Colours, ColumnChanges, Columns, Grid, Line, heading, line_under, line_up, put_both,
-    put_shown,
+    Colour, Colours, ColumnChanges, Columns, Grid, Line, RowsShown, heading, line_under, line_up,
+    put_both, put_shown,
 };
 use keyed_rows::{Cells, Group, Key};
 use std::alloc::{AllocError, Global};
+use std::fmt;
 use std::fmt::Write;
 
-// A row that changed, by key.
-type RowChange<'a> = (&'a Key, Change<&'a Cells>);
+/// A row that changed, by key.
+pub type RowChange<'a> = (&'a Key, Change<&'a Cells>);
 
-// How many rows were added, removed, changed and left as they were.
+/// How many rows were added, removed, changed and left as they were.
 #[derive(Clone, Copy)]
-struct Counts {
-    added: usize,
-    removed: usize,
-    changed: usize,
-    same: usize,
+pub struct Counts {
+    pub added: usize,
+    pub removed: usize,
+    pub changed: usize,
+    pub same: usize,
 }
 
-/// The changes as text that a person reads: what became of the columns, the rows that changed, each in the colour of its change where there
-/// are colours, and the counts. The old table had this many rows.
+impl fmt::Display for Counts {
+    fn fmt<W: fmt::Write>(&self, f: &mut fmt::Formatter<W>) -> fmt::Result {
+        write!(
+            f,
+            "{} added, {} removed, {} changed, {} the same",
+            self.added, self.removed, self.changed, self.same
+        )
+    }
+}
+
+/// How changes are shown.
+#[derive(Clone, Copy)]
+pub enum Look {
+    /// As a table on a terminal, with colours or without.
+    Table(Colours),
+    Json,
+    Markdown,
+    Html,
+}
+
+/// What there is to say of two tables.
+#[derive(Drop)]
+pub struct WhatChanged<'r> {
+    pub columns: &'r Columns,
+    pub column_changes: ColumnChanges<'r>,
+    /// The rows that are shown, and how many more changed.
+    pub rows: &'r [RowChange<'r>],
+    pub more: usize,
+    pub counts: Counts,
+}
+
+/// The changes as text: what became of the columns, the rows that changed, and the counts; of JSON the rows alone, or the counts where no
+/// row is shown. The old table had this many rows.
 ///
 /// # Errors
 ///
 /// Returns `AllocError` if a request for memory was refused.
 pub fn report(
     job: &Job<'_, Columns>,
-    colours: Colours,
+    look: Look,
+    which: RowsShown,
     column_changes: ColumnChanges<'_>,
     old_rows: usize,
     changes: &[(Key, Change<Group>)],
 ) -> Result<Vec<u8>, AllocError> {
+    let alloc = job.alloc;
     let rows = row_changes(job, changes)?;
-    let mut text = format!(in job.alloc; "{column_changes}")?;
-    text.push_str(&render_rows(job, colours, &rows)?)?;
-    write_counts(&mut text, count(old_rows, &rows))?;
+    let shown = shown_rows(which, &rows);
+    let report = WhatChanged {
+        columns: job.columns,
+        column_changes,
+        rows: shown,
+        more: count_more(which, rows.len(), shown.len()),
+        counts: count(old_rows, &rows),
+    };
+    let text = match look {
+        Look::Table(colours) => table(alloc, colours, &report)?,
+        Look::Markdown => markdown(alloc, &report)?,
+        Look::Html => html(alloc, &report)?,
+        Look::Json => match which {
+            RowsShown::None => json_counts(alloc, column_changes, report.counts)?,
+            RowsShown::All | RowsShown::First(_) => json_rows(alloc, job.columns, shown)?,
+        },
+    };
     Ok(text.into_bytes())
+}
+
+// How many rows are not shown, where it is to be said.
+fn count_more(which: RowsShown, all: usize, shown: usize) -> usize {
+    match which {
+        RowsShown::First(_) => all.saturating_sub(shown),
+        RowsShown::All | RowsShown::None => 0,
+    }
+}
+
+// The changes as a table on a terminal, each row in the colour of its change where there are colours.
+fn table(alloc: Global, colours: Colours, report: &WhatChanged<'_>) -> Result<String, AllocError> {
+    let mut text = format!(in alloc; "{}", report.column_changes)?;
+    text.push_str(&render_rows(alloc, colours, report)?)?;
+    if report.more > 0 {
+        writeln!(text, "and {} more", report.more)?;
+    }
+    writeln!(text, "{}", report.counts)?;
+    Ok(text)
 }
 
 // The rows that changed. Of groups they are those that one version has more often, and one that goes alone is shown beside one that comes
@@ -207,28 +277,29 @@ fn count_changed(changes: &[RowChange<'_>]) -> usize
     changes.iter().filter(|row| row.1.is_both()).count()
 }
 
-fn write_counts(text: &mut String, counts: Counts) -> Result<(), AllocError> {
-    writeln!(
-        text,
-        "{} added, {} removed, {} changed, {} the same",
-        counts.added, counts.removed, counts.changed, counts.same
-    )
+// Those of the rows that are shown.
+fn shown_rows<'r, 'a>(which: RowsShown, rows: &'r [RowChange<'a>]) -> &'r [RowChange<'a>] {
+    match which {
+        RowsShown::All => rows,
+        RowsShown::First(most) => rows.get(..most).unwrap_or(rows),
+        RowsShown::None => &[],
+    }
 }
 
 // The rows that changed, under the names of the columns. Empty where none did.
 fn render_rows(
-    job: &Job<'_, Columns>,
+    alloc: Global,
     colours: Colours,
-    changes: &[RowChange<'_>],
+    report: &WhatChanged<'_>,
 ) -> Result<String, AllocError> {
-    let mut grid: Grid = Vec::new(job.alloc);
-    if !changes.is_empty() {
-        grid.push(heading(job.alloc, job.columns)?)?;
+    let mut grid: Grid = Vec::new(alloc);
+    if !report.rows.is_empty() {
+        grid.push(heading(alloc, report.columns)?)?;
     }
-    for row in changes {
-        grid.push(line_of(job.alloc, colours, row)?)?;
+    for row in report.rows {
+        grid.push(line_of(alloc, colours, row)?)?;
     }
-    line_up(job.alloc, &grid)
+    line_up(alloc, &grid)
 }
 
 // The line of a row that changed.
@@ -248,8 +319,8 @@ fn line_of(alloc: Global, colours: Colours, row: &RowChange<'_>) -> Result<Line,
     Ok(line)
 }
 
-// What is said of a row that changed.
-fn word_of(change: Change<&Cells>) -> &'static str {
+/// What is said of a row that changed.
+pub fn word_of(change: Change<&Cells>) -> &'static str {
     match change {
         EitherOrBoth::Left(_) => "removed",
         EitherOrBoth::Both(..) => "changed",

@@ -8,11 +8,14 @@
 mod answers;
 mod changes;
 mod files;
+mod html;
 mod job;
 mod joined;
+mod json;
 mod layers;
 mod lookups;
 mod lost;
+mod markdown;
 mod merged;
 mod patch;
 mod row_order;
@@ -22,10 +25,10 @@ mod written;
 pub use answers::{Answer, apply, diff, join, merge};
 pub use files::{answer_request, stream_request, write_command, write_request, write_whole};
 pub use keyed_files::{
-    Colours, Command, Comment, Delimiter, Encoding, Fault, Finding, Form, Format, JoinNames,
-    Joining, Kind, Layer, Layout, Lengths, Lookup as LookupRequest, LookupKind, NamedFile,
-    Overlay as OverlayRequest, Quotes, Reading, Reason, Request, Settings, Shown, ShownCell,
-    ShownName, SortedRequest, Stream, Wanted, at,
+    Colours, Command, Comment, Comparing, Delimiter, Encoding, Fault, Finding, Form, Format,
+    JoinNames, Joining, Kind, Layer, Layout, Lengths, Lookup as LookupRequest, LookupKind,
+    NamedFile, Overlay as OverlayRequest, Picked, Quotes, Reading, Reason, Request, RowsShown,
+    Settings, Shown, ShownCell, ShownName, SortedRequest, Stream, View, Wanted, at,
 };
 pub use layers::overlay;
 pub use lookups::lookup;

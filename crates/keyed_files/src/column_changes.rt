@@ -59,6 +59,39 @@ impl<'a> ColumnChanges<'a> {
     }
 }
 
+/// The names of the columns that one of two tables alone has.
+#[derive(Drop)]
+pub struct LoneColumns {
+    pub added: Cells,
+    pub removed: Cells,
+}
+
+impl ColumnChanges<'_> {
+    /// The names of the columns that one of the headers alone has.
+    ///
+    /// # Errors
+    ///
+    /// Returns `AllocError` if a request for memory was refused.
+    pub fn lone(self, alloc: Global) -> Result<LoneColumns, AllocError> {
+        Ok(LoneColumns {
+            added: lone_names(alloc, self.after, self.before)?,
+            removed: lone_names(alloc, self.before, self.after)?,
+        })
+    }
+}
+
+// The names that are not among others.
+fn lone_names(alloc: Global, names: &Cells, others: &Cells) -> Result<Cells, AllocError> {
+    let others = Names::of_cells(alloc, others)?;
+    let mut lone = Cells::new(alloc);
+    for name in names {
+        if !others.has(name) {
+            lone.push(name)?;
+        }
+    }
+    Ok(lone)
+}
+
 impl Written {
     /// Puts the header of changes: the name of the column of signs, and the names of the columns as they are marked.
     ///

@@ -5,6 +5,7 @@ ghost use Rattle.keyed_files.specs.Names.{place_in};
 use crate::fault::Reason;
 use crate::key_record::{KeyNames, key_names};
 use crate::names::Names;
+use crate::request::Picked;
 use keyed_rows::Cells;
 use std::alloc::{AllocError, Global};
 
@@ -51,6 +52,57 @@ pub(crate) fn place_of(names: &Cells, name: &[u8]) -> Option<usize>
     ensures { result ≡ place_in names.now name.now }
 {
     names.iter().position(|other| name == other)
+}
+
+/// The same columns with those alone, beside the key, that are picked.
+///
+/// # Errors
+///
+/// Returns the errors of `key_names`, `NeitherHas` if a name that is given is that of no column, and `NoMemory` if a request for memory was
+/// refused.
+pub fn picked_columns(
+    alloc: Global,
+    picked: Picked<'_>,
+    columns: Columns,
+) -> Result<Columns, Reason> {
+    let (record, keeps) = match picked {
+        Picked::All => return Ok(columns),
+        Picked::Only(record) => (record, true),
+        Picked::AllBut(record) => (record, false),
+    };
+    let names = key_names(alloc, record)?.first;
+    for name in &names {
+        if place_of(&columns.key, name).is_none() && place_of(&columns.rest, name).is_none() {
+            return Err(Reason::NeitherHas(Vec::from_slice(alloc, name)?));
+        }
+    }
+    let names = Names::of_cells(alloc, &names)?;
+    let mut headers = columns.key.clone()?;
+    for name in &columns.rest {
+        if names.has(name) == keeps {
+            headers.push(name)?;
+        }
+    }
+    Ok(Columns::new(alloc, columns.key, &[&headers])?)
+}
+
+/// The names of a header that are those of columns, in its order.
+///
+/// # Errors
+///
+/// Returns `AllocError` if a request for memory was refused.
+pub fn names_among(alloc: Global, header: &Cells, columns: &Columns) -> Result<Cells, AllocError> {
+    let mut there = Names::of_cells(alloc, &columns.key)?;
+    for name in &columns.rest {
+        there.add(alloc, name)?;
+    }
+    let mut names = Cells::new(alloc);
+    for name in header {
+        if there.has(name) {
+            names.push(name)?;
+        }
+    }
+    Ok(names)
 }
 
 // The place of the next column, whose name goes behind the others unless it is one of the key.

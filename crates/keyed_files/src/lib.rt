@@ -27,8 +27,10 @@ mod sign;
 mod source;
 mod written;
 
-pub use column_changes::ColumnChanges;
-pub use columns::{Columns, JoinColumns, Place, columns_of, join_columns};
+pub use column_changes::{ColumnChanges, LoneColumns};
+pub use columns::{
+    Columns, JoinColumns, Place, columns_of, join_columns, names_among, picked_columns,
+};
 pub use encoding::Encoding;
 pub use fate::Fate;
 pub use fault::{Fault, Reason};
@@ -45,8 +47,9 @@ pub use opened::{Opened, Stream, Two, at};
 pub use overlays::{Layer, NamedFile, Overlay};
 pub use parts::Parts;
 pub use request::{
-    Colours, Command, Comment, Delimiter, Form, Format, JoinNames, Joining, Kind, Layout, Lengths,
-    Quotes, Reading, Request, Settings, SortedRequest, Wanted,
+    Colours, Command, Comment, Comparing, Delimiter, Form, Format, JoinNames, Joining, Kind,
+    Layout, Lengths, Picked, Quotes, Reading, Request, RowsShown, Settings, SortedRequest, View,
+    Wanted,
 };
 pub use sign::{Sign, SignedRow};
 pub use source::{Content, Places, Source};

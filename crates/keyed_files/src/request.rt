@@ -212,8 +212,63 @@ pub enum Colours {
 pub enum Format {
     /// As CSV that `Request::Apply` takes.
     Csv,
+    /// As JSON, a line a row.
+    Json,
+    /// As Markdown.
+    Markdown,
+    /// As a page of HTML that needs nothing from elsewhere.
+    Html,
     /// As a table that a person reads, each row in the colour of its change where there are colours.
     Table { colours: Colours },
+}
+
+/// Which columns are compared and shown, beside those of the key, by names that are given as one record of CSV.
+#[derive(Clone, Copy, Debug)]
+pub enum Picked<'a> {
+    All,
+    Only(&'a str),
+    AllBut(&'a str),
+}
+
+/// Which of the rows that changed a person is shown.
+#[derive(Clone, Copy, Debug)]
+pub enum RowsShown {
+    All,
+    /// So many at most, the first ones.
+    First(usize),
+    None,
+}
+
+/// What of the changes is shown. The counts are of all rows.
+#[derive(Clone, Copy, Debug)]
+pub struct View<'a> {
+    pub columns: Picked<'a>,
+    pub rows: RowsShown,
+}
+
+impl View<'static> {
+    /// All columns, and all rows.
+    pub const WHOLE: View<'static> = View {
+        columns: Picked::All,
+        rows: RowsShown::All,
+    };
+}
+
+/// How two tables are compared: how what changed is written, and what of it. Changes as CSV are whole, whatever is to be shown.
+#[derive(Clone, Copy, Debug)]
+pub struct Comparing<'a> {
+    pub format: Format,
+    pub view: View<'a>,
+}
+
+impl Comparing<'static> {
+    /// All that changed, in this form.
+    pub fn in_form(format: Format) -> Self {
+        Comparing {
+            format,
+            view: View::WHOLE,
+        }
+    }
 }
 
 /// What is asked for of whole tables, in files by name, of which `-` is the standard input.
@@ -223,7 +278,7 @@ pub enum Request<'a> {
     Diff {
         old: &'a str,
         new: &'a str,
-        format: Format,
+        how: Comparing<'a>,
     },
     /// A table with changes made to it.
     Apply {

@@ -3,7 +3,7 @@
 use keyed_arguments::{ParseError, parse};
 use keyed_files::Colours::{Off, On};
 use keyed_files::{
-    Colours, Command, Finding, Form, JoinNames, Layout, Lookup, Overlay, Settings, Wanted,
+    Colours, Command, Finding, Form, JoinNames, Layout, Lookup, Overlay, Settings, View, Wanted,
 };
 use std::alloc::{AllocError, Global};
 use std::fmt::Write;
@@ -107,8 +107,15 @@ fn show_error(alloc: Global, error: &ParseError) -> Result<String, AllocError> {
     }
 }
 
-// A request with the kind of its join in place of all that says how tables are joined, where its names are plain.
+// A request with the kind of its join in place of all that says how tables are joined, where its names are plain, and with the form of its
+// changes in place of all that says how tables are compared, where all is shown.
 fn without_names(alloc: Global, request: &str) -> Result<String, AllocError> {
+    let whole = format!(in alloc; ", view: {:?} }}", View::WHOLE)?;
+    if let Some((before, behind)) = request.split_once(whole.as_str()) {
+        if let Some((start, form)) = before.split_once("how: Comparing { ") {
+            return format!(in alloc; "{start}{form}{behind}");
+        }
+    }
     let plain = format!(in alloc; ", names: {:?} }}", JoinNames::PLAIN)?;
     match request.split_once(plain.as_str()) {
         Some((before, behind)) => match before.split_once("how: Joining { kind: ") {
@@ -142,12 +149,15 @@ fn expect<R: AllocGlobal>(rt: &R, lines: &[Asked]) -> Result<(), Fail> {
 }
 
 #[rattlefmt::skip]
-static REQUESTS: [Asked; 14] = [
+static REQUESTS: [Asked; 17] = [
     ("diff a b",                On,  r#"',' None [1, 0, 0, 0] Diff { old: "a", new: "b", format: Table { colours: On } }"#),
     ("diff a b --color auto",   Off, r#"',' None [1, 0, 0, 0] Diff { old: "a", new: "b", format: Table { colours: Off } }"#),
     ("diff a b --color never",  On,  r#"',' None [1, 0, 0, 0] Diff { old: "a", new: "b", format: Table { colours: Off } }"#),
     ("diff --color always a b", Off, r#"',' None [1, 0, 0, 0] Diff { old: "a", new: "b", format: Table { colours: On } }"#),
     ("diff a - --format table", Off, r#"',' None [1, 0, 0, 0] Diff { old: "a", new: "-", format: Table { colours: Off } }"#),
+    ("diff a b --format html",  On,  r#"',' None [1, 0, 0, 0] Diff { old: "a", new: "b", format: Html }"#),
+    ("diff a b --format=markdown", On, r#"',' None [1, 0, 0, 0] Diff { old: "a", new: "b", format: Markdown }"#),
+    ("diff a b --format json",  On,  r#"',' None [1, 0, 0, 0] Diff { old: "a", new: "b", format: Json }"#),
     ("diff - b --format csv",   On,  r#"',' None [1, 0, 0, 0] Diff { old: "-", new: "b", format: Csv }"#),
     ("apply a b",               On,  r#"',' None [1, 0, 0, 0] Apply { old: "a", changes: "b" }"#),
     ("merge a b c",             On,  r#"',' None [1, 0, 0, 0] Merge { base: "a", ours: "b", theirs: "c" }"#),
@@ -211,6 +221,39 @@ static LETTERS: [Asked; 14] = [
 #[test]
 fn letter_stands_for_its_option(rt: HostRuntime) -> Result<(), Fail> {
     expect(&rt, &LETTERS)
+}
+
+const NO_ONLY: &str =
+    "keyed: --only: not with --format csv, whose changes are whole: apply takes them\n";
+
+#[rattlefmt::skip]
+static VIEWS: [Asked; 20] = [
+    ("diff a b --only x,y",         Off, r#"',' None [1, 0, 0, 0] Diff { old: "a", new: "b", how: Comparing { format: Table { colours: Off }, view: View { columns: Only("x,y"), rows: All } } }"#),
+    ("diff a b --ignore x --limit 3", On, r#"',' None [1, 0, 0, 0] Diff { old: "a", new: "b", how: Comparing { format: Table { colours: On }, view: View { columns: AllBut("x"), rows: First(3) } } }"#),
+    ("diff a b --summary",          On,  r#"',' None [1, 0, 0, 0] Diff { old: "a", new: "b", how: Comparing { format: Table { colours: On }, view: View { columns: All, rows: None } } }"#),
+    ("diff a b -q --only x",        On,  r#"',' None [1, 0, 0, 0] Diff { old: "a", new: "b", how: Comparing { format: Table { colours: On }, view: View { columns: Only("x"), rows: All } } }, status"#),
+    ("diff a b --only x --ignore y", On, "wrong"),
+    ("diff a b --summary --limit 2", On, "wrong"),
+    ("diff a b --limit x",          On,  "keyed: --limit: not a number of rows\n"),
+    ("diff a b --limit -1",         On,  "wrong"),
+    ("diff a b --format csv --only x", On, NO_ONLY),
+    ("diff a b --format csv --ignore x", On, "keyed: --ignore: not with --format csv, whose changes are whole: apply takes them\n"),
+    ("diff a b --format csv --summary", On, "keyed: --summary: not with --format csv, whose changes are whole: apply takes them\n"),
+    ("diff a b --format csv --limit 2", On, "keyed: --limit: not with --format csv, whose changes are whole: apply takes them\n"),
+    ("diff a b --sorted --only x -q", On, SORTED_TABLE),
+    ("diff a b --only x,x",         On,  "keyed: --only: the column x twice\n"),
+    ("diff a b --ignore \"x",       On,  "keyed: --ignore: not one record of CSV\n"),
+    ("diff a b --only x=y",         On,  "keyed: --only: two names of a column: an = of a name is ==\n"),
+    ("apply a b --only x",          On,  "wrong"),
+    ("merge a b c --summary",       On,  "wrong"),
+    ("join a b --ignore x",         On,  "wrong"),
+    ("lookup a b --limit 2",        On,  "wrong"),
+];
+
+/// What of the changes is shown is what the options of `diff` say, and all of them where they are to be applied.
+#[test]
+fn option_says_what_is_shown(rt: HostRuntime) -> Result<(), Fail> {
+    expect(&rt, &VIEWS)
 }
 
 #[rattlefmt::skip]
@@ -305,13 +348,15 @@ fn delimiter_is_one_byte_that_parts_cells(rt: HostRuntime) -> Result<(), Fail> {
 const SORTED_TABLE: &str = "keyed: diff --sorted needs --format csv\n";
 
 #[rattlefmt::skip]
-static REFUSED: [Asked; 16] = [
+static REFUSED: [Asked; 18] = [
     ("compare a b",                    On,  "wrong"),
     ("diff a",                         On,  "wrong"),
     ("diff a b c",                     On,  "wrong"),
     ("merge a b",                      On,  "wrong"),
     ("diff a b --color red",           On,  "wrong"),
-    ("diff a b --format json",         On,  "wrong"),
+    ("diff a b --format xml",          On,  "wrong"),
+    ("diff a b --format json --sorted", On, SORTED_TABLE),
+    ("diff a b --format json --limit 2", On, "keyed: --limit: not with --format json, of which each line is a row\n"),
     ("join a b --kind cross",          On,  "wrong"),
     ("join a b --format csv",          On,  "wrong"),
     ("apply a b --sorted",             On,  "wrong"),

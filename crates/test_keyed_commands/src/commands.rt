@@ -1,10 +1,10 @@
 //! Each command on tables that are texts, and on readers and writers. What the tests know of the calls of `keyed_commands` stands here.
 
 use keyed_commands::{
-    Answer, Colours, Command as AnyCommand, Delimiter, Fault, Finding, Form, Format, JoinNames,
-    Joining, Kind, Layer, LookupKind, LookupRequest, NamedFile, OverlayRequest, Reading, Request,
-    Settings, SortedRequest, Stream, apply, at, diff, diff_sorted, join, join_sorted, lookup,
-    merge, overlay, stream_request, write_command, write_request, write_whole,
+    Answer, Colours, Command as AnyCommand, Comparing, Delimiter, Fault, Finding, Form, Format,
+    JoinNames, Joining, Kind, Layer, LookupKind, LookupRequest, NamedFile, OverlayRequest, Reading,
+    Request, Settings, SortedRequest, Stream, apply, at, diff, diff_sorted, join, join_sorted,
+    lookup, merge, overlay, stream_request, write_command, write_request, write_whole,
 };
 use std::alloc::{AllocError, Global};
 use std::io::{Read, Write};
@@ -132,7 +132,7 @@ impl Command {
             Command::Diff | Command::SortedDiff => Request::Diff {
                 old: first,
                 new: next,
-                format: Format::Csv,
+                how: Comparing::in_form(Format::Csv),
             },
             Command::Apply => Request::Apply {
                 old: first,
@@ -174,7 +174,10 @@ pub fn write_answer<'a, R: Read + Drop, W: Write>(
     let (first, next, last) = inputs;
     let (old, new) = (stream("old", first), stream("new", next));
     match command {
-        Command::Diff => write_whole_answer(diff(alloc, settings, Format::Csv, old, new), output),
+        Command::Diff => {
+            let how = Comparing::in_form(Format::Csv);
+            write_whole_answer(diff(alloc, settings, how, old, new), output)
+        }
         Command::SortedDiff => diff_sorted(alloc, settings.layout(), old, new, output),
         Command::Apply => {
             let changes = named("changes", new);
@@ -317,8 +320,8 @@ pub fn write_report_of_files<'a, R: Files + Input + AllocGlobal, W: Write>(
     output: &mut W,
 ) -> Result<u8, Fault<'a>> {
     let [old, new, _] = files;
-    let format = TEXT;
-    write_request(rt, settings, Request::Diff { old, new, format }, output)
+    let how = Comparing::in_form(TEXT);
+    write_request(rt, settings, Request::Diff { old, new, how }, output)
 }
 
 /// The answer of a command on tables that are texts.
@@ -345,7 +348,7 @@ pub fn compared<'a>(
     diff(
         alloc,
         settings,
-        format,
+        Comparing::in_form(format),
         stream("old", old),
         stream("new", new),
     )

@@ -9,7 +9,11 @@ mod escaped;
 #[cfg(test)]
 mod faults;
 #[cfg(test)]
+mod formats;
+#[cfg(test)]
 mod inputs;
+#[cfg(test)]
+mod json;
 #[cfg(test)]
 mod keys_shown;
 #[cfg(test)]
@@ -32,3 +36,5 @@ mod shapes;
 mod tables;
 #[cfg(test)]
 mod two_names;
+#[cfg(test)]
+mod views;
