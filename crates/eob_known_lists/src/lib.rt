@@ -6,6 +6,7 @@
 //! A function that is generic in these traits has nothing to show, and its callers neither.
 #![tactic(auto)]
 
+pub mod difference;
 pub mod drive;
 pub mod listed;
 pub mod listing;

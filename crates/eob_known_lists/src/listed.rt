@@ -216,20 +216,50 @@ impl<S: OwnIter> OwnIter for ChainedIterEitherOrBoth<S> {
 }
 
 /// An iterator that is taken from its end gives its list, last first.
+///
+/// Call it before a reversed iterator is collected, with that iterator.
+///
+/// # Examples
+///
+/// ```
+/// let walk = EitherOrBoth::Both([1, 2], ['a']).into_iter_swap().rev();
+/// law_rev(&walk);
+/// let rows: Vec<EitherOrBoth<i32, char>> = walk.collect(alloc)?;
+/// assert_eq!(rt; rows, vec![in alloc; EitherOrBoth::Left(2), EitherOrBoth::Both(1, 'a')]?);
+/// ```
 pub fn law_rev<I: OwnIter>(_walk: &Rev<I>)
     ensures { EachRunFrom (rev_steps I.next_back_gives) _walk.now
         (λ p. p.whole ≡ true → p.items ≡ reverse (I.listed (rev_source _walk.now))) }
 {}
 
 /// An iterator that is taken from its front gives its list.
+///
+/// Call it where a generic function is to know what it collects or counts, with the iterator.
+///
+/// # Examples
+///
+/// ```
+/// let walk = EitherOrBoth::Both([1, 2], ['a']).into_iter_swap();
+/// law_forward(&walk);
+/// assert_eq!(rt; walk.count(), 2);
+/// ```
 pub fn law_forward<I: OwnIter>(_walk: &I)
     ensures { EachRunFrom I.next_gives _walk.now
         (λ p. (p.whole ≡ true → p.items ≡ I.listed _walk.now)
         × (p.whole ≡ true → p.len ≡ length (I.listed _walk.now))) }
 {}
 
-/// The item that `nth(n)` answers is the one at place `n` of the list, or `None` where the list ends before it. Called before `nth`,
-/// on the iterator.
+/// The item that `nth(n)` returns is the one at place `n` of the list, or `None` where the list ends before it.
+///
+/// Call it before `nth`, with the iterator.
+///
+/// # Examples
+///
+/// ```
+/// let mut walk = EitherOrBoth::Both([1, 2], ['a']).into_iter_swap();
+/// law_nth(&walk);
+/// assert_eq!(rt; walk.nth(1), Some(EitherOrBoth::Left(2)));
+/// ```
 pub fn law_nth<I: OwnIter>(_walk: &I)
     ensures { EachRunFrom I.next_gives _walk.now (λ p. ReadsPlaces p (I.listed _walk.now)) }
 {}
