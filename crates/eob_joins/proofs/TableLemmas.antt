@@ -144,10 +144,10 @@ module _ {K : Type 0} (cmp : K → K → Ordering) where
   same_table o V exact f ys zs g h = same_rows exact ys zs (same_values cmp o (λ k. ⊤) (λ k. ⊤) ys zs (up cmp ys g.rises) (up cmp zs h.rises) (λ k. g.values k ∙ sym (h.values k)))
 
   pub right_nested : (A B C : Type 0) → RightNestedLaw cmp A B C
-  right_nested A B C p q r zs rows i j = record { rises = j.rises; values = λ key. j.values key ∙ ap (from_places (value_under cmp p key)) (i.values key) }
+  right_nested A B C p q r rows h = record { rises = h.2.rises; values = λ key. h.2.values key ∙ ap (from_places (value_under cmp p key)) (h.1.values key) }
 
   pub left_nested : (A B C : Type 0) → LeftNestedLaw cmp A B C
-  left_nested A B C p q r zs rows i j = record { rises = j.rises; values = λ key. j.values key ∙ ap (λ m. from_places m (value_under cmp r key)) (i.values key) }
+  left_nested A B C p q r rows h = record { rises = h.2.rises; values = λ key. h.2.values key ∙ ap (λ m. from_places m (value_under cmp r key)) (h.1.values key) }
 
   pub right_law : IsTotalOrder cmp → (A B : Type 0) → RightLaw cmp A B
   right_law o A B exact p q zs rises j =

@@ -55,19 +55,28 @@ module _ {K : Type 0} (cmp : K → K → Ordering) where
       → Rising cmp p → AlikeRows cmp eq p q → IsJoin cmp p q zs
       → AlikeRows cmp (places_eq eq eq) zs (doubled p)
 
+  -- rows are the join of p with the join of q and r; the join of the join of p and q with r
+  abbrev pub IsRightNestedJoin : {A B C : Type 0} → List (K × A) → List (K × B) → List (K × C)
+      → List (K × EitherOrBoth A (EitherOrBoth B C)) → Type 0
+  IsRightNestedJoin {A} {B} {C} p q r rows = (zs : List (K × EitherOrBoth B C)) × IsJoin cmp q r zs
+      × IsJoin cmp p zs rows
+
+  abbrev pub IsLeftNestedJoin : {A B C : Type 0} → List (K × A) → List (K × B) → List (K × C)
+      → List (K × EitherOrBoth (EitherOrBoth A B) C) → Type 0
+  IsLeftNestedJoin {A} {B} {C} p q r rows = (zs : List (K × EitherOrBoth A B)) × IsJoin cmp p q zs
+      × IsJoin cmp zs r rows
+
   -- three lists joined, the first with the join of the others: under each key stands what the three have there
   abbrev pub RightNestedLaw : Type 0 → Type 0 → Type 0 → Type 0
   RightNestedLaw A B C = (p : List (K × A)) (q : List (K × B)) (r : List (K × C))
-      (zs : List (K × EitherOrBoth B C)) (rows : List (K × EitherOrBoth A (EitherOrBoth B C)))
-      → IsJoin cmp q r zs → IsJoin cmp p zs rows
+      (rows : List (K × EitherOrBoth A (EitherOrBoth B C))) → IsRightNestedJoin p q r rows
       → Tabulates cmp rows (λ k. from_places (value_under cmp p k)
       (from_places (value_under cmp q k) (value_under cmp r k)))
 
   -- the same of the join of the first two with the third
   abbrev pub LeftNestedLaw : Type 0 → Type 0 → Type 0 → Type 0
   LeftNestedLaw A B C = (p : List (K × A)) (q : List (K × B)) (r : List (K × C))
-      (zs : List (K × EitherOrBoth A B)) (rows : List (K × EitherOrBoth (EitherOrBoth A B) C))
-      → IsJoin cmp p q zs → IsJoin cmp zs r rows
+      (rows : List (K × EitherOrBoth (EitherOrBoth A B) C)) → IsLeftNestedJoin p q r rows
       → Tabulates cmp rows (λ k. from_places (from_places (value_under cmp p k) (value_under cmp q k))
       (value_under cmp r k))
 

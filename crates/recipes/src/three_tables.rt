@@ -1,9 +1,11 @@
 //! Three tables as one: each key of any of them once, with what each table has under it.
 ghost use Rattle.std.specs.Prelude.{◌≡◌};
 ghost use Rattle.either_or_both.specs.Prelude.{IfOk, IsJoin, Rising, from_places, value_under};
+ghost use Rattle.eob_joins.specs.Tables.{Tabulates};
 
 use either_or_both::EitherOrBoth;
 use either_or_both::join::outer_join_lazily;
+use eob_joins::law_right_nested_join;
 use std::alloc::{AllocError, Global};
 
 /// A row of three tables: what the first has under its key, and what the two others have.
@@ -39,6 +41,24 @@ pub fn by_key<K: Ord + Drop, A: Drop, B: Drop, C: Drop>(
         ≡ from_places (value_under K.cmp first.items k)
         (from_places (value_under K.cmp second.items k) (value_under K.cmp third.items k))) }
 {
+    let rows = joined(alloc, first, second, third)?;
+    Ok(rows)
+}
+
+/// The same, known as one table: its keys rise too, so that it may be joined again.
+pub fn as_table<K: Ord + Drop, A: Drop, B: Drop, C: Drop>(
+    alloc: Global,
+    first: Vec<(K, A)>,
+    second: Vec<(K, B)>,
+    third: Vec<(K, C)>,
+) -> Result<Vec<Row<K, A, B, C>>, AllocError>
+    requires first { Rising K.cmp first.items }
+    requires second { Rising K.cmp second.items }
+    requires third { Rising K.cmp third.items }
+    ensures { IfOk result (λ rows. Tabulates K.cmp rows.items (λ k. from_places (value_under K.cmp first.items k)
+        (from_places (value_under K.cmp second.items k) (value_under K.cmp third.items k)))) }
+{
+    law_right_nested_join::<K, A, B, C>();
     let rows = joined(alloc, first, second, third)?;
     Ok(rows)
 }
