@@ -5,7 +5,7 @@ ghost use Rattle.std.specs.HashMap.{get_by};
 ghost use Rattle.either_or_both.specs.Prelude.{IfOk, map, nat_cmp, nat_eq};
 ghost use Rattle.eob_joins.specs.Lookup.{shown_lookup, with_found};
 
-use eob_joins::{LookupRow, lookup_join};
+use eob_joins::{LookupRow, lookup_join, lookup_join_lazily};
 use std::alloc::{AllocError, Global};
 use std::collections::{BTreeMap, HashMap};
 
@@ -32,5 +32,18 @@ pub fn with_customers_hashed<'a>(
         ≡ map (with_found (λ k. get_by (nat_eq k) customers.now)) orders.items) }
 {
     let rows = lookup_join(alloc, orders, customers)?;
+    Ok(rows)
+}
+
+/// The same by the iterator, which takes no memory of its own and may be filtered or mapped before it is collected.
+pub fn with_customers_in_turn<'a>(
+    alloc: Global,
+    orders: Vec<(u32, String)>,
+    customers: &'a BTreeMap<u32, String>,
+) -> Result<Vec<LookupRow<'a, u32, String, String>>, AllocError>
+    ensures { IfOk result (λ rows. map shown_lookup rows.items
+        ≡ map (with_found (get nat_cmp customers.now)) orders.items) }
+{
+    let rows = lookup_join_lazily(orders, customers).collect(alloc)?;
     Ok(rows)
 }

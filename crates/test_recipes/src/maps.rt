@@ -4,7 +4,7 @@ use crate::shown::expect_shown;
 use indexmap::IndexMap;
 use recipes::files::{Folder, report};
 use recipes::layers::settings;
-use recipes::orders::{with_customers, with_customers_hashed};
+use recipes::orders::{with_customers, with_customers_hashed, with_customers_in_turn};
 use recipes::origins;
 use recipes::stock::{stocked_hashed, supplied};
 use std::alloc::{AllocError, Global};
@@ -71,6 +71,8 @@ fn of_orders(rt: HostRuntime) -> Result<(), Fail> {
     let mut customers = BTreeMap::new(alloc);
     customers.insert(7, text(alloc, "Ada")?)?;
     let rows = with_customers(alloc, orders(alloc)?, &customers)?;
+    expect_shown(alloc, &rows, want)?;
+    let rows = with_customers_in_turn(alloc, orders(alloc)?, &customers)?;
     expect_shown(alloc, &rows, want)?;
     let mut customers = HashMap::new(alloc);
     customers.insert(7, text(alloc, "Ada")?)?;

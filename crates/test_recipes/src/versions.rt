@@ -5,7 +5,7 @@ use either_or_both::EitherOrBoth;
 use either_or_both::EitherOrBoth::{Both, Left, Right};
 use either_or_both::join::is_rising;
 use recipes::changes::{Counts, compare, count_changes};
-use recipes::merged::merged;
+use recipes::merged::{merged, merged_lists};
 use recipes::patched::caught_up;
 use recipes::verdicts::{count_disputed, side_by_side as versions_side_by_side};
 use std::alloc::{AllocError, Global};
@@ -63,6 +63,18 @@ fn of_versions_in_conflict(rt: HostRuntime) -> Result<(), Fail> {
     let theirs = BTreeMap::from_array(alloc, [(1, 'z'), (2, 'b')])?;
     let merge = merged(alloc, base, ours, theirs)?;
     expect_shown(alloc, &merge, "Conflicts([(1, Both('a', Both('x', 'z')))])")
+}
+
+/// The same of lists: our side put a row, and theirs took one out.
+#[test]
+fn of_merged_lists(rt: HostRuntime) -> Result<(), Fail> {
+    let alloc = rt.alloc();
+    let base = vec![in alloc; (1, 'a'), (2, 'b')]?;
+    let ours = vec![in alloc; (1, 'a'), (2, 'b'), (3, 'c')]?;
+    let theirs = vec![in alloc; (2, 'b')]?;
+    assert!(rt; is_rising(&base) && is_rising(&ours) && is_rising(&theirs));
+    let merge = merged_lists(alloc, base, ours, theirs)?;
+    expect_shown(alloc, &merge, "Whole([(2, 'b'), (3, 'c')])")
 }
 
 /// A copy of the old version becomes the new one.
