@@ -1,14 +1,16 @@
-//! Joins of two slices that stay as they are, row by row: collected, counted, looked for, and taken by a loop. What a caller makes of all
-//! rows that were taken one by one wants a short answer beside a loop's invariant, since the search does not find that the rows which
-//! came are all of the join: each such caller has one under `proofs/rows`.
+//! Joins of two slices, and of two maps, that stay as they are, row by row: collected, counted, looked for, and taken by a loop. What a
+//! caller makes of all rows that were taken one by one wants a short answer beside a loop's invariant, since the search does not find that
+//! the rows which came are all of the join: each such caller has one under `proofs/rows`.
 ghost use Rattle.std.specs.Prelude.{◌≡◌, ◌+◌, ◌<◌, ◌≤◌, ◌^◌, IfOk, IfSome, length, map};
+ghost use Rattle.std.specs.Ordering.{nat_cmp};
 ghost use Rattle.either_or_both.specs.Join.{IsJoin, Rising};
 ghost use Rattle.either_or_both.specs.JoinLaws.{deref_joined, shared_keys};
 ghost use Rattle.either_or_both.specs.OuterJoin.{BeginsJoin, ShowsPlaces};
 
 use either_or_both::EitherOrBoth;
-use either_or_both::join::{law_first_call, outer_join_slices};
+use either_or_both::join::{law_first_call, outer_join_maps, outer_join_slices};
 use std::alloc::{AllocError, Global};
+use std::collections::BTreeMap;
 
 /// The join of two slices that stay as they are.
 pub fn walk_of_slices<'a, K: Ord, A, B>(
@@ -31,6 +33,15 @@ pub fn count_rows<K: Ord, A, B>(left: &[(K, A)], right: &[(K, B)]) -> usize
     ensures { result + shared_keys K.cmp left.now right.now ≡ length left.now + length right.now }
 {
     outer_join_slices(left, right).count()
+}
+
+/// How many keys two maps have, each once: those of both, less the ones that they share.
+pub fn count_keys(left: &BTreeMap<u32, String>, right: &BTreeMap<u32, u8>) -> usize
+    requires { length left.now.entries + length right.now.entries < 2 ^ 64 }
+    ensures { result + shared_keys nat_cmp left.now.entries right.now.entries
+        ≡ length left.now.entries + length right.now.entries }
+{
+    outer_join_maps(left, right).count()
 }
 
 /// How many rows the join of two tables has that are written out. The attribute opens `Rising`, which is then found of them.

@@ -3,7 +3,7 @@
 ghost use Rattle.std.specs.Prelude.{◌≡◌, ◌+◌, ◌^◌, ◌<◌};
 ghost use Rattle.either_or_both.specs.Either as either;
 ghost use Rattle.either_or_both.specs.Prelude.{IfOk, IfSome, agrees, false, filter_map, length, map_places, pair_of};
-ghost use Rattle.either_or_both.specs.Prelude.{result_err, result_ok};
+ghost use Rattle.either_or_both.specs.Prelude.{result_err, result_ok, unwrap_or};
 
 use either_or_both::difference::first_difference;
 use either_or_both::laws::{law_collected_pair, law_result_counts, law_results, law_split_counts};
@@ -54,6 +54,19 @@ pub fn part_batch<T: Drop, E: Drop>(
     Ok(pair.or(Vec::new(alloc), Vec::new(alloc)))
 }
 
+/// The same of a batch whose faults hold a text that is borrowed.
+pub fn part_faults<'a>(
+    alloc: Global,
+    batch: Vec<Result<u32, Fault<'a>>>,
+) -> Result<(Vec<Fault<'a>>, Vec<u32>), AllocError>
+    ensures faults { IfOk result (λ p. p.0.items ≡ filter_map result_err batch.entry.items) }
+    ensures good { IfOk result (λ p. p.1.items ≡ filter_map result_ok batch.entry.items) }
+    ensures count { IfOk result (λ p. length p.0.items + length p.1.items ≡ length batch.entry.items) }
+{
+    let parts = part_batch(alloc, batch)?;
+    Ok(parts)
+}
+
 /// How many faults a batch has.
 pub fn count_faults<T: Drop, E: Drop>(
     alloc: Global,
@@ -92,6 +105,13 @@ pub fn part_values<L: Drop, R: Drop>(
     let pair = split_values(alloc, values)?;
     law_collected_pair(&pair);
     Ok(pair.or(Vec::new(alloc), Vec::new(alloc)))
+}
+
+/// The default, under two layers of one key.
+pub fn layered(default: u32, site: Option<u32>, user: Option<u32>) -> u32
+    ensures { result ≡ unwrap_or user (unwrap_or site default) }
+{
+    user.or(site).unwrap_or(default)
 }
 
 /// What stands at the first difference of two vectors is no pair of equal items.
