@@ -1,0 +1,39 @@
+//! What holds of the parts that boundaries make, as contracts of functions that do nothing: a caller calls one to learn it.
+ghost use Rattle.keyed_parts.specs.Parts.{DealtInTurnLaw, PartOrderLaw, PartsBelowLaw};
+
+/// A key of a lesser part is less, whatever the boundaries are.
+///
+/// ```
+/// law_part_order::<u32>();
+/// let bounds = Boundaries::new(vec![in alloc; 10]?);
+/// assert!(rt; bounds.part_of(&3) < bounds.part_of(&12));
+/// ```
+pub fn law_part_order<K: Ord>()
+    ensures { PartOrderLaw K.cmp }
+{}
+
+/// Each key of a part of any rows is less than each key of a later part of any rows. So tables that are cut at the same boundaries can be
+/// joined part by part.
+///
+/// ```
+/// law_parts_below::<u32, char, char>();
+/// let bounds = Boundaries::new(vec![in alloc; 10]?);
+/// let parts = deal(alloc, &bounds, vec![in alloc; (12, 'a'), (3, 'b')]?)?;
+/// assert!(rt; parts[0][0].0 < parts[1][0].0);
+/// ```
+pub fn law_parts_below<K: Ord, V, W>()
+    ensures { PartsBelowLaw K.cmp V W }
+{}
+
+/// Rows that are dealt in turn, some first and then others, are dealt: the rows of a part are those of the first and behind them those of
+/// the others. So a table can be dealt while it is read.
+///
+/// ```
+/// law_dealt_in_turn::<u32, char>();
+/// let bounds = Boundaries::new(vec![in alloc; 10]?);
+/// let parts = deal(alloc, &bounds, vec![in alloc; (12, 'a')]?)?;
+/// assert!(rt; parts[0].is_empty() && parts[1].len() == 1);
+/// ```
+pub fn law_dealt_in_turn<K: Ord, V>()
+    ensures { DealtInTurnLaw K.cmp V }
+{}
