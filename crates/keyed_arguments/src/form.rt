@@ -4,16 +4,16 @@ use crate::ParseError;
 use clap::ArgMatches;
 use keyed_files::{Comment, Delimiter, Form, Lengths, Quotes, Reading, Request};
 
-/// The form of the tables of a request.
+/// The form of the tables in these files.
 ///
 /// # Errors
 ///
 /// Returns a `ParseError::Value` if what is given for an option is none of its values.
-pub fn form_of(matches: &ArgMatches<'_>, request: Request<'_>) -> Result<Form, ParseError> {
+pub fn form_of(matches: &ArgMatches<'_>, files: [&str; 3]) -> Result<Form, ParseError> {
     let all = delimiter_of(matches, "delimiter")?;
     let left = delimiter_of(matches, "left-delimiter")?.or(all);
     let right = delimiter_of(matches, "right-delimiter")?.or(all);
-    let [first, next, last] = files_of(request);
+    let [first, next, last] = files;
     let delimiter = left.unwrap_or(delimiter_by_name(first));
     let next = right.unwrap_or(delimiter_by_name(next));
     let last = all.unwrap_or(delimiter_by_name(last));
@@ -39,12 +39,29 @@ pub fn form_of(matches: &ArgMatches<'_>, request: Request<'_>) -> Result<Form, P
     })
 }
 
-// The files of a request. Where there are two the second stands for the third.
-fn files_of(request: Request<'_>) -> [&str; 3] {
+/// The byte between the cells of a file of as many as there may be.
+///
+/// # Errors
+///
+/// Returns a `ParseError::Value` if what is given is no such byte, or begins lines which are passed over.
+pub fn delimiter_for(matches: &ArgMatches<'_>, file: &str) -> Result<Delimiter, ParseError> {
+    let all = delimiter_of(matches, "delimiter")?;
+    let delimiter = all.unwrap_or(delimiter_by_name(file));
+    comment_of(matches, [delimiter; 3])?;
+    Ok(delimiter)
+}
+
+/// The files of a request. Where there are two the second stands for the third.
+pub fn files_of(request: Request<'_>) -> [&str; 3] {
     match request {
         Request::Diff { old, new, .. } => [old, new, new],
         Request::Apply { old, changes } => [old, changes, changes],
-        Request::Merge { base, ours, theirs } => [base, ours, theirs],
+        Request::Merge {
+            base,
+            ours,
+            theirs,
+            ..
+        } => [base, ours, theirs],
         Request::Join { left, right, .. } => [left, right, right],
     }
 }

@@ -1,14 +1,25 @@
 //! What the command line of `keyed` asks for.
 #![tactic(auto)]
 
+mod cutting;
 mod form;
+mod git;
+mod merging;
+mod more;
+mod output;
 
 use clap::{Arg, ArgAction, ArgMatches};
-use form::form_of;
+use cutting::{cut_of, put_cut};
+use form::{files_of, form_of};
+use git::{git_asked, put_git_commands};
+use keyed_cut::Cut;
 use keyed_files::{
-    Colours, Command, Format, JoinNames, Joining, Kind, Reason, Request, Settings, SortedRequest,
-    key_names,
+    Asked, Colours, Command, Format, JoinNames, Joining, Kind, Reason, Request, Settings,
+    SortedRequest, Wanted, key_names,
 };
+use merging::{merging_of, put_merging};
+use more::{lookup_of, overlay_of};
+use output::{heading_of, output_of, put_output};
 use std::alloc::{AllocError, Global};
 use std::{fmt, io};
 
@@ -26,6 +37,28 @@ pub enum ParseError {
     Key(Reason),
     /// Tables are to be compared as they are read, and the answer to be lined up, for which all its rows must be known.
     SortedTable,
+    /// Changes are to have no heading, and to be lined up under one.
+    TableWithNoHeading,
+    /// Tables are to be cut into so many parts.
+    PartCount(u64),
+}
+
+/// Whether an answer in CSV has the names of its columns.
+#[derive(Clone, Copy, Debug)]
+pub enum Heading {
+    /// It has, unless tables have no header.
+    Written,
+    /// It has none, so that it can stand behind another.
+    LeftOut,
+}
+
+/// What a command line asks for.
+#[derive(Debug, Drop)]
+pub enum Line<'a> {
+    /// An answer, or what git does with tables.
+    Asked { asked: Asked<'a>, heading: Heading },
+    /// Tables cut into parts.
+    Cut(Cut<'a>),
 }
 
 impl From<clap::Error> for ParseError {
@@ -45,7 +78,11 @@ impl ParseError {
     pub fn use_stderr(&self) -> bool {
         match self {
             ParseError::Words(error) => error.use_stderr(),
-            ParseError::Value { .. } | ParseError::Key(_) | ParseError::SortedTable => true,
+            ParseError::Value { .. }
+            | ParseError::Key(_)
+            | ParseError::SortedTable
+            | ParseError::TableWithNoHeading
+            | ParseError::PartCount(_) => true,
         }
     }
 
@@ -70,11 +107,18 @@ impl fmt::Display for ParseError {
             ParseError::Value { option, wrong } => writeln!(f, "keyed: --{option}: {wrong}"),
             ParseError::Key(reason) => writeln!(f, "keyed: --key: {reason}"),
             ParseError::SortedTable => f.write_str("keyed: diff --sorted needs --format csv\n"),
+            ParseError::TableWithNoHeading => {
+                f.write_str("keyed: diff --no-heading needs --format csv\n")
+            }
+            ParseError::PartCount(count) => writeln!(
+                f,
+                "keyed: --parts: {count} parts, and there may be 1 to 999"
+            ),
         }
     }
 }
 
-/// The command that the words of a command line make. Where `--color` leaves it open, a table that a person reads has colours or not as
+/// What the words of a command line ask for. Where `--color` leaves it open, a table that a person reads has colours or not as
 /// the terminal has.
 ///
 /// # Errors
@@ -85,12 +129,48 @@ pub fn parse<'a>(
     alloc: Global,
     words: &'a [String],
     terminal: Colours,
-) -> Result<Command<'a>, ParseError> {
+) -> Result<Line<'a>, ParseError> {
     let matches = command(alloc)?.try_get_matches_from(words)?;
     match matches.subcommand() {
-        Some((name, matches)) => command_of(alloc, name, matches, terminal),
+        Some(("cut", matches)) => Ok(Line::Cut(cut_of(alloc, matches)?)),
+        Some((name, matches)) => match git_asked(alloc, name, matches, words, terminal)? {
+            Some(asked) => Ok(Line::Asked {
+                asked,
+                heading: Heading::Written,
+            }),
+            None => answer_of(alloc, name, matches, terminal),
+        },
         None => Err(ParseError::from(AllocError)),
     }
+}
+
+// An answer to a command.
+fn answer_of<'a>(
+    alloc: Global,
+    name: &str,
+    matches: &ArgMatches<'a>,
+    terminal: Colours,
+) -> Result<Line<'a>, ParseError> {
+    let command = command_of(alloc, name, matches, terminal)?;
+    let heading = heading_of(matches);
+    if let (Heading::LeftOut, Command::Whole { request, .. }) = (heading, &command) {
+        if matches!(
+            request,
+            Request::Diff {
+                format: Format::Table { .. },
+                ..
+            }
+        ) {
+            return Err(ParseError::TableWithNoHeading);
+        }
+    }
+    Ok(Line::Asked {
+        asked: Asked::Answer {
+            command,
+            output: output_of(matches),
+        },
+        heading,
+    })
 }
 
 fn command_of<'a>(
@@ -99,17 +179,37 @@ fn command_of<'a>(
     matches: &ArgMatches<'a>,
     terminal: Colours,
 ) -> Result<Command<'a>, ParseError> {
+    match name {
+        "lookup" => return lookup_of(alloc, matches),
+        "overlay" => return overlay_of(alloc, matches),
+        _ => {}
+    }
     let request = request_of(name, matches, terminal)?;
-    let settings = settings_of(alloc, matches, request)?;
+    let settings = settings_of(alloc, matches, files_of(request))?;
+    let wanted = wanted_of(matches);
     if !matches.get_flag("sorted") {
-        return Ok(Command::Whole { settings, request });
+        return Ok(Command::Whole {
+            settings,
+            request,
+            wanted,
+        });
     }
     match sorted_of(request) {
         Some(request) => Ok(Command::Sorted {
             layout: settings.layout(),
             request,
+            wanted,
         }),
         None => Err(ParseError::SortedTable),
+    }
+}
+
+// How much of the answer is wanted.
+fn wanted_of(matches: &ArgMatches<'_>) -> Wanted {
+    if matches.get_flag("quiet") {
+        Wanted::Status
+    } else {
+        Wanted::Answer
     }
 }
 
@@ -140,6 +240,7 @@ fn request_of<'a>(
             base: file_of(matches, "BASE"),
             ours: file_of(matches, "OURS"),
             theirs: file_of(matches, "THEIRS"),
+            how: merging_of(matches),
         },
         "join" => Request::Join {
             left: file_of(matches, "LEFT"),
@@ -186,8 +287,9 @@ fn file_of<'a>(matches: &ArgMatches<'a>, name: &str) -> &'a str {
     matches.get_str(name).unwrap_or("-")
 }
 
+// An answer of which the status alone is wanted takes the form that is made with the least.
 fn format_of(matches: &ArgMatches<'_>, terminal: Colours) -> Format {
-    if matches.get_str("format") == Some("csv") {
+    if matches.get_str("format") == Some("csv") || matches.get_flag("quiet") {
         return Format::Csv;
     }
     Format::Table {
@@ -213,7 +315,7 @@ fn kind_of(name: &str) -> Kind {
 fn settings_of<'a>(
     alloc: Global,
     matches: &ArgMatches<'a>,
-    request: Request<'a>,
+    files: [&str; 3],
 ) -> Result<Settings<'a>, ParseError> {
     let key = matches.get_str("key");
     if let Some(names) = key {
@@ -222,7 +324,7 @@ fn settings_of<'a>(
         }
     }
     Ok(Settings {
-        form: form_of(matches, request)?,
+        form: form_of(matches, files)?,
         key,
         keeps_order: matches.get_flag("keep-order"),
         groups: matches.get_flag("group"),
@@ -232,7 +334,7 @@ fn settings_of<'a>(
 // A command below the program's: its name, what it prints, and the files that it takes, each with its help.
 type Below<'a> = (&'a str, &'a str, &'a [(&'a str, &'a str)]);
 
-static COMMANDS: [Below<'static>; 4] = [
+static COMMANDS: [Below<'static>; 6] = [
     (
         "diff",
         "Prints the rows that changed. Status 0: none did, 1: some did, 2: trouble.",
@@ -270,14 +372,43 @@ static COMMANDS: [Below<'static>; 4] = [
             ("RIGHT", "The right table; - is the standard input"),
         ],
     ),
+    (
+        "lookup",
+        "Prints each row of a table with the row of another that has its key. Status 0, or 2: trouble.",
+        &[
+            (
+                "LEFT",
+                "The table whose rows are looked up, of any size and order; - is the standard input",
+            ),
+            (
+                "RIGHT",
+                "The table in which each key stands once; - is the standard input",
+            ),
+        ],
+    ),
+    (
+        "overlay",
+        "Prints tables laid one over the other. Status 0, or 2: trouble.",
+        &[
+            ("BASE", "The lowest table; - is the standard input"),
+            (
+                OVERS,
+                "The tables over it, the last one on top; - is the standard input",
+            ),
+        ],
+    ),
 ];
+
+// What stands for the files of which there may be several.
+const OVERS: &str = "OVER";
 
 // The options of all commands that take a text: the name of each, what stands for the text in the help, and its help.
 static TEXTS: [(&str, &str, &str); 4] = [
     (
         "key",
         "COLUMN[,COLUMN..]",
-        "The columns that are the key, as a record of CSV; the first column else",
+        "The columns that are the key, as a record of CSV; the first column else; \
+         LEFT=RIGHT where a column has two names",
     ),
     (
         "delimiter",
@@ -307,20 +438,6 @@ static TEXTS_OF_TWO: [(&str, &str, &str); 2] = [
         "right-delimiter",
         "BYTE",
         "The byte between the cells of the second file",
-    ),
-];
-
-// Those of a join.
-static TEXTS_OF_JOIN: [(&str, &str, &str); 2] = [
-    (
-        "prefix",
-        "LEFT,RIGHT",
-        "What stands before a name that both tables have; left.,right. else",
-    ),
-    (
-        "side",
-        "NAME",
-        "The name of the first column of an outer join; side else",
     ),
 ];
 
@@ -362,6 +479,8 @@ fn subcommands<'a>(alloc: Global) -> Result<Vec<clap::Command<'a>>, AllocError> 
     for below in &COMMANDS {
         put(&mut commands, subcommand(alloc, below)?)?;
     }
+    put_cut(alloc, &mut commands)?;
+    put_git_commands(alloc, &mut commands)?;
     Ok(commands)
 }
 
@@ -379,14 +498,21 @@ fn args_of<'a>(
 ) -> Result<Vec<Arg<'a>>, AllocError> {
     let mut args = Vec::new(alloc);
     for file in files {
-        put(
-            &mut args,
-            Arg::new(alloc, file.0).required(true).help(file.1),
-        )?;
+        put(&mut args, file_arg(alloc, file.0, file.1))?;
     }
     put_options(alloc, &mut args, name)?;
     put_settings(alloc, &mut args, name)?;
     Ok(args)
+}
+
+// A file, or the several of an overlay.
+fn file_arg<'a>(alloc: Global, name: &'a str, help: &'a str) -> Arg<'a> {
+    let file = Arg::new(alloc, name).required(true).help(help);
+    if name == OVERS {
+        file.num_args(1..)
+    } else {
+        file
+    }
 }
 
 // Puts the options that a command has beside the settings of all.
@@ -395,16 +521,63 @@ fn put_options<'a>(alloc: Global, args: &mut Vec<Arg<'a>>, name: &str) -> Result
         "diff" => {
             put(args, choice(alloc, FORMAT))?;
             put(args, choice(alloc, COLOR))?;
+            put(args, quiet(alloc)?)?;
+            put(args, sorted(alloc)?)
+        }
+        "apply" => put(args, quiet(alloc)?),
+        "merge" => {
+            put(args, quiet(alloc)?)?;
+            put_merging(alloc, args)
         }
         "join" => {
             put(args, choice(alloc, KIND))?;
-            for (name, value, help) in &TEXTS_OF_JOIN {
-                put(args, text(alloc, name, value, help))?;
-            }
+            put(args, prefix(alloc))?;
+            put(args, side(alloc))?;
+            put(args, sorted(alloc)?)
         }
-        _ => return Ok(()),
+        "lookup" => {
+            put(args, choice(alloc, LOOKUP_KIND))?;
+            put(args, prefix(alloc))
+        }
+        "overlay" => put(args, cells(alloc)?),
+        _ => Ok(()),
     }
-    put(args, sorted(alloc)?)
+}
+
+fn prefix<'a>(alloc: Global) -> Arg<'a> {
+    text(
+        alloc,
+        "prefix",
+        "LEFT,RIGHT",
+        "What stands before a name that both tables have; left.,right. else",
+    )
+}
+
+fn side<'a>(alloc: Global) -> Arg<'a> {
+    text(
+        alloc,
+        "side",
+        "NAME",
+        "The name of the first column of an outer join; side else",
+    )
+}
+
+fn cells<'a>(alloc: Global) -> Result<Arg<'a>, AllocError> {
+    let cells = flag(
+        alloc,
+        "cells",
+        "Each cell is that of the last table that has one there which is not empty",
+    );
+    cells.conflicts_with("group")
+}
+
+fn quiet<'a>(alloc: Global) -> Result<Arg<'a>, AllocError> {
+    let quiet = flag(
+        alloc,
+        "quiet",
+        "Nothing is printed: the status alone tells what came out",
+    );
+    quiet.conflicts_with("output")
 }
 
 // An option that is one of some words, of which the first is the default, with what stands for them in the help, and its own help.
@@ -438,6 +611,13 @@ const KIND: OneOf = OneOf {
            semi and anti: of the left, with its cells alone",
 };
 
+const LOOKUP_KIND: OneOf = OneOf {
+    name: "kind",
+    shown: "left|inner|anti",
+    words: &["left", "inner", "anti"],
+    help: "Which rows: all of the left table, those that are found, or those that are not, with their cells alone",
+};
+
 fn choice<'a>(alloc: Global, of: OneOf) -> Arg<'a> {
     Arg::new(alloc, of.name)
         .long(of.name)
@@ -465,15 +645,22 @@ fn put_settings<'a>(
     for (name, value, help) in &TEXTS {
         put(args, text(alloc, name, value, help))?;
     }
-    if command != "merge" {
+    if command != "merge" && command != "overlay" {
         for (name, value, help) in &TEXTS_OF_TWO {
             put(args, text(alloc, name, value, help))?;
         }
     }
     for (name, help) in &FLAGS {
-        put(args, flag(alloc, name, help))?;
+        if has_flag(command, name) {
+            put(args, flag(alloc, name, help))?;
+        }
     }
-    Ok(())
+    put_output(alloc, args)
+}
+
+// Whether a command has a flag. The rows of a look-up stand as in the left table, whose keys may repeat.
+fn has_flag(command: &str, name: &str) -> bool {
+    command != "lookup" || name != "keep-order" && name != "group"
 }
 
 // Puts an item behind the others. One that there is no memory for is dropped.
@@ -483,15 +670,30 @@ fn put<T: Drop>(items: &mut Vec<T>, item: T) -> Result<(), AllocError> {
 }
 
 fn text<'a>(alloc: Global, name: &'a str, value: &'a str, help: &'a str) -> Arg<'a> {
-    Arg::new(alloc, name)
-        .long(name)
-        .value_name(value)
-        .help(help)
+    option(alloc, name).value_name(value).help(help)
 }
 
 fn flag<'a>(alloc: Global, name: &'a str, help: &'a str) -> Arg<'a> {
-    Arg::new(alloc, name)
-        .long(name)
-        .action(ArgAction::SetTrue)
-        .help(help)
+    option(alloc, name).action(ArgAction::SetTrue).help(help)
+}
+
+// An option by its name, and by its letter if it has one.
+fn option<'a>(alloc: Global, name: &'a str) -> Arg<'a> {
+    let option = Arg::new(alloc, name).long(name);
+    match letter_of(name) {
+        Some(letter) => option.short(letter),
+        None => option,
+    }
+}
+
+// The letter that stands for the name of an option, if one does.
+fn letter_of(name: &str) -> Option<char> {
+    match name {
+        "key" => Some('k'),
+        "delimiter" => Some('d'),
+        "group" => Some('g'),
+        "no-header" => Some('H'),
+        "quiet" => Some('q'),
+        _ => None,
+    }
 }

@@ -1,1 +1,5 @@
+pub mod AnswerLemmas
+pub mod ChangeLemmas
+pub mod ComeLemmas
 pub mod KeyLemmas
+pub mod LawLemmas

@@ -1,1 +1,6 @@
+pub mod Answers
+pub mod ChangeRows
+pub mod ComeOut
 pub mod Keys
+pub mod Laws
+pub mod Lost

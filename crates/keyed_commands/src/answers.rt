@@ -1,22 +1,22 @@
 //! The answer to each request, of streams.
 //!
 //! Each has three steps: its headers are read, then the rows under its columns, and then the tables are answered.
+ghost use Rattle.std.specs.Prelude.{IfOk};
+ghost use Rattle.keyed_commands.specs.Answers.{IsDiffStatus};
 
+use crate::changed::{changes_shown, diff_as_csv, diff_status};
 use crate::changes::{count_rows, report};
-use crate::job::{Changes, Job, Table};
+use crate::job::{Job, Table};
 use crate::joined::{JoinForm, join_as_csv};
-use crate::lost::render_lost;
-use crate::merged::render_conflicts;
-use crate::patch::{all_fit, render_misfits};
-use crate::written::write_changes;
-use eob_joins::Merged;
+use crate::marks::{has_conflict, parted, write_marked};
+use crate::tables::{answer_of_rows, apply_tables, merge_by_cell, merge_by_row, report_conflicts};
 use keyed_files::{
-    ColumnChanges, Columns, Content, Fault, Format, JoinColumns, Joining, Opened, Reason, Settings,
-    Stream, Two, at, columns_of, merged_columns,
+    Colours, ColumnChanges, Columns, Conflicts, Content, Fault, Format, JoinColumns, Joining,
+    Merging, Opened, Reason, Settings, Stream, Two, Unit, at, columns_of, merged_columns,
 };
 use keyed_rows::{Cells, Group, Key};
-use keyed_tables::{changes_of, merge_of, patched};
-use std::alloc::Global;
+use keyed_tables::{Marked, marked_merge_by_cell_of, marked_merge_of};
+use std::alloc::{AllocError, Global};
 use std::io::Read;
 
 /// What stands on the output, and the status that the program ends with.
@@ -24,6 +24,16 @@ use std::io::Read;
 pub struct Answer {
     pub bytes: Vec<u8>,
     pub status: u8,
+    pub outcome: Outcome,
+}
+
+/// What the bytes of an answer are.
+#[derive(Clone, Copy, Debug)]
+pub enum Outcome {
+    /// What the command was asked for.
+    Made,
+    /// A report of the rows for which there is no such: rows in conflict, changes that do not fit, or cells that would be lost.
+    Stopped,
 }
 
 /// The answer to `diff`.
@@ -40,6 +50,7 @@ pub fn diff<'a, R: Read + Drop>(
     new: Stream<'a, R>,
 ) -> Result<Answer, Fault<'a>> {
     let mut versions = Two::new(alloc, settings.form, Content::Rows, old, new)?;
+    versions.first.rename_key(alloc, settings.key)?;
     let columns = match format {
         Format::Csv => versions.change_columns(alloc, settings.key)?,
         Format::Table { .. } => versions.columns(alloc, settings.key)?,
@@ -66,16 +77,29 @@ fn diff_tables(
     tables: (Table, Table),
 ) -> Result<Answer, Reason> {
     let (old, new) = tables;
+    match format {
+        Format::Csv => diff_as_csv(job, column_changes, marked, old, new),
+        Format::Table { colours } => diff_as_table(job, colours, column_changes, old, new),
+    }
+}
+
+fn diff_as_table(
+    job: &Job<'_, Columns>,
+    colours: Colours,
+    column_changes: ColumnChanges<'_>,
+    old: Table,
+    new: Table,
+) -> Result<Answer, Reason>
+    ensures { IfOk result (λ answer. IsDiffStatus column_changes.entry old.pairs.items new.pairs.items answer.status) }
+{
     let rows = count_rows(&old.pairs);
-    let changes = job.arrange(changes_of(job.alloc, old, new)?)?;
-    let is_same = changes.is_empty() && !column_changes.has_lone(job.alloc)?;
-    let bytes = match format {
-        Format::Csv => write_changes(job, marked, changes)?,
-        Format::Table { colours } => report(job, colours, column_changes, rows, &changes)?,
-    };
+    let changes = changes_shown(job, old, new)?;
+    let status = diff_status(job.alloc, column_changes, &changes)?;
+    let bytes = report(job, colours, column_changes, rows, &changes)?;
     Ok(Answer {
         bytes,
-        status: if is_same { 0 } else { 1 },
+        status,
+        outcome: Outcome::Made,
     })
 }
 
@@ -92,6 +116,7 @@ pub fn apply<'a, R: Read + Drop>(
     changes: Stream<'a, R>,
 ) -> Result<Answer, Fault<'a>> {
     let mut inputs = Two::new(alloc, settings.form, Content::Changes, old, changes)?;
+    inputs.first.rename_key(alloc, settings.key)?;
     let columns = inputs.changed_columns(alloc, settings.key)?;
     apply_files(Job::new(alloc, settings, &columns), &mut inputs)
 }
@@ -100,47 +125,8 @@ fn apply_files<'a, R: Read + Drop>(
     mut job: Job<'_, Columns>,
     inputs: &mut Two<'a, R>,
 ) -> Result<Answer, Fault<'a>> {
-    let tables = job.read_to_change(inputs)?;
-    at(inputs.next.file, apply_tables(&job, tables))
-}
-
-fn apply_tables(job: &Job<'_, Columns>, tables: (Table, Changes)) -> Result<Answer, Reason> {
-    if all_fit(&tables.0, &tables.1) {
-        apply_fitting(job, tables)
-    } else {
-        Ok(Answer {
-            bytes: render_misfits(job, tables)?.into_bytes(),
-            status: 1,
-        })
-    }
-}
-
-// The table with changes made to it that fit, as CSV.
-fn apply_fitting(job: &Job<'_, Columns>, tables: (Table, Changes)) -> Result<Answer, Reason> {
-    let (old, changes) = tables;
-    let rows = patched(job.alloc, old, changes)?;
-    answer_of_rows(job, "table", rows)
-}
-
-// The rows as CSV, with status 0; or those that have cells in columns that go, with this word, and status 1.
-fn answer_of_rows(
-    job: &Job<'_, Columns>,
-    word: &str,
-    rows: Vec<(Key, Group)>,
-) -> Result<Answer, Reason> {
-    let rows = job.arrange(rows)?;
-    let lost = render_lost(job, word, &rows)?;
-    if lost.is_empty() {
-        Ok(Answer {
-            bytes: job.write_rows(rows)?,
-            status: 0,
-        })
-    } else {
-        Ok(Answer {
-            bytes: lost.into_bytes(),
-            status: 1,
-        })
-    }
+    let (old, changes) = job.read_to_change(inputs)?;
+    at(inputs.next.file, apply_tables(&job, old, changes))
 }
 
 /// The answer to `merge`.
@@ -152,14 +138,17 @@ fn answer_of_rows(
 pub fn merge<'a, R: Read + Drop>(
     alloc: Global,
     settings: Settings<'a>,
+    how: Merging,
     base: Stream<'a, R>,
     ours: Stream<'a, R>,
     theirs: Stream<'a, R>,
 ) -> Result<Answer, Fault<'a>> {
     let mut base = Opened::new(alloc, settings.form, Content::Rows, base)?;
     let mut sides = Two::new(alloc, settings.form, Content::Rows, ours, theirs)?;
+    base.rename_key(alloc, settings.key)?;
     let columns = columns_of_merge(alloc, settings, &base, &sides)?;
-    merge_files(Job::new(alloc, settings, &columns), &mut base, &mut sides)
+    let job = Job::new(alloc, settings, &columns);
+    merge_files(job, how, &mut base, &mut sides)
 }
 
 // The columns of the three tables.
@@ -180,11 +169,12 @@ fn columns_of_merge<'a, R>(
 
 fn merge_files<'a, R: Read + Drop>(
     mut job: Job<'_, Columns>,
+    how: Merging,
     base: &mut Opened<'a, R>,
     sides: &mut Two<'a, R>,
 ) -> Result<Answer, Fault<'a>> {
     let versions = read_versions(&mut job, base, sides)?;
-    at(sides.next.file, merge_tables(&job, versions))
+    at(sides.next.file, merge_tables(&job, how, versions))
 }
 
 // The rows of three versions of a table.
@@ -206,14 +196,61 @@ fn read_versions<'a, R: Read + Drop>(
     Ok(ThreeVersions { base, ours, theirs })
 }
 
-fn merge_tables(job: &Job<'_, Columns>, versions: ThreeVersions) -> Result<Answer, Reason> {
-    let ThreeVersions { base, ours, theirs } = versions;
-    match merge_of(job.alloc, base, ours, theirs)? {
-        Merged::Whole(rows) => answer_of_rows(job, "merged", rows),
-        Merged::Conflicts(rows) => Ok(Answer {
-            bytes: render_conflicts(job.alloc, job.columns, &job.arrange(rows)?)?.into_bytes(),
+fn merge_tables(
+    job: &Job<'_, Columns>,
+    how: Merging,
+    versions: ThreeVersions,
+) -> Result<Answer, Reason> {
+    match how.conflicts {
+        Conflicts::Report => merge_reported(job, how.unit, versions),
+        Conflicts::Marks => mark_conflicts(job, marked_rows(job.alloc, how.unit, versions)?),
+    }
+}
+
+// The merged table, with rows in conflict between marks. Where there are some and a column goes, which may be what they differ by, these
+// rows are reported.
+fn mark_conflicts(
+    job: &Job<'_, Columns>,
+    rows: Vec<(Key, Marked<Group>)>,
+) -> Result<Answer, Reason> {
+    if has_conflict(&rows) && job.columns.count_written() == job.columns.rest.len() {
+        return Ok(Answer {
+            bytes: write_marked(job, job.arrange(rows)?)?,
             status: 1,
-        }),
+            outcome: Outcome::Made,
+        });
+    }
+    let (settled, stuck) = parted(job.alloc, rows)?;
+    if stuck.is_empty() {
+        answer_of_rows(job, "merged", settled)
+    } else {
+        report_conflicts(job, stuck)
+    }
+}
+
+// The merged table, or a report of the rows in conflict.
+fn merge_reported(
+    job: &Job<'_, Columns>,
+    unit: Unit,
+    versions: ThreeVersions,
+) -> Result<Answer, Reason> {
+    let ThreeVersions { base, ours, theirs } = versions;
+    match unit {
+        Unit::Row => merge_by_row(job, base, ours, theirs),
+        Unit::Cell => merge_by_cell(job, base, ours, theirs),
+    }
+}
+
+// The rows of three versions merged, with rows in conflict in their places.
+fn marked_rows(
+    alloc: Global,
+    unit: Unit,
+    versions: ThreeVersions,
+) -> Result<Vec<(Key, Marked<Group>)>, AllocError> {
+    let ThreeVersions { base, ours, theirs } = versions;
+    match unit {
+        Unit::Row => marked_merge_of(alloc, base, ours, theirs),
+        Unit::Cell => marked_merge_by_cell_of(alloc, base, ours, theirs),
     }
 }
 
@@ -244,5 +281,9 @@ fn join_files<'a, R: Read + Drop>(
 ) -> Result<Answer, Fault<'a>> {
     let (left, right) = job.read_sides(sides)?;
     let bytes = at(sides.next.file, join_as_csv(&job, form, left, right))?;
-    Ok(Answer { bytes, status: 0 })
+    Ok(Answer {
+        bytes,
+        status: 0,
+        outcome: Outcome::Made,
+    })
 }

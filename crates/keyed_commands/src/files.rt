@@ -1,29 +1,104 @@
 //! From the files that a request names to its answer.
 
 use crate::answers::{Answer, apply, diff, join, merge};
+use crate::layers::overlay;
+use crate::lookups::lookup;
 use crate::sorted::{diff_sorted, join_sorted};
 use either_or_both::Either;
 use keyed_files::{
-    Command, Delimiter, Fault, Layout, Reason, Request, Settings, SortedRequest, Stream, at,
+    Command, Delimiter, Fault, Layout, Lookup as LookupRequest, Overlay as OverlayRequest, Reason,
+    Request, Settings, SortedRequest, Stream, Wanted, at,
 };
+use std::alloc::AllocError;
 use std::io::Write;
 use std::rt::Files;
 use std::{fs, io};
 
-/// Writes the answer to a command, and returns the status.
+/// Writes the answer to a command, unless its status alone is wanted, and returns the status.
 ///
 /// # Errors
 ///
-/// Returns the errors of `write_request` and `stream_request`.
+/// Returns the errors of `write_request`, `stream_request`, `lookup` and `overlay`.
 pub fn write_command<'a, R: Files + Input + AllocGlobal, W: Write>(
     rt: &R,
     command: Command<'a>,
     output: &mut W,
 ) -> Result<u8, Fault<'a>> {
     match command {
-        Command::Whole { settings, request } => write_request(rt, settings, request, output),
-        Command::Sorted { layout, request } => stream_request(rt, layout, request, output),
+        Command::Whole {
+            settings,
+            request,
+            wanted,
+        } => match wanted {
+            Wanted::Answer => write_request(rt, settings, request, output),
+            Wanted::Status => Ok(answer_request(rt, settings, request)?.status),
+        },
+        Command::Sorted {
+            layout,
+            request,
+            wanted,
+        } => match wanted {
+            Wanted::Answer => stream_request(rt, layout, request, output),
+            Wanted::Status => stream_request(rt, layout, request, &mut io::sink()),
+        },
+        Command::Lookup { layout, request } => write_lookup(rt, layout, request, output),
+        Command::Overlay { settings, request } => write_overlay(rt, settings, request, output),
     }
+}
+
+// Writes the rows of a table looked up in another while they are read.
+fn write_lookup<'a, R: Files + Input + AllocGlobal, W: Write>(
+    rt: &R,
+    layout: Layout<'a>,
+    request: LookupRequest<'a>,
+    output: &mut W,
+) -> Result<u8, Fault<'a>> {
+    request.check_stdin()?;
+    let left = stream_of(rt, request.left, None);
+    let right = stream_of(rt, request.right, layout.form.reading.next);
+    lookup(rt.alloc(), layout, request.how, left, right, output)
+}
+
+// Writes tables laid one over the other.
+fn write_overlay<'a, R: Files + Input + AllocGlobal, W: Write>(
+    rt: &R,
+    settings: Settings<'a>,
+    request: OverlayRequest<'a>,
+    output: &mut W,
+) -> Result<u8, Fault<'a>> {
+    let answer = answer_overlay(rt, settings, request)?;
+    at("the standard output", write_whole(output, &answer.bytes))?;
+    Ok(answer.status)
+}
+
+/// The table that is made of those that are laid one over the other, of the files that are named.
+///
+/// # Errors
+///
+/// Returns `TwiceStdin` if the standard input is named twice, and the fault of the first input that is bad.
+pub fn answer_overlay<'a, R: Files + Input + AllocGlobal>(
+    rt: &R,
+    settings: Settings<'a>,
+    request: OverlayRequest<'a>,
+) -> Result<Answer, Fault<'a>> {
+    let alloc = rt.alloc();
+    request.check_stdin(alloc)?;
+    let mut tables = Vec::new(alloc);
+    for named in request.files {
+        let stream = stream_of(rt, named.file, Some(named.delimiter));
+        at(named.file, put(&mut tables, stream))?;
+    }
+    overlay(alloc, settings, request.layer, tables)
+}
+
+/// Puts an item behind the others. The error of `push` holds the item, and so is none that a fault can be of.
+///
+/// # Errors
+///
+/// Returns `AllocError` if a request for memory was refused.
+pub fn put<T: Drop>(items: &mut Vec<T>, item: T) -> Result<(), AllocError> {
+    items.push(item)?;
+    Ok(())
 }
 
 /// Writes the answer to a request, all of it or nothing of it where something is wrong with an input, and returns the status.
@@ -102,11 +177,16 @@ pub fn answer_request<'a, R: Files + Input + AllocGlobal>(
             let old = stream_of(rt, old, None);
             apply(alloc, settings, old, stream_of(rt, changes, next))
         }
-        Request::Merge { base, ours, theirs } => {
+        Request::Merge {
+            base,
+            ours,
+            theirs,
+            how,
+        } => {
             let base = stream_of(rt, base, None);
             let ours = stream_of(rt, ours, next);
             let theirs = stream_of(rt, theirs, settings.form.reading.last);
-            merge(alloc, settings, base, ours, theirs)
+            merge(alloc, settings, how, base, ours, theirs)
         }
         Request::Join { left, right, how } => {
             let left = stream_of(rt, left, None);

@@ -2,13 +2,13 @@
 ghost use Rattle.std.specs.Prelude.{◌≡◌, ◌++◌, ◌∷◌, [], OnOk};
 ghost use Rattle.keyed_tables.specs.Arranged.{IsNoted, noted};
 
-use crate::row_order::{Grouped, RowOrder};
+use crate::row_order::RowOrder;
 use eob_joins::Change;
 use keyed_files::{
     Columns, Fault, Form, JoinColumns, Layout, Opened, Reason, Settings, Sign, SignedRow, Two, at,
     write_table,
 };
-use keyed_rows::{Group, Key, ReadRow};
+use keyed_rows::{Group, Key, ReadRow, Release};
 use keyed_tables::{Order, Rows, grouped_rows, paired, unique_rows};
 use std::alloc::{AllocError, Global};
 use std::io::Read;
@@ -88,33 +88,13 @@ impl<'c, C> Job<'c, C> {
         at(table.file, self.gather(rows))
     }
 
-    /// Rows that are in the order of their keys, put into the order in which they come out, and so the rows of their groups.
-    ///
-    /// # Errors
-    ///
-    /// Returns `AllocError` if a request for memory was refused.
-    pub fn arrange<V: Grouped + Drop>(
-        &self,
-        rows: Vec<(Key, V)>,
-    ) -> Result<Vec<(Key, V)>, AllocError> {
-        let rows = self.order.arrange(rows)?;
-        if self.row_order.is_by_cells() {
-            return Ok(rows);
-        }
-        let mut arranged = Vec::new(self.alloc);
-        for (key, groups) in rows {
-            let groups = groups.in_order(self.alloc, &self.row_order, &key)?;
-            arranged.push((key, groups))?;
-        }
-        Ok(arranged)
-    }
-
-    // The rows by key, of which no two have the same unless they are groups. A key that repeats and may not is an error.
+    // The rows by key, of which no two have the same unless they are groups. A key that repeats and may not is an error. Rows last, since a
+    // run ends with its answer.
     fn gather(&self, rows: Vec<ReadRow>) -> Result<Table, Reason> {
         if self.groups {
-            Ok(grouped_rows(self.alloc, rows)?)
+            Ok(grouped_rows(self.alloc, rows, Release::AtExit)?)
         } else {
-            Ok(unique_rows(self.alloc, rows)?)
+            Ok(unique_rows(self.alloc, rows, Release::AtExit)?)
         }
     }
 

@@ -1,27 +1,45 @@
 //! Tables as CSV files, or on any reader and writer: compared, changed, merged and joined by key.
 //!
-//! `write_command` answers a command of the files that it names, `diff`, `apply`, `merge` and `join` one of any readers (`Stream`), and
-//! `diff_sorted` and `join_sorted` write while they read. The core, over tables in memory, is `keyed_tables`; files are read and written
+//! `write_command` answers a command of the files that it names, `diff`, `apply`, `merge`, `join` and `overlay` one of any readers
+//! (`Stream`), and `diff_sorted`, `join_sorted` and `lookup` write while they read. The core, over tables in memory, is `keyed_tables`; files are read and written
 //! by `keyed_files`.
 #![tactic(auto)]
 
 mod answers;
+mod as_written;
+mod changed;
 mod changes;
+mod come_out;
 mod files;
+mod fits;
+mod git;
 mod job;
 mod joined;
+mod laws;
+mod layers;
+mod lookups;
+mod losses;
 mod lost;
+mod marks;
 mod merged;
+mod output;
 mod patch;
 mod row_order;
 mod sorted;
+mod tables;
 mod written;
 
-pub use answers::{Answer, apply, diff, join, merge};
+pub use answers::{Answer, Outcome, apply, diff, join, merge};
 pub use files::{answer_request, stream_request, write_command, write_request, write_whole};
+pub use git::{write_git_diff, write_git_merge, write_git_setup, write_git_unmerged};
 pub use keyed_files::{
-    Colours, Command, Comment, Delimiter, Encoding, Fault, Form, Format, JoinNames, Joining, Kind,
-    Layout, Lengths, Quotes, Reading, Reason, Request, Settings, Shown, ShownCell, ShownName,
-    SortedRequest, Stream, at,
+    Asked, Colours, Command, Comment, Conflicts, Delimiter, Encoding, Fault, Finding, Form, Format,
+    GitDiff, GitMerge, JoinNames, Joining, Kind, Layer, Layout, Lengths, Lookup as LookupRequest,
+    LookupKind, Merging, NamedFile, Overlay as OverlayRequest, Quotes, Reading, Reason, Request,
+    Settings, Shown, ShownCell, ShownName, SortedRequest, Stream, Unit, Wanted, at,
 };
+pub use laws::{law_diff_apply, law_diff_reads};
+pub use layers::overlay;
+pub use lookups::lookup;
+pub use output::write_into_file;
 pub use sorted::{diff_sorted, join_sorted};

@@ -2,23 +2,11 @@
 
 use crate::job::{Changes, Job, Table};
 use either_or_both::EitherOrBoth;
-use either_or_both::join::{outer_join, outer_join_slices};
+use either_or_both::join::outer_join;
 use eob_joins::Change;
 use keyed_files::{Columns, Grid, heading, line_up, put_version};
 use keyed_rows::{Group, Key};
 use std::alloc::AllocError;
-
-/// Whether each change fits: its old row is what the table has.
-pub fn all_fit(old: &Table, changes: &Changes) -> bool {
-    for (_key, row) in outer_join_slices(&old.pairs, &changes.pairs) {
-        if let Some(change) = row.right() {
-            if row.left() != change.as_ref().left() {
-                return false;
-            }
-        }
-    }
-    true
-}
 
 /// The changes whose old row is not what the table has, in the order in which rows come out, as a table that a person reads.
 ///

@@ -1,4 +1,7 @@
 //! The order in which the rows of a group come out: that of their cells, or that of the files.
+ghost use Rattle.std.specs.Prelude.{◌≡◌, ◌++◌, ◌∷◌, [], IfOk, IsPermutation, is_none, map, true, unwrap_or};
+ghost use Rattle.eob_joins.specs.Groups.{some_items};
+ghost use Rattle.keyed_commands.specs.ComeOut.{AlikePlaces, AlikeRows};
 
 use either_or_both::EitherOrBoth;
 use indexmap::IndexMap;
@@ -46,7 +49,9 @@ impl RowOrder {
     }
 
     /// Whether it is the order of cells, in which groups have their rows.
-    pub fn is_by_cells(&self) -> bool {
+    pub fn is_by_cells(&self) -> bool
+        ensures { result ≡ is_none self.now.files }
+    {
         self.files.is_none()
     }
 
@@ -78,12 +83,13 @@ impl RowOrder {
         files: Range<usize>,
         key: &Key,
         group: Group,
-    ) -> Result<Group, AllocError> {
+    ) -> Result<Group, AllocError>
+        ensures alike { IfOk result (AlikeRows group) }
+        ensures same { is_none self.now.files ≡ true → IfOk result (λ rows. rows ≡ group) }
+    {
         match &self.files {
-            Some(noted) if group.rows().len() > 1 => {
-                arranged(alloc, noted.get(files).unwrap_or(&[]), key, group)
-            }
-            _ => Ok(group),
+            Some(noted) => arranged(alloc, noted.get(files).unwrap_or(&[]), key, group),
+            None => Ok(group),
         }
     }
 
@@ -112,19 +118,83 @@ fn arranged(
     files: &[RowsByKey],
     key: &Key,
     group: Group,
-) -> Result<Group, AllocError> {
-    let order = rows_in_order(alloc, files, key, group.rows())?;
-    if order.len() != group.rows().len() {
+) -> Result<Group, AllocError>
+    ensures { IfOk result (AlikeRows group) }
+{
+    if group.rows().len() < 2 {
         return Ok(group);
     }
-    let mut made: Option<Group> = None;
-    for row in order {
-        made = Some(match made {
-            Some(group) => group.with_row(alloc, row)?,
-            None => Group::new(row),
-        });
+    let order = rows_in_order(alloc, files, key, group.rows())?;
+    put_in_order(alloc, group, order)
+}
+
+// The rows of a group, which stand in the order of their cells, in another order, if it has the same rows.
+fn put_in_order(alloc: Global, group: Group, order: Vec<Cells>) -> Result<Group, AllocError>
+    ensures { IfOk result (AlikeRows group) }
+{
+    if are_sorted_as(alloc, group.rows(), &order)? {
+        match group_of(alloc, order)? {
+            Some(made) => Ok(made),
+            None => Ok(group),
+        }
+    } else {
+        Ok(group)
     }
-    Ok(made.unwrap_or(group))
+}
+
+// Whether rows that stand in the order of their cells are these ones in another order.
+fn are_sorted_as(alloc: Global, rows: &[Cells], order: &[Cells]) -> Result<bool, AllocError>
+    ensures { IfOk result (λ same. same ≡ true → IsPermutation order.now rows.now) }
+{
+    let mut sorted: Vec<&Cells> = Vec::new(alloc);
+    for row in order {
+        sorted.push(row)?;
+    }
+    sorted.sort()?;
+    Ok(are_same(rows, &sorted))
+}
+
+// Whether these are the same rows.
+fn are_same(rows: &[Cells], others: &[&Cells]) -> bool
+    ensures { result ≡ true → rows.now ≡ map (λ row. row.now) others.now }
+{
+    if rows.len() != others.len() {
+        return false;
+    }
+    for place in 0..rows.len() {
+        if !is_same(&rows[place], others[place]) {
+            return false;
+        }
+    }
+    true
+}
+
+// Whether two rows have the same cells.
+fn is_same(row: &Cells, other: &Cells) -> bool
+    ensures { result ≡ true → row.now ≡ other.now }
+{
+    row == other
+}
+
+// Rows as a group, if there are any.
+fn group_of(alloc: Global, rows: Vec<Cells>) -> Result<Option<Group>, AllocError>
+    ensures { IfOk result (λ made. made ≡ some_items rows.items) }
+{
+    let mut made: Option<Group> = None;
+    for row in rows {
+        made = Some(with_row(alloc, made, row)?);
+    }
+    Ok(made)
+}
+
+// A group with a row more, or of this row.
+fn with_row(alloc: Global, made: Option<Group>, row: Cells) -> Result<Group, AllocError>
+    ensures { IfOk result (λ group. group ≡ unwrap_or made [] ++ row ∷ []) }
+{
+    match made {
+        Some(group) => group.with_row(alloc, row),
+        None => Ok(Group::new(row)),
+    }
 }
 
 fn rows_in_order(
@@ -182,21 +252,29 @@ fn put_row(
 
 /// What stands under a key: the rows of a group, or of each of several.
 pub trait Grouped: Sized {
+    // The same groups, each with its rows in another order.
+    ghost alike: { Self → Self → Type 0 };
+
     /// The same with the rows of each group in the order of the files.
     ///
     /// # Errors
     ///
     /// Returns `AllocError` if a request for memory was refused.
-    fn in_order(self, alloc: Global, order: &RowOrder, key: &Key) -> Result<Self, AllocError>;
+    fn in_order(self, alloc: Global, order: &RowOrder, key: &Key) -> Result<Self, AllocError>
+        ensures { IfOk result (alike self) };
 }
 
 impl Grouped for Group {
+    ghost alike = { AlikeRows };
+
     fn in_order(self, alloc: Global, order: &RowOrder, key: &Key) -> Result<Self, AllocError> {
         order.arrange(alloc, order.all_files(), key, self)
     }
 }
 
 impl<L: Grouped + Drop, R: Grouped + Drop> Grouped for EitherOrBoth<L, R> {
+    ghost alike = { AlikePlaces L.alike R.alike };
+
     fn in_order(self, alloc: Global, order: &RowOrder, key: &Key) -> Result<Self, AllocError> {
         match self {
             EitherOrBoth::Left(left) => {

@@ -4,14 +4,14 @@
 ghost use Rattle.std.specs.Prelude.{◌≡◌, ◌↔◌, ◌⊎◌, IfSome, IsNone, option_map};
 ghost use Rattle.keyed_commands.specs.Keys.{IsAtMost};
 
-use crate::answers::Answer;
+use crate::answers::{Answer, Outcome};
 use crate::job::{Job, Table};
 use crate::joined::{JoinForm, join_as_csv};
 use crate::written::write_changes;
 use keyed_files::{
     Columns, Content, Fault, JoinColumns, Joining, Layout, Parts, Reason, Stream, Two, at,
 };
-use keyed_rows::{Cells, Key};
+use keyed_rows::{Cells, Key, Release};
 use keyed_tables::{changes_of, unique_rows};
 use std::alloc::{AllocError, Global};
 use std::io::{Read, Write};
@@ -39,7 +39,11 @@ impl Work<'_> {
             Work::Changes(job, marked) => changes_as_csv(job, marked, part),
             Work::Join(job, how) => {
                 let bytes = join_as_csv(job, how, part.left, part.right)?;
-                Ok(Answer { bytes, status: 0 })
+                Ok(Answer {
+                    bytes,
+                    status: 0,
+                    outcome: Outcome::Made,
+                })
             }
         }
     }
@@ -57,7 +61,11 @@ fn changes_as_csv(job: &Job<'_, Columns>, marked: &Cells, part: Part) -> Result<
     let changes = changes_of(job.alloc, part.left, part.right)?;
     let status = if changes.is_empty() { 0 } else { 1 };
     let bytes = write_changes(job, marked, changes)?;
-    Ok(Answer { bytes, status })
+    Ok(Answer {
+        bytes,
+        status,
+        outcome: Outcome::Made,
+    })
 }
 
 /// Writes the changes between two tables as CSV while they are read, and returns the status.
@@ -73,7 +81,8 @@ pub fn diff_sorted<'a, R: Read + Drop, W: Write>(
     new: Stream<'a, R>,
     output: &mut W,
 ) -> Result<u8, Fault<'a>> {
-    let versions = Two::new(alloc, layout.form, Content::Rows, old, new)?;
+    let mut versions = Two::new(alloc, layout.form, Content::Rows, old, new)?;
+    versions.first.rename_key(alloc, layout.key)?;
     let has_lone = at(
         versions.next.file,
         versions.column_changes().has_lone(alloc),
@@ -210,7 +219,7 @@ fn rows_up_to<R: Read + Drop>(
             None => break,
         }
     }
-    Ok(unique_rows(alloc, rows)?)
+    Ok(unique_rows(alloc, rows, Release::AtDrop)?)
 }
 
 // The lesser key of those that are there.

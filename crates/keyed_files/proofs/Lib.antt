@@ -1,1 +1,8 @@
+pub mod BufferLemmas
+pub mod HeaderLemmas
+pub mod LineLemmas
 pub mod NameLemmas
+pub mod PlacedLemmas
+pub mod ReadingLemmas
+pub mod TableLemmas
+pub mod WritingLemmas

@@ -1,3 +1,10 @@
 pub mod Delimiters
+pub mod Encodings
+pub mod Headers
+pub mod JoinedRows
+pub mod Lines
 pub mod Names
 pub mod Picked
+pub mod Reading
+pub mod Rows
+pub mod Writing

@@ -1,5 +1,5 @@
 -- Names of columns among others.
-use Rattle.std.specs.Prelude.{ℕ, Bool, List, [], ◌∷◌, Option, is_none, map, nat_eq}
+use Rattle.std.specs.Prelude.{◌||◌, ◌++◌, ℕ, Bool, false, List, [], ◌∷◌, Option, is_none, map, nat_eq}
 use Rattle.std.specs.Cmp.Lexicographic.{pointwise}
 use Rattle.std.specs.List.{list_any, position}
 use Rattle.keyed_files.specs.declared.names.Names.{Names}
@@ -21,3 +21,8 @@ compared (name ∷ old) (next ∷ new) = (name ∷ old, next ∷ new)
 -- names that are found at once, as lists of their bytes
 abbrev pub names_in : Names → List (List ℕ)
 names_in names = map (λ name. name.items) names.names.keys
+
+-- whether one of more names stands before, among names or among those
+unfoldable pub repeats : List (List ℕ) → List (List ℕ) → Bool
+repeats before [] = false
+repeats before (name ∷ names) = list_any (pointwise nat_eq name) before || repeats (before ++ (name ∷ [])) names

@@ -1,20 +1,18 @@
 //! A file that is read line by line, so that the line of each row is known.
 
-ghost use Rattle.std.specs.Prelude.{◌≤◌, length};
+ghost use Rattle.std.specs.Prelude.{◌≡◌, ◌<◌, ◌≤◌, IfOk, IsSome, IsTrue, None, OnOk, length, min, take};
+ghost use Rattle.std.specs.Io.KnownBytes.{Keeps};
+ghost use Rattle.keyed_files.specs.Lines.{Begins, lines_left};
 
+use crate::ahead::Ahead;
 use crate::encoding::Encoding;
 use crate::first_cell::MARK;
 use crate::request::{Comment, Reading};
+use memchr::memchr2;
 use std::alloc::{AllocError, Global};
 use std::cell::Cell;
 use std::io;
 use std::io::Read;
-
-// How many bytes are read ahead.
-const AHEAD: usize = 65_536;
-
-// How many bytes tell what a file is.
-const TELLING: usize = 4;
 
 /// A reader of which each read gets no more than the rest of a line, which LF, CR or CR LF ends. Whoever reads a row from it has read no
 /// byte of the next line, so that the reader can tell on which line the row began.
@@ -23,13 +21,7 @@ const TELLING: usize = 4;
 /// begins: that is LF, also where it is CR in the file or is missing at its end, since LF alone ends such a line for whoever reads rows.
 #[derive(Drop)]
 pub struct ByLine<R> {
-    inner: R,
-    ahead: Vec<u8>,
-    // Of the bytes that were read ahead those from here to there are not given yet.
-    at: usize,
-    filled: usize,
-    // Whether the reader has said that it has no more.
-    is_ended: bool,
+    file: Ahead<R>,
     // How many lines at the top are passed over.
     skipped: u64,
     lines: Lines,
@@ -41,13 +33,11 @@ impl<R: Drop> ByLine<R> {
     /// # Errors
     ///
     /// Returns `AllocError` if a request for memory was refused.
-    pub fn new(alloc: Global, inner: R, reading: Reading) -> Result<Self, AllocError> {
+    pub fn new(alloc: Global, inner: R, reading: Reading) -> Result<Self, AllocError>
+        ensures { IfOk result (Begins inner reading) }
+    {
         Ok(ByLine {
-            inner,
-            ahead: vec![in alloc; 0; AHEAD]?,
-            at: 0,
-            filled: 0,
-            is_ended: false,
+            file: Ahead::new(alloc, inner)?,
             skipped: reading.skipped,
             lines: Lines {
                 line: 1,
@@ -80,26 +70,20 @@ impl<R: Read> ByLine<R> {
     /// # Errors
     ///
     /// Returns the error of the reader.
-    pub fn begin(&mut self) -> io::Result<Option<Encoding>> {
-        self.read_first()?;
-        let first = part(&self.ahead, 0, self.filled);
+    pub fn begin(&mut self) -> io::Result<Option<Encoding>>
+        ensures { OnOk result (self.old.skipped ≡ 0
+            → Keeps (lines_left R.remaining self.old) (lines_left R.remaining self.new)) }
+    {
+        self.file.read_first()?;
+        let first = self.file.rest();
         let encoding = Encoding::of(first);
         if first.starts_with(MARK) {
             self.lines.mark = MARK.len();
         }
-        self.skip_lines()?;
-        Ok(encoding)
-    }
-
-    // Reads ahead until there are as many bytes as tell what a file is, or no more.
-    fn read_first(&mut self) -> io::Result<()> {
-        for _ in 0..TELLING {
-            if self.is_ended || TELLING <= self.filled {
-                break;
-            }
-            self.read_ahead(self.filled)?;
+        if self.skipped > 0 {
+            self.skip_lines()?;
         }
-        Ok(())
+        Ok(encoding)
     }
 
     // Passes over the lines at the top.
@@ -108,60 +92,49 @@ impl<R: Read> ByLine<R> {
             if self.skipped < self.lines.line {
                 break;
             }
-            self.fill()?;
-            let rest = part(&self.ahead, self.at, self.filled);
+            self.file.fill()?;
+            let rest = self.file.rest();
             if rest.is_empty() {
                 break;
             }
-            self.at = self.at.saturating_add(self.lines.count(rest));
+            let count = self.lines.count(rest);
+            self.file.pass(count);
         }
         self.begin_row();
-        Ok(())
-    }
-
-    // Reads ahead if all that was read is given.
-    fn fill(&mut self) -> io::Result<()> {
-        if self.at < self.filled || self.is_ended {
-            return Ok(());
-        }
-        self.at = 0;
-        self.filled = 0;
-        self.read_ahead(0)
-    }
-
-    // Reads bytes to this place of those that are read ahead.
-    fn read_ahead(&mut self, from: usize) -> io::Result<()> {
-        if from < self.ahead.len() {
-            let count = self.inner.read(&mut self.ahead[from..])?;
-            self.is_ended = count == 0;
-            self.filled = from.saturating_add(count);
-        }
         Ok(())
     }
 }
 
 impl<R: Read> Read for ByLine<R> {
+    ghost remaining = { lines_left R.remaining };
+
     fn read(&mut self, buf: &mut [u8]) -> io::Result<usize> {
-        self.fill()?;
-        let rest = part(&self.ahead, self.at, self.filled);
+        self.file.fill()?;
+        let rest = self.file.rest();
         if rest.is_empty() {
             return Ok(self.lines.end(buf));
         }
-        let most = rest.len().min(buf.len());
         let line = self.lines.line;
-        let count = self.lines.count(&rest[..most]);
-        buf[..count].copy_from_slice(&rest[..count]);
-        if self.lines.comment_line == line {
+        let count = give(&mut self.lines, rest, buf);
+        if self.lines.is_comment(line) {
             end_comment(&mut buf[..count]);
         }
-        self.at = self.at.saturating_add(count);
+        self.file.pass(count);
         Ok(count)
     }
 }
 
-// The bytes from one place to another, if these are places of them.
-fn part(bytes: &[u8], from: usize, to: usize) -> &[u8] {
-    bytes.get(from..to).unwrap_or(&[])
+// Copies those bytes that a read gets to the front, and returns how many these are.
+fn give(lines: &mut Lines, rest: &[u8], buf: &mut [u8]) -> usize
+    ensures bound { result ≤ min (length rest.now) (length buf.new) }
+    ensures some { 0 < length rest.now → 0 < length buf.old → 0 < result }
+    ensures copied { take result buf.new ≡ take result rest.now }
+    ensures comment { lines.new.comment ≡ lines.old.comment }
+{
+    let most = rest.len().min(buf.len());
+    let count = lines.count(&rest[..most]);
+    buf[..count].copy_from_slice(&rest[..count]);
+    count
 }
 
 // Has a part of a line that is passed over end with LF where it ends with CR.
@@ -192,11 +165,13 @@ struct Lines {
 impl Lines {
     // How many of these bytes a read gets: those up to the first end of a line. They are counted as given.
     fn count(&mut self, bytes: &[u8]) -> usize
-        ensures { result ≤ length bytes.now }
+        ensures bound { result ≤ length bytes.now }
+        ensures some { 0 < length bytes.now → 0 < result }
+        ensures comment { self.new.comment ≡ self.old.comment }
     {
         let from = self.pass(bytes);
         let line = &bytes[from..];
-        let end = line.iter().position(|byte| ends_line(*byte));
+        let end = memchr2(b'\n', b'\r', line);
         if end != Some(0) {
             self.note(line.first());
         }
@@ -215,9 +190,11 @@ impl Lines {
 
     // How many bytes a read gets behind the last one: the end of a line that is passed over, if that has none.
     fn end(&mut self, buf: &mut [u8]) -> usize
-        ensures { result ≤ length buf.new }
+        ensures bound { result ≤ length buf.new }
+        ensures none { self.old.comment ≡ None → result ≡ 0 }
+        ensures comment { self.new.comment ≡ self.old.comment }
     {
-        if self.comment_line != self.line || buf.is_empty() {
+        if !self.is_comment(self.line) || buf.is_empty() {
             return 0;
         }
         buf[0] = b'\n';
@@ -227,7 +204,8 @@ impl Lines {
 
     // How many of these bytes come before those of a line: a byte order mark, or the LF of a CR LF.
     fn pass(&mut self, bytes: &[u8]) -> usize
-        ensures { result ≤ length bytes.now }
+        ensures bound { result ≤ length bytes.now }
+        ensures comment { self.new.comment ≡ self.old.comment }
     {
         if self.mark > 0 {
             let count = self.mark.min(bytes.len());
@@ -240,9 +218,19 @@ impl Lines {
         }
     }
 
+    // Whether a line is one that is passed over.
+    fn is_comment(&self, line: u64) -> bool
+        ensures { IsTrue result → IsSome self.now.comment }
+    {
+        self.comment.is_some() && self.comment_line == line
+    }
+
     // Notes the line of a byte that ends none, as that of a row or as one that is passed over.
-    fn note(&mut self, byte: Option<&u8>) {
-        if byte.is_none() || self.row.get().is_some() || self.comment_line == self.line {
+    fn note(&mut self, byte: Option<&u8>)
+        ensures comment { self.new.comment ≡ self.old.comment }
+        ensures line { self.new.line ≡ self.old.line }
+    {
+        if byte.is_none() || self.row.get().is_some() || self.is_comment(self.line) {
             return;
         }
         if self.comment == byte.copied() {
@@ -251,9 +239,4 @@ impl Lines {
             self.row.set(Some(self.line));
         }
     }
-}
-
-// Whether a line ends at a byte.
-fn ends_line(byte: u8) -> bool {
-    byte == b'\n' || byte == b'\r'
 }

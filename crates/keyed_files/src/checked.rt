@@ -1,4 +1,7 @@
 //! The bytes of a file on their way to the reader of CSV: line by line, and with quotes in order unless they are taken as they are.
+ghost use Rattle.std.specs.Prelude.{◌≡◌};
+ghost use Rattle.keyed_files.specs.Lines.{checked_left, lines_left};
+ghost use Rattle.keyed_files.specs.Writing.{comment_of, delimiter_of};
 
 use crate::by_line::ByLine;
 use crate::request::{Comment, Form, Quotes};
@@ -13,9 +16,11 @@ pub enum Checked<R> {
     Lenient(ByLine<R>),
 }
 
-impl<R: Drop> Checked<R> {
+impl<R: Read + Drop> Checked<R> {
     /// The lines as the form has them read.
-    pub fn new(lines: ByLine<R>, form: Form) -> Self {
+    pub fn new(lines: ByLine<R>, form: Form) -> Self
+        ensures { checked_left R.remaining result ≡ lines_left R.remaining lines }
+    {
         match form.reading.quotes {
             Quotes::Strict => Checked::Strict(Strict::new(lines, marks_of(form))),
             Quotes::Lenient => Checked::Lenient(lines),
@@ -42,7 +47,10 @@ impl<R> Checked<R> {
 }
 
 // The bytes that part a text of this form.
-fn marks_of(form: Form) -> Marks {
+pub(crate) fn marks_of(form: Form) -> Marks
+    ensures delimiter { result.delimiter ≡ delimiter_of form }
+    ensures comment { result.comment ≡ comment_of form }
+{
     Marks {
         delimiter: form.delimiter.byte(),
         comment: form.reading.comment.map(Comment::byte),
@@ -50,6 +58,8 @@ fn marks_of(form: Form) -> Marks {
 }
 
 impl<R: Read> Read for Checked<R> {
+    ghost remaining = { checked_left R.remaining };
+
     fn read(&mut self, buf: &mut [u8]) -> io::Result<usize> {
         match self {
             Checked::Strict(strict) => strict.read(buf),

@@ -1,6 +1,8 @@
 //! What became of the columns between two versions of a table.
-ghost use Rattle.std.specs.Prelude.{◌≡◌, ◌||◌, IfOk};
+ghost use Rattle.std.specs.Prelude.{◌≡◌, ◌||◌, ◌∷◌, [], IfOk, OnOk};
 ghost use Rattle.keyed_files.specs.Names.{compared, has_lone};
+ghost use Rattle.keyed_files.specs.Rows.{change_name};
+ghost use Rattle.keyed_files.specs.Writing.{PutsRows};
 
 use crate::columns::place_of;
 use crate::fault::Reason;
@@ -66,10 +68,13 @@ impl Written {
     ///
     /// Returns `CellCount` if a row has more or fewer cells than the first one, and `NoMemory`, or `Io` with the error that the
     /// writer makes of it, if a request for memory was refused.
-    pub fn put_change_heading(&mut self, marked: &Cells) -> Result<(), Reason> {
+    pub fn put_change_heading(&mut self, marked: &Cells) -> Result<(), Reason>
+        ensures { OnOk result (PutsRows self.old self.new ((change_name ∷ marked.now) ∷ [])) }
+    {
         self.put_cell(b"change")?;
         self.put(marked)?;
-        self.end_row()
+        self.end_row()?;
+        Ok(())
     }
 }
 

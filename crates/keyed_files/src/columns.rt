@@ -3,7 +3,7 @@ ghost use Rattle.std.specs.Prelude.{◌≡◌};
 ghost use Rattle.keyed_files.specs.Names.{place_in};
 
 use crate::fault::Reason;
-use crate::key_record::key_names;
+use crate::key_record::{KeyNames, key_names};
 use crate::names::Names;
 use keyed_rows::Cells;
 use std::alloc::{AllocError, Global};
@@ -64,25 +64,25 @@ fn put_name(key: &Cells, rest: &mut Cells, name: &[u8]) -> Result<Place, AllocEr
     }
 }
 
-/// The names of the columns of both tables, whose keys have the same names.
+/// The names of the columns of both tables, whose keys have as many.
 #[derive(Drop)]
 pub struct JoinColumns {
     pub left: Columns,
     pub right: Columns,
 }
 
-/// The columns of all tables, with the key that is set or else the first column.
+/// The columns of all tables, with the key that is set, by the names that it has in all but the first, or else the first column.
 ///
 /// # Errors
 ///
 /// Returns the errors of `key_names`, and `NoMemory` if a request for memory was refused.
 pub fn columns_of(alloc: Global, key: Option<&str>, headers: &[&Cells]) -> Result<Columns, Reason> {
-    let key = key_of(alloc, key, headers)?;
+    let key = key_of(alloc, key, headers)?.others;
     Ok(Columns::new(alloc, key, headers)?)
 }
 
-/// The columns of each of two tables, with the key that is set or else the first column of the left one. A file with no row has no column
-/// of its own, and those of the other table.
+/// The columns of each of two tables, with the key that is set, by the names that it has in each, or else the first column of the left one.
+/// A file with no row has no column of its own, and those of the other table.
 ///
 /// # Errors
 ///
@@ -93,8 +93,9 @@ pub fn join_columns(
     left: &Cells,
     right: &Cells,
 ) -> Result<JoinColumns, Reason> {
-    let left_key = key_of(alloc, key, &[left, right])?;
-    let right_key = left_key.clone()?;
+    let KeyNames { first, others } = key_of(alloc, key, &[left, right])?;
+    let left_key = if left.is_empty() { &others } else { &first }.clone()?;
+    let right_key = if right.is_empty() { &first } else { &others }.clone()?;
     let left_names = if left.is_empty() { right } else { left };
     let right_names = if right.is_empty() { left } else { right };
     let left = Columns::new(alloc, left_key, &[left_names])?;
@@ -103,10 +104,10 @@ pub fn join_columns(
 }
 
 // The names of the key: those that are set, or that of the first column.
-fn key_of(alloc: Global, key: Option<&str>, headers: &[&Cells]) -> Result<Cells, Reason> {
+fn key_of(alloc: Global, key: Option<&str>, headers: &[&Cells]) -> Result<KeyNames, Reason> {
     match key {
         Some(names) => key_names(alloc, names),
-        None => Ok(first_name(alloc, headers)?),
+        None => Ok(KeyNames::alike(first_name(alloc, headers)?)?),
     }
 }
 

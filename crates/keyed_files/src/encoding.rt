@@ -1,4 +1,6 @@
 //! What the first bytes of a file say of it, where it is no text of one byte after the other.
+ghost use Rattle.std.specs.Prelude.{◌≡◌};
+ghost use Rattle.keyed_files.specs.Encodings.{encoding_of};
 
 /// What a file is that has to be turned into text first.
 #[derive(Clone, Copy, Debug, PartialEq, Eq)]
@@ -10,12 +12,17 @@ pub enum Encoding {
 
 impl Encoding {
     /// What a file is that begins with these bytes, if they are those of an encoding.
-    pub fn of(first: &[u8]) -> Option<Self> {
-        match first {
-            [0x1F, 0x8B, 8, ..] => Some(Encoding::Gzip),
-            [0x28, 0xB5, 0x2F, 0xFD, ..] => Some(Encoding::Zstd),
-            [0xFF, 0xFE, ..] | [0xFE, 0xFF, ..] => Some(Encoding::Utf16),
-            _ => None,
+    pub fn of(first: &[u8]) -> Option<Self>
+        ensures { result ≡ encoding_of first.now }
+    {
+        if first.starts_with(b"\x1F\x8B\x08") {
+            Some(Encoding::Gzip)
+        } else if first.starts_with(b"\x28\xB5\x2F\xFD") {
+            Some(Encoding::Zstd)
+        } else if first.starts_with(b"\xFF\xFE") || first.starts_with(b"\xFE\xFF") {
+            Some(Encoding::Utf16)
+        } else {
+            None
         }
     }
 

@@ -44,6 +44,13 @@ pub enum Reason {
     KeyNoRecord,
     /// Among the names of the columns that are the key one stands twice.
     RepeatedName(Vec<u8>),
+    /// For a column of the key more than two names are given.
+    ManyNames(Vec<u8>),
+    /// In the header on this line, a column of the key is to have this name, which another column has.
+    NamedTwice {
+        line: u64,
+        name: Vec<u8>,
+    },
     /// A join would have two columns of this name, which this option tells apart.
     JoinedTwice {
         name: Vec<u8>,
@@ -63,6 +70,8 @@ pub enum Reason {
     TwiceStdin,
     /// Two rows have the same key, and keys may not repeat.
     RepeatedKey(RepeatedKey),
+    /// Two rows of the table in which rows are looked up have the same key.
+    RepeatedRight(RepeatedKey),
 }
 
 impl From<AllocError> for Reason {
@@ -234,6 +243,16 @@ impl fmt::Display for Reason {
             ),
             Reason::KeyNoRecord => f.write_str("not one record of CSV"),
             Reason::RepeatedName(name) => write!(f, "the column {} twice", ShownName(name)),
+            Reason::ManyNames(names) => write!(
+                f,
+                "more than two names of a column: {}",
+                ShownName(names)
+            ),
+            Reason::NamedTwice { line, name } => write!(
+                f,
+                "line {line}: a column of the key is to have the name {}, which another has",
+                ShownName(name)
+            ),
             Reason::JoinedTwice { name, option } => write!(
                 f,
                 "the join has two columns {}: give another by {option}",
@@ -264,6 +283,15 @@ impl fmt::Display for Reason {
                 write!(
                     f,
                     "line {}: duplicate key {}, first on line {}: give more columns by --key, or --group",
+                    repeated.second,
+                    ShownKey(&repeated.key),
+                    repeated.first
+                )
+            }
+            Reason::RepeatedRight(repeated) => {
+                write!(
+                    f,
+                    "line {}: duplicate key {}, first on line {}: give more columns by --key",
                     repeated.second,
                     ShownKey(&repeated.key),
                     repeated.first

@@ -1,8 +1,14 @@
 //! The names of a table's columns, told apart where the header has one more than once.
+ghost use Rattle.std.specs.Prelude.{◌≡◌, ◌++◌, ◌∷◌, ◌^◌, ◌<◌, IfOk, IfSome, OnOk, [], false, nat_eq, unwrap_or};
+ghost use Rattle.std.specs.Cmp.Lexicographic.{pointwise};
+ghost use Rattle.std.specs.List.{list_any};
+ghost use Rattle.csv.specs.Records.{field_at, fields_of};
+ghost use Rattle.keyed_files.specs.Names.{names_in, place_in, repeats};
 
 use crate::columns::place_of;
 use crate::fate::Fate;
 use crate::fault::Reason;
+use crate::key_record::KeyNames;
 use crate::names::Names;
 use csv::ByteRecord;
 use keyed_rows::Cells;
@@ -12,25 +18,31 @@ use std::alloc::{AllocError, Global};
 #[derive(Drop)]
 pub struct Header {
     pub names: Cells,
+    // The same, each found in one step.
+    found: Names,
     /// In a table of changes, those of columns that go.
     pub gone: Cells,
     repeated: Names,
     // The line that it stands on.
     line: u64,
+    ghost found_is_names: { names_in found ≡ names },
 }
 
 impl Header {
     /// No column, as of a file with no row.
-    pub fn none(alloc: Global) -> Self {
+    pub fn none(alloc: Global) -> Self
+        ensures { result.names ≡ [] }
+    {
         Header {
             names: Cells::new(alloc),
+            found: Names::new(alloc),
             gone: Cells::new(alloc),
             repeated: Names::new(alloc),
             line: 0,
         }
     }
 
-    /// The names in the record on a line, behind the cells that stand before them: where there are such, it is the header of changes, and the
+    /// The names in the row on a line, behind the cells that stand before them: where there are such, it is the header of changes, and the
     /// marks before the names are taken off. Of those that are the same the first is as it stands,
     /// and the others have a number behind a point: the second `NAME.2`, or the next number with which no column is named.
     ///
@@ -39,31 +51,119 @@ impl Header {
     /// Returns `AllocError` if a request for memory was refused.
     pub fn of_record(
         alloc: Global,
-        record: &ByteRecord,
+        row: &ByteRecord,
         before: usize,
         line: u64,
-    ) -> Result<Self, AllocError> {
-        let mut there = Names::new(alloc);
-        for cell in record.iter().skip(before) {
-            there.add(alloc, fate_of(before, cell).1)?;
-        }
-        let mut header = Header::none(alloc);
-        header.line = line;
+    ) -> Result<Self, AllocError>
+        ensures { IfOk result (λ header. before ≡ 0 → repeats [] (fields_of row.now) ≡ false
+            → header.names ≡ fields_of row.now) }
+    {
+        let there = names_there(alloc, row, before)?;
+        let mut told = Told::new(alloc);
         // Of each name of the header the number that the last column of this name has, or 0 where none has come.
         let mut numbers: Vec<usize> = Vec::from_elem(alloc, 0, there.len())?;
-        for cell in record.iter().skip(before) {
-            let (fate, name) = fate_of(before, cell);
-            if let Fate::Goes = fate {
-                header.gone.push(name)?;
-            }
-            let place = there.place_of(name).unwrap_or(0);
-            let last = numbers.get(place).copied().unwrap_or(0);
-            let number = header.put(alloc, &there, name, last)?;
-            if let Some(last) = numbers.get_mut(place) {
-                *last = number;
+        for place in before..row.len() {
+            let (fate, name) = fate_of(before, cell_of(row, place));
+            let last = last_number(&numbers, there.place_of(name));
+            let number = told.put(alloc, &there, name, last)?;
+            note_number(&mut numbers, there.place_of(name), number);
+            told.note_fate(fate, name)?;
+        }
+        told.into_header(alloc, line)
+    }
+
+    /// The names of columns that have no header, of which there are so many: 1, 2 and so on.
+    ///
+    /// # Errors
+    ///
+    /// Returns `AllocError` if a request for memory was refused.
+    pub fn numbers(alloc: Global, count: usize, line: u64) -> Result<Self, AllocError> {
+        let mut told = Told::new(alloc);
+        for number in 0..count {
+            let name = format!(in alloc; "{}", number.saturating_add(1))?;
+            told.found.add(alloc, name.as_bytes())?;
+        }
+        told.into_header(alloc, line)
+    }
+
+    /// Gives the columns of a key, which have the first of their names, the others. A header with no name, as of an empty file, stays so.
+    ///
+    /// # Errors
+    ///
+    /// Returns `NoColumn` if the header lacks a column that gets another name, `RepeatedColumn` if it has one more than once, `NamedTwice`
+    /// if two columns would have one name, and `NoMemory` if a request for memory was refused.
+    pub fn rename(&mut self, alloc: Global, key: &KeyNames) -> Result<(), Reason> {
+        self.check_key(alloc, &renamed_of(alloc, key)?)?;
+        let mut found = Names::new(alloc);
+        for name in &self.names {
+            let name = key.other_of(name).unwrap_or(name);
+            if !found.add(alloc, name)? {
+                return Err(Reason::NamedTwice {
+                    line: self.line,
+                    name: Vec::from_slice(alloc, name)?,
+                });
             }
         }
-        Ok(header)
+        self.names = found.to_cells(alloc)?;
+        self.found = found;
+        Ok(())
+    }
+
+    /// Where the column of a name stands, if there is one.
+    pub fn place_of(&self, name: &[u8]) -> Option<usize>
+        ensures place { result ≡ place_in self.now.names name.now }
+        ensures bound { IfSome result (λ place. place < 2 ^ 63) }
+    {
+        self.found.place_of(name)
+    }
+
+    /// Tells that each name of a key is that of one column. A header with no name, as of an empty file, is asked for none.
+    ///
+    /// # Errors
+    ///
+    /// Returns `NoColumn` if the header lacks a name, `RepeatedColumn` if it has one more than once, and `NoMemory` if a request for
+    /// memory was refused.
+    pub fn check_key(&self, alloc: Global, key: &Cells) -> Result<(), Reason> {
+        for name in key {
+            if self.repeated.has(name) {
+                return Err(Reason::RepeatedColumn {
+                    line: self.line,
+                    name: Vec::from_slice(alloc, name)?,
+                });
+            }
+            let goes = place_of(&self.gone, name).is_some();
+            if !self.names.is_empty() && (goes || !self.found.has(name)) {
+                return Err(Reason::NoColumn {
+                    line: self.line,
+                    name: Vec::from_slice(alloc, name)?,
+                    header: self.names.clone()?,
+                });
+            }
+        }
+        Ok(())
+    }
+}
+
+// The names of a header that is read, up to a column.
+#[derive(Drop)]
+struct Told {
+    found: Names,
+    // Those that stand there more than once.
+    repeated: Names,
+    // Those of columns that go.
+    gone: Cells,
+}
+
+impl Told {
+    // No name.
+    fn new(alloc: Global) -> Self
+        ensures { names_in result.found ≡ [] }
+    {
+        Told {
+            found: Names::new(alloc),
+            repeated: Names::new(alloc),
+            gone: Cells::new(alloc),
+        }
     }
 
     // Puts the next column of a name whose last one has this number, and returns its own.
@@ -73,9 +173,11 @@ impl Header {
         there: &Names,
         name: &[u8],
         last: usize,
-    ) -> Result<usize, AllocError> {
-        if last == 0 {
-            self.names.push(name)?;
+    ) -> Result<usize, AllocError>
+        ensures { OnOk result (list_any (pointwise nat_eq name.now) (names_in self.old.found) ≡ false
+            → names_in self.new.found ≡ names_in self.old.found ++ name.now ∷ []) }
+    {
+        if self.found.add(alloc, name)? {
             return Ok(1);
         }
         self.repeated.add(alloc, name)?;
@@ -89,54 +191,82 @@ impl Header {
             number = number.saturating_add(1);
             told = numbered(alloc, name, number)?;
         }
-        self.names.push(&told)?;
+        self.found.add(alloc, &told)?;
         Ok(number)
     }
 
-    /// The names of columns that have no header, of which there are so many: 1, 2 and so on.
-    ///
-    /// # Errors
-    ///
-    /// Returns `AllocError` if a request for memory was refused.
-    pub fn numbers(alloc: Global, count: usize, line: u64) -> Result<Self, AllocError> {
-        let mut header = Header::none(alloc);
-        header.line = line;
-        for number in 0..count {
-            let name = format!(in alloc; "{}", number.saturating_add(1))?;
-            header.names.push(name.as_bytes())?;
-        }
-        Ok(header)
-    }
-
-    /// Tells that each name of a key is that of one column. A header with no name, as of an empty file, is asked for none.
-    ///
-    /// # Errors
-    ///
-    /// Returns `NoColumn` if the header lacks a name, `RepeatedColumn` if it has one more than once, and `NoMemory` if a request for
-    /// memory was refused.
-    pub fn check_key(&self, alloc: Global, names: &Names, key: &Cells) -> Result<(), Reason> {
-        for name in key {
-            if self.repeated.has(name) {
-                return Err(Reason::RepeatedColumn {
-                    line: self.line,
-                    name: Vec::from_slice(alloc, name)?,
-                });
-            }
-            let goes = place_of(&self.gone, name).is_some();
-            if !self.names.is_empty() && (goes || !names.has(name)) {
-                return Err(Reason::NoColumn {
-                    line: self.line,
-                    name: Vec::from_slice(alloc, name)?,
-                    header: self.names.clone()?,
-                });
-            }
+    // Notes what becomes of a column.
+    fn note_fate(&mut self, fate: Fate, name: &[u8]) -> Result<(), AllocError>
+        ensures { self.new.found ≡ self.old.found }
+    {
+        if let Fate::Goes = fate {
+            self.gone.push(name)?;
         }
         Ok(())
     }
+
+    // The header on a line with these names.
+    fn into_header(self, alloc: Global, line: u64) -> Result<Header, AllocError>
+        ensures { IfOk result (λ header. header.names ≡ names_in self.found) }
+    {
+        Ok(Header {
+            names: self.found.to_cells(alloc)?,
+            found: self.found,
+            gone: self.gone,
+            repeated: self.repeated,
+            line,
+        })
+    }
+}
+
+// The names that a record has behind the cells that stand before them.
+fn names_there(alloc: Global, record: &ByteRecord, before: usize) -> Result<Names, AllocError> {
+    let mut there = Names::new(alloc);
+    for cell in record.iter().skip(before) {
+        there.add(alloc, fate_of(before, cell).1)?;
+    }
+    Ok(there)
+}
+
+// The cell of a row at a place, or an empty one behind the last.
+fn cell_of(row: &ByteRecord, place: usize) -> &[u8]
+    ensures { result.now ≡ unwrap_or (field_at (fields_of row.now) place) [] }
+{
+    row.get(place).unwrap_or(b"")
+}
+
+// The number at a place, or 0 where there is none.
+fn last_number(numbers: &[usize], place: Option<usize>) -> usize {
+    match place {
+        Some(place) => numbers.get(place).copied().unwrap_or(0),
+        None => 0,
+    }
+}
+
+// Puts a number at a place, if there is one.
+fn note_number(numbers: &mut [usize], place: Option<usize>, number: usize) {
+    if let Some(place) = place {
+        if let Some(last) = numbers.get_mut(place) {
+            *last = number;
+        }
+    }
+}
+
+// The first of the names of those columns of a key that have two.
+fn renamed_of(alloc: Global, key: &KeyNames) -> Result<Cells, AllocError> {
+    let mut names = Cells::new(alloc);
+    for (first, other) in key.first.iter().zip(key.others.iter()) {
+        if first != other {
+            names.push(first)?;
+        }
+    }
+    Ok(names)
 }
 
 // The fate of a column and its name, behind as many cells: behind none, as in a table of rows, a name has no mark.
-fn fate_of(before: usize, cell: &[u8]) -> (Fate, &[u8]) {
+fn fate_of(before: usize, cell: &[u8]) -> (Fate, &[u8])
+    ensures { before ≡ 0 → result.1.now ≡ cell.now }
+{
     if before == 0 {
         (Fate::Stays, cell)
     } else {

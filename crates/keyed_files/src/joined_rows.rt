@@ -1,12 +1,16 @@
 //! The header and the rows of a join, written as CSV: an absent side has empty cells.
+ghost use Rattle.std.specs.Prelude.{◌≡◌, ◌++◌, ◌∷◌, [], OnOk, map, option_and_then, option_map, slice_get};
+ghost use Rattle.keyed_files.specs.JoinedRows.{join_heading, joined_row, joined_rows};
+ghost use Rattle.keyed_files.specs.JoinedRows.{rows_beside, side_count, side_row};
+ghost use Rattle.keyed_files.specs.Writing.{PutsCells, PutsRows};
 
-use crate::columns::JoinColumns;
+use crate::columns::{Columns, JoinColumns};
 use crate::fault::Reason;
 use crate::names::Names;
 use crate::request::{Joining, Kind};
 use crate::written::Written;
 use keyed_rows::{Cells, Group, Key};
-use std::alloc::Global;
+use std::alloc::{AllocError, Global};
 
 /// What a row of a join has: the rows of each side, and a cell that stands before its key, if there is one.
 #[derive(Clone, Copy)]
@@ -23,12 +27,15 @@ impl Written {
     ///
     /// Returns `CellCount` if a row has more or fewer cells than the first one, and `NoMemory`, or `Io` with the error that the
     /// writer makes of it, if a request for memory was refused.
-    pub fn put_join_heading(&mut self, header: &Cells) -> Result<(), Reason> {
+    pub fn put_join_heading(&mut self, header: &Cells) -> Result<(), Reason>
+        ensures { OnOk result (PutsRows self.old self.new (join_heading header.now)) }
+    {
         if header.is_empty() {
             return Ok(());
         }
         self.put(header)?;
-        self.end_row()
+        self.end_row()?;
+        Ok(())
     }
 
     /// Puts each row of the left side with each row of the right one. An absent side is one row of empty cells.
@@ -42,25 +49,101 @@ impl Written {
         columns: &JoinColumns,
         key: &Key,
         sides: Sides<'_>,
-    ) -> Result<(), Reason> {
-        for a in 0..sides.left.map_or(1, |group| group.rows().len()) {
-            for b in 0..sides.right.map_or(1, |group| group.rows().len()) {
-                self.put_first(sides.first)?;
-                put_key(self, key)?;
-                put_side(self, sides.left, a, &columns.left.rest)?;
-                put_side(self, sides.right, b, &columns.right.rest)?;
-                self.end_row()?;
-            }
+    ) -> Result<(), Reason>
+        ensures { OnOk result (PutsRows self.old self.new (joined_rows columns.now key.now sides.entry)) }
+    {
+        for place in 0..count_of(sides.left) {
+            self.put_beside(columns, key, sides, place)?;
+        }
+        Ok(())
+    }
+
+    // Puts a row of the left side with each row of the right one.
+    fn put_beside(
+        &mut self,
+        columns: &JoinColumns,
+        key: &Key,
+        sides: Sides<'_>,
+        left: usize,
+    ) -> Result<(), Reason>
+        ensures { OnOk result (PutsRows self.old self.new (rows_beside columns.now key.now sides.entry left)) }
+    {
+        for right in 0..count_of(sides.right) {
+            self.put_pair(columns, key, sides, left, right)?;
+        }
+        Ok(())
+    }
+
+    // Puts a row of the left side with one of the right side.
+    fn put_pair(
+        &mut self,
+        columns: &JoinColumns,
+        key: &Key,
+        sides: Sides<'_>,
+        left: usize,
+        right: usize,
+    ) -> Result<(), Reason>
+        ensures { OnOk result (PutsRows self.old self.new (joined_row columns.now key.now sides.entry left right ∷ [])) }
+    {
+        self.put_first(sides.first)?;
+        self.put_key(key)?;
+        self.put_side(sides.left, left, &columns.left.rest)?;
+        self.put_side(sides.right, right, &columns.right.rest)?;
+        self.end_row()?;
+        Ok(())
+    }
+
+    // Puts the cells of a key.
+    fn put_key(&mut self, key: &Key) -> Result<(), Reason>
+        ensures { OnOk result (PutsCells self.old self.new key.now) }
+    {
+        for cell in key.iter() {
+            self.put_cell(cell)?;
+        }
+        Ok(())
+    }
+
+    // Puts a row of a side, or an empty cell for each name of its columns.
+    fn put_side(&mut self, side: Option<&Group>, place: usize, names: &Cells) -> Result<(), Reason>
+        ensures { OnOk result (PutsCells self.old self.new
+            (side_row (option_map (λ group. group.now) side.entry) place names.now)) }
+    {
+        match row_of(side, place) {
+            Some(cells) => self.put(cells),
+            None => self.put_absent(names),
+        }
+    }
+
+    // Puts an empty cell for each of these names.
+    fn put_absent(&mut self, names: &Cells) -> Result<(), Reason>
+        ensures { OnOk result (PutsCells self.old self.new (map (λ name. []) names.now)) }
+    {
+        for _name in names {
+            self.put_cell(b"")?;
         }
         Ok(())
     }
 }
 
-fn put_key(written: &mut Written, key: &Key) -> Result<(), Reason> {
-    for cell in key.iter() {
-        written.put_cell(cell)?;
+// How many rows a side has: an absent one has one, of empty cells.
+fn count_of(side: Option<&Group>) -> usize
+    ensures { result ≡ side_count (option_map (λ group. group.now) side.entry) }
+{
+    match side {
+        Some(group) => group.rows().len(),
+        None => 1,
     }
-    Ok(())
+}
+
+// The row of a side at a place, if there is one.
+fn row_of(side: Option<&Group>, place: usize) -> Option<&Cells>
+    ensures { option_map (λ row. row.now) result
+        ≡ option_and_then (λ group. slice_get group.now place) side.entry }
+{
+    match side {
+        Some(group) => group.rows().get(place),
+        None => None,
+    }
 }
 
 /// The names of the columns of a join: that of the first column, if it is an outer one, those of the key, and those of both tables. A name
@@ -85,22 +168,37 @@ pub fn join_header(
     for name in &left.key {
         header.put(alloc, name)?;
     }
-    header.put_side(alloc, names.left, &left.rest, &right.rest)?;
-    header.put_side(alloc, names.right, &right.rest, &left.rest)?;
+    let of_right = Names::of_cells(alloc, &right.rest)?;
+    header.put_side(alloc, names.left, &left.rest, &of_right)?;
+    header.put_side(
+        alloc,
+        names.right,
+        &right.rest,
+        &names_of_left(alloc, left)?,
+    )?;
     Ok(header.names)
+}
+
+// The names of all columns of the left table.
+pub(crate) fn names_of_left(alloc: Global, left: &Columns) -> Result<Names, AllocError> {
+    let mut names = Names::of_cells(alloc, &left.key)?;
+    for name in &left.rest {
+        names.add(alloc, name)?;
+    }
+    Ok(names)
 }
 
 // The names of the columns of a join, no two of which are the same.
 #[derive(Drop)]
-struct JoinHeader<'a> {
+pub(crate) struct JoinHeader<'a> {
     first: Option<&'a [u8]>,
-    names: Cells,
+    pub names: Cells,
     there: Names,
 }
 
 impl<'a> JoinHeader<'a> {
     // The name of the first column, if there is one.
-    fn new(alloc: Global, first: Option<&'a [u8]>) -> Result<Self, Reason> {
+    pub fn new(alloc: Global, first: Option<&'a [u8]>) -> Result<Self, Reason> {
         let mut header = JoinHeader {
             first,
             names: Cells::new(alloc),
@@ -113,7 +211,7 @@ impl<'a> JoinHeader<'a> {
     }
 
     // Puts the name of the next column.
-    fn put(&mut self, alloc: Global, name: &[u8]) -> Result<(), Reason> {
+    pub fn put(&mut self, alloc: Global, name: &[u8]) -> Result<(), Reason> {
         if self.there.add(alloc, name)? {
             self.names.push(name)?;
             return Ok(());
@@ -129,40 +227,32 @@ impl<'a> JoinHeader<'a> {
     }
 
     // Puts the names of a side, with a word before each that the other side has too.
-    fn put_side(
+    pub fn put_side(
         &mut self,
         alloc: Global,
         word: &str,
         names: &Cells,
-        others: &Cells,
+        others: &Names,
     ) -> Result<(), Reason> {
-        let others = Names::of_cells(alloc, others)?;
         for name in names {
-            let mut told = Vec::new(alloc);
-            if others.has(name) {
-                told.extend_from_slice(word.as_bytes())?;
-            }
-            told.extend_from_slice(name)?;
-            self.put(alloc, &told)?;
+            self.put_told(alloc, word, name, others)?;
         }
         Ok(())
     }
-}
 
-// Puts a row of a side, or an empty cell for each name of its columns.
-fn put_side(
-    written: &mut Written,
-    side: Option<&Group>,
-    place: usize,
-    names: &Cells,
-) -> Result<(), Reason> {
-    match side.and_then(|group| group.rows().get(place)) {
-        Some(cells) => written.put(cells)?,
-        None => {
-            for _ in names {
-                written.put_cell(b"")?;
-            }
+    // Puts the name of the next column, with a word before it if it is one of others.
+    pub fn put_told(
+        &mut self,
+        alloc: Global,
+        word: &str,
+        name: &[u8],
+        others: &Names,
+    ) -> Result<(), Reason> {
+        let mut told = Vec::new(alloc);
+        if others.has(name) {
+            told.extend_from_slice(word.as_bytes())?;
         }
+        told.extend_from_slice(name)?;
+        self.put(alloc, &told)
     }
-    Ok(())
 }

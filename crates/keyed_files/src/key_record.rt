@@ -1,11 +1,12 @@
 //! The names of the columns that are the key, as they are given.
 
+use crate::columns::place_of;
 use crate::fault::Reason;
 use crate::names::Names;
 use csv::{ByteRecord, Reader, ReaderBuilder};
 use keyed_rows::Cells;
 use keyed_text::{Marks, Strict};
-use std::alloc::Global;
+use std::alloc::{AllocError, Global};
 
 // How such a text is parted.
 const COMMAS: Marks = Marks {
@@ -13,17 +14,51 @@ const COMMAS: Marks = Marks {
     comment: None,
 };
 
-/// The names that a text gives, which is one record of CSV with commas between its cells.
+/// The names of the columns that are the key: those that they have in the first table, and those in the others, in the same order.
+#[derive(Drop)]
+pub struct KeyNames {
+    pub first: Cells,
+    pub others: Cells,
+}
+
+impl KeyNames {
+    /// Columns that have these names in each table.
+    ///
+    /// # Errors
+    ///
+    /// Returns `AllocError` if a request for memory was refused.
+    pub fn alike(names: Cells) -> Result<Self, AllocError> {
+        let others = names.clone()?;
+        Ok(KeyNames {
+            first: names,
+            others,
+        })
+    }
+
+    /// The name in the other tables of the column that has this one in the first, if it is a column of the key.
+    pub fn other_of(&self, name: &[u8]) -> Option<&[u8]> {
+        self.others.get(place_of(&self.first, name)?)
+    }
+}
+
+/// The names that a text gives, which is one record of CSV with commas between its cells. A column whose names differ has them both, with an
+/// `=` between them. Two `=` side by side, read from the left, are one of a name.
 ///
 /// # Errors
 ///
-/// Returns `KeyNoRecord` if the text is another number of records or its quotes are not in order, `RepeatedName` if two names are the
-/// same, and `NoMemory` if a request for memory was refused.
-pub fn key_names(alloc: Global, text: &str) -> Result<Cells, Reason> {
+/// Returns `KeyNoRecord` if the text is another number of records or its quotes are not in order, `ManyNames` if a column has more than two
+/// names, `RepeatedName` if two names of one table are the same, and `NoMemory` if a request for memory was refused.
+///
+/// ```
+/// let names = key_names(alloc, "customer_id=id,year")?;
+/// assert!(rt; names.first.get(0) == Some(b"customer_id") && names.others.get(0) == Some(b"id"));
+/// assert!(rt; names.first.get(1) == Some(b"year") && names.others.get(1) == Some(b"year"));
+/// ```
+pub fn key_names(alloc: Global, text: &str) -> Result<KeyNames, Reason> {
     if text.is_empty() {
         let mut names = Cells::new(alloc);
         names.push(b"")?;
-        return Ok(names);
+        return Ok(KeyNames::alike(names)?);
     }
     let mut reader = ReaderBuilder::new()
         .has_headers(false)
@@ -49,15 +84,94 @@ fn read_key(reader: &mut Reader<Strict<&[u8]>>, record: &mut ByteRecord) -> Resu
     Ok(outcome?)
 }
 
-// The cells of a record, no two of which are the same.
-fn names_of(alloc: Global, record: &ByteRecord) -> Result<Cells, Reason> {
-    let mut names = Cells::new(alloc);
-    let mut seen = Names::new(alloc);
-    for name in record.iter() {
-        if !seen.add(alloc, name)? {
+// The names that the cells of a record give, no two of which are the same in one table.
+fn names_of(alloc: Global, record: &ByteRecord) -> Result<KeyNames, Reason> {
+    let mut first = NewNames::new(alloc);
+    let mut others = NewNames::new(alloc);
+    for cell in record.iter() {
+        let column = names_of_cell(alloc, cell)?;
+        others.put(alloc, column.other.as_ref().unwrap_or(&column.first))?;
+        first.put(alloc, &column.first)?;
+    }
+    Ok(KeyNames {
+        first: first.names,
+        others: others.names,
+    })
+}
+
+// Names of which no two are the same.
+#[derive(Drop)]
+struct NewNames {
+    names: Cells,
+    seen: Names,
+}
+
+impl NewNames {
+    fn new(alloc: Global) -> Self {
+        NewNames {
+            names: Cells::new(alloc),
+            seen: Names::new(alloc),
+        }
+    }
+
+    fn put(&mut self, alloc: Global, name: &[u8]) -> Result<(), Reason> {
+        if !self.seen.add(alloc, name)? {
             return Err(Reason::RepeatedName(Vec::from_slice(alloc, name)?));
         }
-        names.push(name)?;
+        self.names.push(name)?;
+        Ok(())
+    }
+}
+
+// The name of a column in the first table, and its name in the others where that is another.
+#[derive(Drop)]
+struct TwoNames {
+    first: Vec<u8>,
+    other: Option<Vec<u8>>,
+}
+
+impl TwoNames {
+    // Puts a byte behind the name that is read.
+    fn put(&mut self, byte: u8) -> Result<(), AllocError> {
+        match &mut self.other {
+            Some(name) => name.push(byte)?,
+            None => self.first.push(byte)?,
+        }
+        Ok(())
+    }
+
+    // Begins the name in the others, unless it is begun: then it returns false.
+    fn begin_other(&mut self, alloc: Global) -> bool {
+        if self.other.is_some() {
+            return false;
+        }
+        self.other = Some(Vec::new(alloc));
+        true
+    }
+}
+
+// The names that a cell gives, with one `=` between them. Two are one of a name.
+fn names_of_cell(alloc: Global, cell: &[u8]) -> Result<TwoNames, Reason> {
+    let mut names = TwoNames {
+        first: Vec::new(alloc),
+        other: None,
+    };
+    // Whether an `=` has come that is one of a name if another comes next.
+    let mut waits = false;
+    for byte in cell {
+        let parts = waits && *byte != b'=';
+        if parts && !names.begin_other(alloc) {
+            return Err(Reason::ManyNames(Vec::from_slice(alloc, cell)?));
+        }
+        if waits || *byte != b'=' {
+            names.put(*byte)?;
+            waits = false;
+        } else {
+            waits = true;
+        }
+    }
+    if waits && !names.begin_other(alloc) {
+        return Err(Reason::ManyNames(Vec::from_slice(alloc, cell)?));
     }
     Ok(names)
 }

@@ -4,6 +4,9 @@
 //! Tables by key stand above this crate, in `keyed_commands`.
 #![tactic(auto)]
 
+mod ahead;
+mod asked;
+mod buffer;
 mod by_line;
 mod checked;
 mod column_changes;
@@ -16,15 +19,20 @@ mod header;
 mod joined_rows;
 mod key_record;
 mod lined_up;
+mod lookups;
+mod merging;
 mod names;
 mod new_columns;
 mod opened;
+mod overlays;
 mod parts;
+mod placed;
 mod request;
 mod sign;
 mod source;
 mod written;
 
+pub use asked::{Asked, GitDiff, GitMerge};
 pub use column_changes::ColumnChanges;
 pub use columns::{Columns, JoinColumns, Place, columns_of, join_columns};
 pub use encoding::Encoding;
@@ -32,17 +40,20 @@ pub use fate::Fate;
 pub use fault::{Fault, Reason};
 pub use first_cell::quote_first;
 pub use joined_rows::{Sides, join_header};
-pub use key_record::key_names;
+pub use key_record::{KeyNames, key_names};
 pub use lined_up::{
     Colour, Grid, Line, Shown, ShownCell, ShownName, heading, line_under, line_up, put_both,
     put_shown, put_version,
 };
+pub use lookups::{Finding, Lookup, LookupKind, lookup_header};
+pub use merging::{Conflicts, Merging, Unit};
 pub use new_columns::{changed_columns, marked_names, merged_columns};
 pub use opened::{Opened, Stream, Two, at};
+pub use overlays::{Layer, NamedFile, Overlay};
 pub use parts::Parts;
 pub use request::{
     Colours, Command, Comment, Delimiter, Form, Format, JoinNames, Joining, Kind, Layout, Lengths,
-    Quotes, Reading, Request, Settings, SortedRequest,
+    Quotes, Reading, Request, Settings, SortedRequest, Wanted,
 };
 pub use sign::{Sign, SignedRow};
 pub use source::{Content, Places, Source};

@@ -1,5 +1,5 @@
 //! Names of columns, each found in one step however many there are.
-ghost use Rattle.std.specs.Prelude.{◌≡◌, [], IfOk, OnOk, nat_eq, not};
+ghost use Rattle.std.specs.Prelude.{◌≡◌, ◌^◌, ◌<◌, [], IfOk, IfSome, OnOk, nat_eq, not};
 ghost use Rattle.std.specs.Cmp.Lexicographic.{pointwise};
 ghost use Rattle.std.specs.List.{list_any};
 ghost use Rattle.indexmap.specs.IndexSet.{insert_all, insert_key};
@@ -55,6 +55,21 @@ impl Names {
         Ok(is_new)
     }
 
+    /// These names in one block.
+    ///
+    /// # Errors
+    ///
+    /// Returns `AllocError` if a request for memory was refused.
+    pub fn to_cells(&self, alloc: Global) -> Result<Cells, AllocError>
+        ensures { IfOk result (λ cells. cells ≡ names_in self.now) }
+    {
+        let mut cells = Cells::new(alloc);
+        for name in self.names.as_slice() {
+            cells.push(name)?;
+        }
+        Ok(cells)
+    }
+
     /// How many names these are.
     pub fn len(&self) -> usize {
         self.names.len()
@@ -62,9 +77,14 @@ impl Names {
 
     /// Where a name stands, if it is one of these.
     pub fn place_of(&self, name: &[u8]) -> Option<usize>
-        ensures { result ≡ place_in (names_in self.now) name.now }
+        ensures place { result ≡ place_in (names_in self.now) name.now }
+        ensures bound { IfSome result (λ place. place < 2 ^ 63) }
     {
-        self.names.get_index_of(name)
+        match self.names.get_index_of(name) {
+            // Each place is less than that, which is less than a place may be.
+            Some(place) => Some(place.min(self.names.len())),
+            None => None,
+        }
     }
 
     /// Whether a name is one of these.

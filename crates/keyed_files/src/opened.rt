@@ -3,6 +3,7 @@
 use crate::column_changes::ColumnChanges;
 use crate::columns::{Columns, JoinColumns, columns_of, join_columns};
 use crate::fault::{Fault, Reason};
+use crate::key_record::key_names;
 use crate::new_columns::{changed_columns, marked_names};
 use crate::request::{Delimiter, Form};
 use crate::source::{Content, Source};
@@ -44,10 +45,26 @@ where
     }
 }
 
-impl<R> Opened<'_, R> {
+impl<'a, R> Opened<'a, R> {
     /// The names of the columns.
     pub fn header(&self) -> &Cells {
         self.source.names()
+    }
+
+    /// Gives the columns of a first table that are the key the names which they have in the other tables.
+    ///
+    /// # Errors
+    ///
+    /// Returns as a fault of the file the errors of `key_names`; `NoColumn` if the header lacks a column that gets another name,
+    /// `RepeatedColumn` if it has one more than once, and `NamedTwice` if another column has the name.
+    pub fn rename_key(&mut self, alloc: Global, key: Option<&str>) -> Result<(), Fault<'a>> {
+        match key {
+            Some(text) => {
+                let names = at(self.file, key_names(alloc, text))?;
+                at(self.file, self.source.rename(&names))
+            }
+            None => Ok(()),
+        }
     }
 }
 

@@ -4,6 +4,9 @@ ghost use Rattle.keyed_text.specs.Texts.{PartsCells};
 ghost use Rattle.keyed_files.specs.Delimiters.{PartsCells-prop};
 
 use crate::fault::{Fault, Reason};
+use crate::lookups::Lookup;
+use crate::merging::Merging;
+use crate::overlays::Overlay;
 
 /// A byte that may stand between cells: an ASCII character that neither ends rows nor quotes cells.
 #[derive(Clone, Copy, Debug)]
@@ -233,6 +236,7 @@ pub enum Request<'a> {
         base: &'a str,
         ours: &'a str,
         theirs: &'a str,
+        how: Merging,
     },
     /// Two tables joined by key.
     Join {
@@ -259,18 +263,39 @@ pub enum SortedRequest<'a> {
     },
 }
 
-/// What a command line asks for.
+/// How much of an answer is wanted.
 #[derive(Clone, Copy, Debug)]
+pub enum Wanted {
+    /// All of it.
+    Answer,
+    /// The status alone: nothing is written.
+    Status,
+}
+
+/// What a command line asks for.
+#[derive(Debug, Drop)]
 pub enum Command<'a> {
     /// An answer that is written once all of it is known.
     Whole {
         settings: Settings<'a>,
         request: Request<'a>,
+        wanted: Wanted,
     },
     /// An answer that is written while its tables are read.
     Sorted {
         layout: Layout<'a>,
         request: SortedRequest<'a>,
+        wanted: Wanted,
+    },
+    /// Rows looked up in another table, which are written while they are read.
+    Lookup {
+        layout: Layout<'a>,
+        request: Lookup<'a>,
+    },
+    /// Tables that are laid one over the other.
+    Overlay {
+        settings: Settings<'a>,
+        request: Overlay<'a>,
     },
 }
 
@@ -284,7 +309,12 @@ impl Request<'_> {
         match self {
             Request::Diff { old, new, .. } => check_files(&[old, new]),
             Request::Apply { old, changes } => check_files(&[old, changes]),
-            Request::Merge { base, ours, theirs } => check_files(&[base, ours, theirs]),
+            Request::Merge {
+                base,
+                ours,
+                theirs,
+                ..
+            } => check_files(&[base, ours, theirs]),
             Request::Join { left, right, .. } => check_files(&[left, right]),
         }
     }
@@ -305,7 +335,7 @@ impl SortedRequest<'_> {
 }
 
 // Tells that no more than one of the files is the standard input.
-fn check_files<'a>(files: &[&str]) -> Result<(), Fault<'a>> {
+pub(crate) fn check_files<'a>(files: &[&str]) -> Result<(), Fault<'a>> {
     if files.iter().filter(|file| **file == "-").count() > 1 {
         Err(Fault {
             file: "-",

@@ -1,4 +1,6 @@
 //! The sign of a row in a table of changes.
+ghost use Rattle.std.specs.Prelude.{◌≡◌};
+ghost use Rattle.keyed_files.specs.Rows.{shown_sign};
 
 use keyed_rows::ReadRow;
 
@@ -13,7 +15,9 @@ pub enum Sign {
 
 impl Sign {
     /// The cell that says so.
-    pub fn cell(self) -> &'static [u8] {
+    pub fn cell(self) -> &'static [u8]
+        ensures { result.now ≡ shown_sign self }
+    {
         match self {
             Sign::Minus => b"-",
             Sign::Plus => b"+",

@@ -1,18 +1,27 @@
 //! A file read row by row: the header first, and then the rows under the columns that are asked for.
-ghost use Rattle.std.specs.Prelude.{◌≡◌, OnOk, map};
+ghost use Rattle.std.specs.Prelude.{◌≡◌, ◌≤◌, [], IfOk, IfSome, OnOk, is_some, map};
+ghost use Rattle.std.specs.Io.KnownBytes.{Keeps};
 ghost use Rattle.csv.specs.Records.{fields_of};
+ghost use Rattle.keyed_text.specs.Streams.{GivesRow, HasRead};
+ghost use Rattle.keyed_files.specs.Headers.{ArePlaces, HeaderOf, cells_before, place_under};
+ghost use Rattle.keyed_files.specs.Lines.{checked_left, lines_left};
 ghost use Rattle.keyed_files.specs.Picked.{cell_at};
+ghost use Rattle.keyed_files.specs.Reading.{GivesRecord, IsOpen, IsPicked, PlacesOf, last_record, next_of, text_read};
+ghost use Rattle.keyed_files.specs.Writing.{comment_of, delimiter_of};
+ghost use Rattle.keyed_files.specs.declared.source.Next.TheVariants.{Read};
 
 use crate::by_line::ByLine;
-use crate::checked::Checked;
+use crate::checked::{Checked, marks_of};
 use crate::columns::Columns;
+use crate::encoding::Encoding;
 use crate::fault::Reason;
 use crate::header::Header;
-use crate::names::Names;
-use crate::request::{Comment, Form, Lengths, Quotes};
+use crate::key_record::KeyNames;
+use crate::request::{Form, Lengths, Quotes};
 use crate::sign::{Sign, SignedRow};
-use csv::{ByteRecord, Reader, ReaderBuilder};
+use csv::ByteRecord;
 use keyed_rows::{Cells, Key, ReadRow};
+use keyed_text::RowReader;
 use std::alloc::{AllocError, Global};
 use std::io::Read;
 
@@ -23,17 +32,26 @@ pub enum Content {
     Changes,
 }
 
+/// What a source gives next.
+#[derive(Clone, Copy)]
+pub enum Next {
+    /// The record that was read last, which is the first row and no header.
+    Kept,
+    /// The next record of the reader.
+    Read,
+    /// None: the reader has no more.
+    Ended,
+}
+
 /// A reader whose names of columns are known, and whose rows are not read. It is large, as it holds what was read ahead, and so in a box.
 #[derive(Drop)]
 pub struct Source<R> {
     alloc: Global,
-    reader: Reader<Checked<R>>,
+    reader: RowReader<Checked<R>>,
     // The row that was read last.
-    record: ByteRecord,
-    // Whether that is the first row, which is no header, and not given yet.
-    waits: bool,
-    // How many cells stand before those of the columns: one of a table of changes, for the sign.
-    before: usize,
+    last: ByteRecord,
+    next: Next,
+    content: Content,
     // How many cells the first row has, and how many the others may have.
     count: usize,
     lengths: Lengths,
@@ -44,13 +62,28 @@ pub struct Source<R> {
 
 impl<R> Source<R> {
     /// The names of the columns, no two of which are the same. A file with no row has none.
-    pub fn names(&self) -> &Cells {
+    pub fn names(&self) -> &Cells
+        ensures { result.now ≡ self.now.header.names }
+    {
         &self.header.names
     }
 
     /// In a table of changes, the names of the columns that go.
-    pub fn gone(&self) -> &Cells {
+    pub fn gone(&self) -> &Cells
+        ensures { result.now ≡ self.now.header.gone }
+    {
         &self.header.gone
+    }
+
+    /// Gives the columns of a key, which have the names of the first table, those of the others.
+    ///
+    /// # Errors
+    ///
+    /// Returns the errors of `Header::rename`.
+    pub(crate) fn rename(&mut self, key: &KeyNames) -> Result<(), Reason>
+        ensures { self.new ≡ record self.old { header = self.new.header } }
+    {
+        self.header.rename(self.alloc, key)
     }
 }
 
@@ -62,45 +95,28 @@ impl<R: Read + Drop> Source<R> {
     ///
     /// Returns `NoText` if the file begins as one that is no text, `Quotes` if the quotes of the first row are not in order, `Io` if the
     /// reader fails, and `NoMemory` if a request for memory was refused. The first two are let pass where quotes are.
-    pub fn open(
-        alloc: Global,
-        reader: R,
-        form: Form,
-        content: Content,
-    ) -> Result<Box<Self>, Reason> {
-        let before = match content {
-            Content::Rows => 0,
-            Content::Changes => 1,
-        };
-        let lines = begin_lines(alloc, reader, form)?;
-        let mut reader = ReaderBuilder::new()
-            .delimiter(form.delimiter.byte())
-            .comment(form.reading.comment.map(Comment::byte))
-            .has_headers(false)
-            .flexible(true)
-            .from_reader(alloc, Checked::new(lines, form));
+    pub fn open(alloc: Global, reader: R, form: Form, content: Content) -> Result<Box<Self>, Reason>
+        ensures { IfOk result (λ source. IfSome (text_read form (R.remaining reader))
+            (λ text. IsOpen form content R.remaining text source.value)) }
+    {
+        let mut reader = begin_rows(alloc, reader, form)?;
         let mut record = ByteRecord::new(alloc);
         let has_first = read_record(&mut reader, &mut record)?;
         let line = reader.get_ref().lines().row_line();
-        let header = if !has_first {
-            Header::none(alloc)
-        } else if form.has_header {
-            Header::of_record(alloc, &record, before, line)?
-        } else {
-            Header::numbers(alloc, record.len().saturating_sub(before), line)?
-        };
+        let header = header_of(alloc, form, content, has_first, &record, line)?;
         let source = Source {
             alloc,
             reader,
-            waits: has_first && !form.has_header,
-            before,
+            next: next_of(has_first, form.has_header),
+            content,
             count: record.len(),
-            record,
+            last: record,
             lengths: form.reading.lengths,
             picked: Cells::new(alloc),
             header,
         };
-        Ok(Box::new(alloc, source)?)
+        let source = Box::new(alloc, source)?;
+        Ok(source)
     }
 
     /// Where the cells of these columns stand in a row.
@@ -109,8 +125,10 @@ impl<R: Read + Drop> Source<R> {
     ///
     /// Returns `NoColumn` if the header lacks a column of the key, `RepeatedColumn` if it has one more than once, and `NoMemory` if a
     /// request for memory was refused.
-    pub fn places(&self, columns: &Columns) -> Result<Places, Reason> {
-        Places::new(self.alloc, &self.header, self.before, columns)
+    pub fn places(&self, columns: &Columns) -> Result<Places, Reason>
+        ensures { IfOk result (PlacesOf self.now columns.now) }
+    {
+        Places::new(self.alloc, &self.header, self.content, columns)
     }
 
     /// Reads the next row, if there is one. A cell of a column that the header lacks is empty.
@@ -119,10 +137,13 @@ impl<R: Read + Drop> Source<R> {
     ///
     /// Returns `CellCount` if the row has another number of cells than it may have, `Quotes` if its quotes are not in order, `Io` if the
     /// reader fails, and `NoMemory` if a request for memory was refused.
-    pub fn read_row(&mut self, places: &Places) -> Result<Option<ReadRow>, Reason> {
+    pub fn read_row(&mut self, places: &Places) -> Result<Option<ReadRow>, Reason>
+        ensures gives { IfOk result (λ row. GivesRecord R.remaining self.old self.new (is_some row)) }
+        ensures picked { IfOk result (λ row. IfSome row (IsPicked places.now (last_record self.new))) }
+    {
         if self.read_record()? {
             let line = self.row_line();
-            let row = places.pick_row(&mut self.picked, line, &self.record)?;
+            let row = places.pick_row(&mut self.picked, line, &self.last)?;
             Ok(Some(row))
         } else {
             Ok(None)
@@ -139,8 +160,8 @@ impl<R: Read + Drop> Source<R> {
             return Ok(None);
         }
         let line = self.row_line();
-        let sign = sign_of(line, &self.record)?;
-        let row = places.pick_row(&mut self.picked, line, &self.record)?;
+        let sign = sign_of(line, &self.last)?;
+        let row = places.pick_row(&mut self.picked, line, &self.last)?;
         Ok(Some(SignedRow { sign, row }))
     }
 
@@ -149,23 +170,37 @@ impl<R: Read + Drop> Source<R> {
         self.reader.get_ref().lines().row_line()
     }
 
+    // Takes the next record, or says that there is none.
+    fn read_record(&mut self) -> Result<bool, Reason>
+        ensures { IfOk result (GivesRecord R.remaining self.old self.new) }
+    {
+        match self.next {
+            Next::Kept => {
+                self.next = Next::Read;
+                Ok(true)
+            }
+            Next::Read => self.read_next(),
+            Next::Ended => Ok(false),
+        }
+    }
+
     // Reads the next record, or says that there is none.
-    fn read_record(&mut self) -> Result<bool, Reason> {
-        if self.waits {
-            self.waits = false;
-            return Ok(true);
-        }
+    fn read_next(&mut self) -> Result<bool, Reason>
+        ensures { IfOk result (λ found. self.old.next ≡ Read → GivesRecord R.remaining self.old self.new found) }
+    {
         self.reader.get_ref().lines().begin_row();
-        let has_record = read_record(&mut self.reader, &mut self.record)?;
-        if has_record {
+        let found = read_record(&mut self.reader, &mut self.last)?;
+        if found {
             self.check_count()?;
+        } else {
+            self.next = Next::Ended;
         }
-        Ok(has_record)
+        Ok(found)
     }
 
     // Tells that the row has as many cells as it may.
     fn check_count(&self) -> Result<(), Reason> {
-        let found = self.record.len();
+        let found = self.last.len();
         let may_have = match self.lengths {
             Lengths::Equal => found == self.count,
             Lengths::Ragged => found <= self.count || self.is_empty_from(self.count),
@@ -183,29 +218,100 @@ impl<R: Read + Drop> Source<R> {
 
     // Whether all cells of the row are empty from a place on.
     fn is_empty_from(&self, place: usize) -> bool {
-        self.record.iter().skip(place).all(|cell| cell.is_empty())
+        self.last.iter().skip(place).all(|cell| cell.is_empty())
     }
+}
+
+// How many cells stand before those of the columns: one of changes, for the sign.
+fn cells_before(content: Content) -> usize
+    ensures value { result ≡ cells_before content }
+    ensures bound { result ≤ 1 }
+{
+    match content {
+        Content::Rows => 0,
+        Content::Changes => 1,
+    }
+}
+
+// The header of a file that has a first row or none.
+fn header_of(
+    alloc: Global,
+    form: Form,
+    content: Content,
+    has_first: bool,
+    row: &ByteRecord,
+    line: u64,
+) -> Result<Header, AllocError>
+    ensures { IfOk result (λ header. HeaderOf form.has_header content has_first (fields_of row.now) header.names) }
+{
+    let before = cells_before(content);
+    if !has_first {
+        Ok(Header::none(alloc))
+    } else if form.has_header {
+        Header::of_record(alloc, row, before, line)
+    } else {
+        Header::numbers(alloc, row.len().saturating_sub(before), line)
+    }
+}
+
+// The rows of a file that is text, or is to be read as it is.
+fn begin_rows<R: Read + Drop>(
+    alloc: Global,
+    reader: R,
+    form: Form,
+) -> Result<RowReader<Checked<R>>, Reason>
+    ensures { IfOk result (λ rows. IfSome (text_read form (R.remaining reader))
+        (λ text. HasRead (delimiter_of form) (comment_of form) (checked_left R.remaining) text [] rows)) }
+{
+    let file = begin_lines(alloc, reader, form)?;
+    let lines = Checked::new(file, form);
+    let marks = marks_of(form);
+    let rows = RowReader::new(alloc, lines, marks);
+    Ok(rows)
 }
 
 // The lines of a file that is text, or is to be read as it is.
-fn begin_lines<R: Read + Drop>(alloc: Global, reader: R, form: Form) -> Result<ByLine<R>, Reason> {
+fn begin_lines<R: Read + Drop>(alloc: Global, reader: R, form: Form) -> Result<ByLine<R>, Reason>
+    ensures { IfOk result (λ lines. Keeps (text_read form (R.remaining reader)) (lines_left R.remaining lines)) }
+{
     let mut lines = ByLine::new(alloc, reader, form.reading)?;
     let encoding = lines.begin()?;
-    match form.reading.quotes {
+    check_encoding(form.reading.quotes, encoding)?;
+    Ok(lines)
+}
+
+// Tells that a file is no encoding of a text, unless it is to be read as it is.
+fn check_encoding(quotes: Quotes, encoding: Option<Encoding>) -> Result<(), Reason> {
+    match quotes {
         Quotes::Strict => match encoding {
             Some(encoding) => Err(Reason::NoText(encoding)),
-            None => Ok(lines),
+            None => Ok(()),
         },
-        Quotes::Lenient => Ok(lines),
+        Quotes::Lenient => Ok(()),
     }
 }
 
-// Reads the next record whose quotes are in order, or says that there is none.
+// What a source gives first, of a file that has a row or none.
+fn next_of(has_first: bool, has_header: bool) -> Next
+    ensures { result ≡ next_of has_first has_header }
+{
+    if !has_first {
+        Next::Ended
+    } else if has_header {
+        Next::Read
+    } else {
+        Next::Kept
+    }
+}
+
+// Reads the next row whose quotes are in order, or says that there is none.
 fn read_record<R: Read>(
-    reader: &mut Reader<Checked<R>>,
-    record: &mut ByteRecord,
-) -> Result<bool, Reason> {
-    let outcome = reader.read_byte_record(record);
+    reader: &mut RowReader<Checked<R>>,
+    row: &mut ByteRecord,
+) -> Result<bool, Reason>
+    ensures { IfOk result (λ found. GivesRow (checked_left R.remaining) reader.old reader.new found (fields_of row.new)) }
+{
+    let outcome = reader.read_row(row);
     let checked = reader.get_ref();
     if let Some(fault) = checked.quote_fault() {
         let line = checked.lines().row_line();
@@ -215,8 +321,8 @@ fn read_record<R: Read>(
 }
 
 // The sign that the first cell of a record on this line is.
-fn sign_of(line: u64, record: &ByteRecord) -> Result<Sign, Reason> {
-    match record.get(0).and_then(Sign::of_cell) {
+fn sign_of(line: u64, row: &ByteRecord) -> Result<Sign, Reason> {
+    match row.get(0).and_then(Sign::of_cell) {
         Some(sign) => Ok(sign),
         None => Err(Reason::NoSign(line)),
     }
@@ -234,14 +340,15 @@ impl Places {
     fn new(
         alloc: Global,
         header: &Header,
-        before: usize,
+        content: Content,
         columns: &Columns,
-    ) -> Result<Self, Reason> {
-        let names = Names::of_cells(alloc, &header.names)?;
-        header.check_key(alloc, &names, &columns.key)?;
+    ) -> Result<Self, Reason>
+        ensures { IfOk result (ArePlaces content header.now.names columns.now) }
+    {
+        header.check_key(alloc, &columns.key)?;
         Ok(Places {
-            key: find_places(alloc, &names, before, &columns.key)?,
-            rest: find_places(alloc, &names, before, &columns.rest)?,
+            key: find_places(alloc, header, content, &columns.key)?,
+            rest: find_places(alloc, header, content, &columns.rest)?,
         })
     }
 
@@ -250,11 +357,13 @@ impl Places {
         &self,
         picked: &mut Cells,
         line: u64,
-        record: &ByteRecord,
-    ) -> Result<ReadRow, AllocError> {
-        pick(picked, record, &self.key)?;
+        from: &ByteRecord,
+    ) -> Result<ReadRow, AllocError>
+        ensures { IfOk result (IsPicked self.now (fields_of from.now)) }
+    {
+        pick(picked, from, &self.key)?;
         let key = Key::copied(picked)?;
-        pick(picked, record, &self.rest)?;
+        pick(picked, from, &self.rest)?;
         Ok(ReadRow {
             key,
             line,
@@ -266,16 +375,27 @@ impl Places {
 // Where the cell of each name stands in a row, if the header has the name.
 fn find_places(
     alloc: Global,
-    header: &Names,
-    before: usize,
+    header: &Header,
+    content: Content,
     names: &Cells,
-) -> Result<Vec<Option<usize>>, AllocError> {
+) -> Result<Vec<Option<usize>>, AllocError>
+    ensures { IfOk result (λ places. places.items ≡ map (place_under content header.now.names) names.now) }
+{
     let mut places = Vec::new(alloc);
     for name in names {
-        let place = header.place_of(name);
-        places.push(place.map(|place| place.saturating_add(before)))?;
+        places.push(find_place(header, content, name))?;
     }
     Ok(places)
+}
+
+// Where the cell of a name stands in a row, if the header has the name.
+fn find_place(header: &Header, content: Content, name: &[u8]) -> Option<usize>
+    ensures { result ≡ place_under content header.now.names name.now }
+{
+    match header.place_of(name) {
+        Some(place) => Some(place + cells_before(content)),
+        None => None,
+    }
 }
 
 // Picks the cells of a record at these places, each of which is empty where there is no place.

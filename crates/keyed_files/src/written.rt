@@ -1,28 +1,32 @@
 //! Rows written as CSV, in memory.
+ghost use Rattle.std.specs.Prelude.{◌≡◌, ◌∷◌, ◌++◌, [], List, ℕ, IfOk, OnOk, option_map};
+ghost use Rattle.keyed_files.specs.Rows.{first_cells, has_heading, heading, names_row, placed, rows_under, shown_sign, table_rows};
+ghost use Rattle.keyed_files.specs.Writing.{EndsRow, IsTextOf, PutsCells, PutsRows, Wrote, quoted_text};
 
+use crate::checked::marks_of;
 use crate::columns::{Columns, Place};
 use crate::fault::Reason;
 use crate::first_cell::quote_first;
-use crate::request::{Comment, Form};
+use crate::placed::PlacedCells;
+use crate::request::Form;
 use crate::sign::Sign;
-use csv::{Writer, WriterBuilder};
-use keyed_rows::{Cells, Group, Iter, Key};
+use keyed_rows::{Cells, Group, Key};
+use keyed_text::RowWriter;
 use std::alloc::Global;
 
 /// A table in the making.
 #[derive(Drop)]
 pub struct Written {
-    writer: Writer<Vec<u8>>,
+    rows: RowWriter<Vec<u8>>,
 }
 
 impl Written {
     /// No row yet.
-    pub fn new(alloc: Global, form: Form) -> Self {
+    pub fn new(alloc: Global, form: Form) -> Self
+        ensures { Wrote form [] result }
+    {
         Written {
-            writer: WriterBuilder::new()
-                .delimiter(form.delimiter.byte())
-                .comment(form.reading.comment.map(Comment::byte))
-                .from_writer(Vec::new(alloc)),
+            rows: RowWriter::new(Vec::new(alloc), marks_of(form)),
         }
     }
 
@@ -31,9 +35,11 @@ impl Written {
     /// # Errors
     ///
     /// Returns `NoMemory`, or `Io` with the error that the writer makes of it, if a request for memory was refused.
-    pub fn put(&mut self, cells: &Cells) -> Result<(), Reason> {
+    pub fn put(&mut self, cells: &Cells) -> Result<(), Reason>
+        ensures { OnOk result (PutsCells self.old self.new cells.now) }
+    {
         for cell in cells {
-            self.writer.write_field(cell)?;
+            self.put_cell(cell)?;
         }
         Ok(())
     }
@@ -43,8 +49,10 @@ impl Written {
     /// # Errors
     ///
     /// Returns `NoMemory`, or `Io` with the error that the writer makes of it, if a request for memory was refused.
-    pub fn put_cell(&mut self, cell: &[u8]) -> Result<(), Reason> {
-        self.writer.write_field(cell)?;
+    pub fn put_cell(&mut self, cell: &[u8]) -> Result<(), Reason>
+        ensures { OnOk result (PutsCells self.old self.new (cell.now ∷ [])) }
+    {
+        self.rows.put_cell(cell)?;
         Ok(())
     }
 
@@ -54,8 +62,10 @@ impl Written {
     ///
     /// Returns `CellCount` if a row has more or fewer cells than the first one, and `NoMemory`, or `Io` with the error that the
     /// writer makes of it, if a request for memory was refused.
-    pub fn end_row(&mut self) -> Result<(), Reason> {
-        self.writer.end_record()?;
+    pub fn end_row(&mut self) -> Result<(), Reason>
+        ensures { OnOk result (EndsRow self.old self.new) }
+    {
+        self.rows.end_row()?;
         Ok(())
     }
 
@@ -64,17 +74,31 @@ impl Written {
     /// # Errors
     ///
     /// Returns `NoMemory`, or `Io` with the error that the writer makes of it, if a request for memory was refused.
-    pub fn finish(self) -> Result<Vec<u8>, Reason> {
-        match self.writer.into_inner() {
-            Ok(bytes) => Ok(bytes),
-            Err(error) => Err(Reason::from(error.into_error())),
-        }
+    pub fn finish(self) -> Result<Vec<u8>, Reason>
+        ensures { IfOk result (λ text. IsTextOf self text.items) }
+    {
+        let text = self.rows.finish()?;
+        Ok(text)
     }
 
     // Puts a cell that stands before those of a row, if there is one.
-    pub(crate) fn put_first(&mut self, first: Option<&[u8]>) -> Result<(), Reason> {
-        if let Some(cell) = first {
-            self.put_cell(cell)?;
+    pub(crate) fn put_first(&mut self, first: Option<&[u8]>) -> Result<(), Reason>
+        ensures { OnOk result (PutsCells self.old self.new
+            (first_cells (option_map (λ cell. cell.now) first.entry))) }
+    {
+        match first {
+            Some(cell) => self.put_cell(cell),
+            None => Ok(()),
+        }
+    }
+
+    // Puts the cells of a whole row in an order of columns.
+    fn put_placed(&mut self, order: &[Place], key: &Key, rest: &Cells) -> Result<(), Reason>
+        ensures { OnOk result (PutsCells self.old self.new (placed order.now key.now rest.now)) }
+    {
+        let mut cells = PlacedCells::new(key, rest);
+        for place in order {
+            self.put_cell(cells.take(*place))?;
         }
         Ok(())
     }
@@ -83,21 +107,27 @@ impl Written {
     fn put_row(
         &mut self,
         first: Option<&[u8]>,
-        columns: &Columns,
+        order: &[Place],
         key: &Key,
         rest: &Cells,
-    ) -> Result<(), Reason> {
+    ) -> Result<(), Reason>
+        ensures { OnOk result (PutsRows self.old self.new
+            ((first_cells (option_map (λ cell. cell.now) first.entry) ++ placed order.now key.now rest.now) ∷ [])) }
+    {
         self.put_first(first)?;
-        let mut key = CellsByPlace::new(key);
-        let mut rest = rest.iter();
-        for place in &columns.order {
-            let cell = match place {
-                Place::Key(place) => key.get(*place),
-                Place::Rest => rest.next(),
-            };
-            self.put_cell(cell.unwrap_or(b""))?;
-        }
-        self.end_row()
+        self.put_placed(order, key, rest)?;
+        self.end_row()?;
+        Ok(())
+    }
+
+    // Puts the names of columns, behind a first cell if there is one, and ends the row.
+    fn put_heading(&mut self, first: Option<&[u8]>, columns: &Columns) -> Result<(), Reason>
+        ensures { OnOk result (PutsRows self.old self.new
+            (names_row (option_map (λ cell. cell.now) first.entry) columns.now ∷ [])) }
+    {
+        let key = Key::copied(&columns.key)?;
+        self.put_row(first, &columns.order, &key, &columns.rest)?;
+        Ok(())
     }
 
     /// Puts the rows under a key, each behind a sign if there is one.
@@ -112,39 +142,25 @@ impl Written {
         columns: &Columns,
         key: &Key,
         rows: &Group,
-    ) -> Result<(), Reason> {
+    ) -> Result<(), Reason>
+        ensures { OnOk result (PutsRows self.old self.new
+            (rows_under (option_map shown_sign sign) columns.now.order.items key.now rows.now)) }
+    {
+        let first = cell_of(sign);
         for rest in rows.rows() {
-            self.put_row(sign.map(Sign::cell), columns, key, rest)?;
+            self.put_row(first, &columns.order, key, rest)?;
         }
         Ok(())
     }
 }
 
-// The cells of a key, found by their places: the next place takes one step, and only an earlier one begins anew.
-#[derive(Drop)]
-struct CellsByPlace<'a> {
-    cells: &'a Key,
-    next: Iter<'a>,
-    place: usize,
-}
-
-impl<'a> CellsByPlace<'a> {
-    fn new(cells: &'a Key) -> Self {
-        CellsByPlace {
-            cells,
-            next: cells.iter(),
-            place: 0,
-        }
-    }
-
-    fn get(&mut self, place: usize) -> Option<&'a [u8]> {
-        if place < self.place {
-            self.next = self.cells.iter();
-            self.place = 0;
-        }
-        let skipped = place - self.place;
-        self.place = place.saturating_add(1);
-        self.next.nth(skipped)
+// The cell that a sign is, if there is one.
+fn cell_of(sign: Option<Sign>) -> Option<&'static [u8]>
+    ensures { option_map (λ cell. cell.now) result ≡ option_map shown_sign sign }
+{
+    match sign {
+        Some(sign) => Some(sign.cell()),
+        None => None,
     }
 }
 
@@ -158,15 +174,24 @@ pub fn begin_table(
     form: Form,
     first: Option<&[u8]>,
     columns: &Columns,
-) -> Result<Written, Reason> {
+) -> Result<Written, Reason>
+    ensures { IfOk result (λ written. Wrote form
+        (heading form (option_map (λ cell. cell.now) first.entry) columns.now) written) }
+{
     let mut written = Written::new(alloc, form);
-    // Files with no row make a table of no column, whose header is none.
-    let has_cell = first.is_some() || !columns.order.is_empty();
-    if form.has_header && has_cell {
-        let key = Key::copied(&columns.key)?;
-        written.put_row(first, columns, &key, &columns.rest)?;
+    if has_heading(form, first, columns) {
+        written.put_heading(first, columns)?;
+        Ok(written)
+    } else {
+        Ok(written)
     }
-    Ok(written)
+}
+
+// Whether a table has a header. Files with no row make a table of no column, whose header is none.
+fn has_heading(form: Form, first: Option<&[u8]>, columns: &Columns) -> bool
+    ensures { result ≡ has_heading form (option_map (λ cell. cell.now) first.entry) columns.now }
+{
+    form.has_header && (first.is_some() || !columns.order.is_empty())
 }
 
 /// A table as CSV: its header, if it has one, and its rows, by key. Each row is dropped once it is written.
@@ -180,10 +205,27 @@ pub fn write_table(
     form: Form,
     columns: &Columns,
     rows: Vec<(Key, Group)>,
-) -> Result<Vec<u8>, Reason> {
+) -> Result<Vec<u8>, Reason>
+    ensures { IfOk result (λ text. text.items
+        ≡ quoted_text form (heading form None columns.now ++ table_rows columns.now.order.items rows.items)) }
+{
     let mut written = begin_table(alloc, form, None, columns)?;
-    for (key, group) in rows {
-        written.put_rows(None, columns, &key, &group)?;
+    put_table(&mut written, columns, rows)?;
+    let text = written.finish()?;
+    let given = quote_first(alloc, text, form.delimiter)?;
+    Ok(given)
+}
+
+// Puts rows, by key. Each row is dropped once it is written.
+fn put_table(
+    written: &mut Written,
+    columns: &Columns,
+    rows: Vec<(Key, Group)>,
+) -> Result<(), Reason>
+    ensures { OnOk result (PutsRows written.old written.new (table_rows columns.now.order.items rows.items)) }
+{
+    for row in rows {
+        written.put_rows(None, columns, &row.0, &row.1)?;
     }
-    Ok(quote_first(alloc, written.finish()?, form.delimiter)?)
+    Ok(())
 }

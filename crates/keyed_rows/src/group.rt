@@ -6,7 +6,20 @@ ghost use Rattle.std.specs.Cmp.Lexicographic.{lists_equiv, nat_list_eq_equiv, po
 use crate::cells::Cells;
 use std::alloc::{AllocError, Global};
 use std::marker::Model;
+use std::mem::ManuallyDrop;
 use std::{fmt, slice};
+
+/// When the memory of a row is given back.
+///
+/// Rows are dropped in the order of their keys, which is any order in memory. Where there are many, an allocator takes a quarter of a run to
+/// put their blocks together, though the run ends next. Such rows may last.
+#[derive(Clone, Copy, Debug)]
+pub enum Release {
+    /// When the row is dropped.
+    AtDrop,
+    /// When the process ends.
+    AtExit,
+}
 
 /// The rows under a key, without the key, in an order of their own: one, or where keys repeat several. One row alone takes no vector.
 ///
@@ -21,10 +34,11 @@ pub struct Group {
     held: Held,
 }
 
-// One row, or all rows in a vector.
+// One row, one whose memory lasts, or all rows in a vector.
 #[derive(Drop)]
 enum Held {
     One(Cells),
+    Lasting(ManuallyDrop<Cells>),
     All(Vec<Cells>),
 }
 
@@ -52,6 +66,23 @@ impl Group {
         }
     }
 
+    /// Returns the group of one row, whose memory is given back as said, unless a row comes behind it. Takes no memory.
+    ///
+    /// ```
+    /// let group = Group::with_release(Cells::from_slices(alloc, &[b"red"])?, Release::AtDrop);
+    /// assert!(rt; group.rows().len() == 1);
+    /// ```
+    pub fn with_release(row: Cells, release: Release) -> Self
+        ensures { result ≡ row ∷ [] }
+    {
+        Group {
+            held: match release {
+                Release::AtDrop => Held::One(row),
+                Release::AtExit => Held::Lasting(ManuallyDrop::new(row)),
+            },
+        }
+    }
+
     /// Returns the group with a row more, behind the others.
     ///
     /// # Errors
@@ -67,11 +98,8 @@ impl Group {
         ensures { IfOk result (λ group. group ≡ self ++ row ∷ []) }
     {
         let mut rows = match self.held {
-            Held::One(first) => {
-                let mut rows = Vec::with_capacity(alloc, 2)?;
-                rows.push(first)?;
-                rows
-            }
+            Held::One(first) => begin_rows(alloc, first)?,
+            Held::Lasting(first) => begin_rows(alloc, ManuallyDrop::into_inner(first))?,
             Held::All(rows) => rows,
         };
         rows.push(row)?;
@@ -91,9 +119,19 @@ impl Group {
     {
         match &self.held {
             Held::One(row) => slice::from_ref(row),
+            Held::Lasting(row) => slice::from_ref(&**row),
             Held::All(rows) => rows,
         }
     }
+}
+
+// The first row of several.
+fn begin_rows(alloc: Global, first: Cells) -> Result<Vec<Cells>, AllocError>
+    ensures { IfOk result (λ rows. rows.items ≡ first ∷ []) }
+{
+    let mut rows = Vec::with_capacity(alloc, 2)?;
+    rows.push(first)?;
+    Ok(rows)
 }
 
 impl PartialEq for Group {

@@ -13,7 +13,7 @@ mod key;
 mod row;
 
 pub use cells::Cells;
-pub use group::Group;
+pub use group::{Group, Release};
 pub use iter::Iter;
 pub use key::Key;
 pub use row::{ReadRow, RepeatedKey, UniqueError};

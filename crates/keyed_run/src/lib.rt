@@ -2,10 +2,16 @@
 //! status. What the command line asks for stands in the crate `keyed_arguments`, how a request is answered in `keyed_commands`.
 #![tactic(auto)]
 
+mod heading;
 mod words;
 
-use keyed_arguments::{ParseError, parse};
-use keyed_commands::{Colours, Command, Fault, Reason, Shown, at, write_command};
+use heading::write_with_no_heading;
+use keyed_arguments::{Heading, Line, ParseError, parse};
+use keyed_commands::{
+    Asked, Colours, Fault, Reason, Shown, at, write_command, write_git_diff, write_git_merge,
+    write_git_setup, write_git_unmerged, write_into_file,
+};
+use keyed_cut::{Cut, write_cut};
 use std::alloc::{AllocError, Global};
 use std::env::FillError;
 use std::fs;
@@ -15,6 +21,9 @@ use words::{Words, words_of};
 
 // The status of trouble.
 const TROUBLE: u8 = 2;
+
+// The same of a merge for git, which takes one up to 128 for rows in conflict.
+const TROUBLE_FOR_GIT: u8 = 129;
 
 /// Answers the command line of a runtime on the output, and returns the status. Unless tables are read as they rise, nothing is written
 /// before the whole answer is known. What is wrong is said on the standard error, and so is an output that does not take the help; that a
@@ -51,7 +60,8 @@ fn answer_words<R: Files + Env + Input + Print + Eprint + AllocGlobal, W: Write 
         Colours::Off
     };
     match parse(rt.alloc(), words, colours) {
-        Ok(command) => answer(rt, command, output),
+        Ok(Line::Asked { asked, heading }) => answer(rt, asked, heading, output),
+        Ok(Line::Cut(cut)) => cut_tables(rt, cut),
         Err(error) => refuse(rt, words, error),
     }
 }
@@ -68,11 +78,19 @@ fn refuse<R: Print + Eprint + AllocGlobal>(rt: &R, words: &[String], error: Pars
     };
     let printed = error.print(rt);
     if error.use_stderr() {
-        return TROUBLE;
+        return trouble_of(words);
     }
     match at("the standard output", printed) {
         Ok(()) => 0,
         Err(fault) => trouble(rt, fault),
+    }
+}
+
+// The status of trouble with these words.
+fn trouble_of(words: &[String]) -> u8 {
+    match words.get(1) {
+        Some(command) if command.as_str() == "git-merge" => TROUBLE_FOR_GIT,
+        _ => TROUBLE,
     }
 }
 
@@ -98,12 +116,61 @@ fn shown_error(alloc: Global, words: &[String]) -> Result<ParseError, AllocError
 
 fn answer<R: Files + Input + Eprint + AllocGlobal, W: Write>(
     rt: &R,
-    command: Command<'_>,
+    asked: Asked<'_>,
+    heading: Heading,
     output: &mut W,
 ) -> u8 {
-    match write_command(rt, command, output) {
+    let is_for_git = matches!(&asked, Asked::GitMerge { .. });
+    match write_asked(rt, asked, heading, output) {
         Ok(status) => status,
-        Err(fault) => trouble(rt, fault),
+        Err(fault) => {
+            let status = trouble(rt, fault);
+            if is_for_git { TROUBLE_FOR_GIT } else { status }
+        }
+    }
+}
+
+fn write_asked<'a, R: Files + Input + AllocGlobal, W: Write>(
+    rt: &R,
+    asked: Asked<'a>,
+    heading: Heading,
+    output: &mut W,
+) -> Result<u8, Fault<'a>> {
+    match asked {
+        Asked::Answer {
+            command,
+            output: place,
+        } => match place {
+            Some(file) => write_into_file(rt, command, file, output),
+            None => match heading {
+                Heading::Written => write_command(rt, command, output),
+                Heading::LeftOut => write_with_no_heading(rt, command, output),
+            },
+        },
+        Asked::GitDiff {
+            settings,
+            format,
+            diff,
+        } => write_git_diff(rt, settings, format, diff, output),
+        Asked::GitUnmerged { path } => write_git_unmerged(rt, path, output),
+        Asked::GitMerge { settings, merge } => write_git_merge(rt, settings, merge, output),
+        Asked::GitSetup { options } => write_git_setup(rt, options, output),
+    }
+}
+
+// Cuts tables, says which parts take more memory than is asked for, and returns the status.
+fn cut_tables<R: Files + Eprint + AllocGlobal>(rt: &R, cut: Cut<'_>) -> u8 {
+    match write_cut(rt, cut) {
+        Ok(done) => {
+            for part in &done.heavy {
+                let _ = eprintln!(rt; "keyed: {part}");
+            }
+            if done.heavy.is_empty() { 0 } else { 1 }
+        }
+        Err(fault) => {
+            let _ = eprintln!(rt; "keyed: {fault}");
+            TROUBLE
+        }
     }
 }
 

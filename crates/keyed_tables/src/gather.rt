@@ -6,18 +6,22 @@ ghost use Rattle.keyed_tables.specs.Gathered.{AloneLaw, AreInOrder, HoldsRows, a
 ghost use Rattle.keyed_tables.specs.Repeated.{IfRepeated, IsFirstRepeat};
 
 use crate::table::Rows;
-use keyed_rows::{Cells, Group, Key, ReadRow, RepeatedKey, UniqueError};
+use keyed_rows::{Cells, Group, Key, ReadRow, Release, RepeatedKey, UniqueError};
 use std::alloc::{AllocError, Global};
 use std::cmp::Ordering;
 use std::collections::VecDeque;
 
-/// The rows by key, of which no two have the same: each row once, under its key, as a group of one.
+/// The rows by key, of which no two have the same: each row once, under its key, as a group of one whose memory is given back as said.
 ///
 /// # Errors
 ///
 /// Returns `RepeatedKey` if a key stands twice: the least that does, with the lines of its first two rows. Returns `NoMemory` if a request
 /// for memory was refused.
-pub fn unique_rows(alloc: Global, mut rows: Vec<ReadRow>) -> Result<Rows<Key, Group>, UniqueError>
+pub fn unique_rows(
+    alloc: Global,
+    mut rows: Vec<ReadRow>,
+    release: Release,
+) -> Result<Rows<Key, Group>, UniqueError>
     ensures rows { IfOk result (λ table. HoldsRows ⟦<Key as Ord>⟧.cmp
         (map (λ row. (row.key, row.cells)) rows.items) table.pairs.items) }
     ensures unique { IfOk result (λ table.
@@ -33,23 +37,28 @@ pub fn unique_rows(alloc: Global, mut rows: Vec<ReadRow>) -> Result<Rows<Key, Gr
             second: next.line,
         }));
     }
-    let pairs = part_rows(alloc, rows)?;
+    let pairs = part_rows(alloc, rows, release)?;
     law_alone::<Key, Cells>();
     Ok(Rows { pairs })
 }
 
-/// The rows by key, where keys may repeat: each row once, under its key, and those under the same key in the order of their cells.
+/// The rows by key, where keys may repeat: each row once, under its key, and those under the same key in the order of their cells. The
+/// memory of a row whose key has no other is given back as said.
 ///
 /// # Errors
 ///
 /// Returns `AllocError` if a request for memory was refused.
-pub fn grouped_rows(alloc: Global, mut rows: Vec<ReadRow>) -> Result<Rows<Key, Group>, AllocError>
+pub fn grouped_rows(
+    alloc: Global,
+    mut rows: Vec<ReadRow>,
+    release: Release,
+) -> Result<Rows<Key, Group>, AllocError>
     ensures rows { IfOk result (λ table. HoldsRows ⟦<Key as Ord>⟧.cmp
         (map (λ row. (row.key, row.cells)) rows.items) table.pairs.items) }
     ensures order { IfOk result (λ table. AreInOrder ⟦<Cells as Ord>⟧.cmp table.pairs.items) }
 {
     rows.sort_by(|row, next| order_of(row, next))?;
-    let pairs = group_rows(alloc, rows)?;
+    let pairs = group_rows(alloc, rows, release)?;
     Ok(Rows { pairs })
 }
 
@@ -75,18 +84,26 @@ fn first_repeat(rows: &[ReadRow]) -> Option<(&ReadRow, &ReadRow)>
 }
 
 // Each row as a group of its own.
-fn part_rows(alloc: Global, rows: Vec<ReadRow>) -> Result<Vec<(Key, Group)>, AllocError>
+fn part_rows(
+    alloc: Global,
+    rows: Vec<ReadRow>,
+    release: Release,
+) -> Result<Vec<(Key, Group)>, AllocError>
     ensures { IfOk result (λ pairs. pairs.items ≡ map (λ row. alone (row.key, row.cells)) rows.items) }
 {
     let mut pairs = Vec::with_capacity(alloc, rows.len())?;
     for row in rows {
-        pairs.push((row.key, Group::new(row.cells)))?;
+        pairs.push((row.key, Group::with_release(row.cells, release)))?;
     }
     Ok(pairs)
 }
 
 // The rows of neighbours with the same key as groups.
-fn group_rows(alloc: Global, rows: Vec<ReadRow>) -> Result<Vec<(Key, Group)>, AllocError>
+fn group_rows(
+    alloc: Global,
+    rows: Vec<ReadRow>,
+    release: Release,
+) -> Result<Vec<(Key, Group)>, AllocError>
     ensures { IfOk result (λ groups. groups.items
         ≡ key_runs ⟦<Key as Ord>⟧.cmp (map (λ row. (row.key, row.cells)) rows.items)) }
 {
@@ -101,7 +118,7 @@ fn group_rows(alloc: Global, rows: Vec<ReadRow>) -> Result<Vec<(Key, Group)>, Al
                     line: _,
                     cells,
                 } = row;
-                let group = take_group(alloc, &key, cells, &mut rows)?;
+                let group = take_group(alloc, &key, cells, &mut rows, release)?;
                 groups.push((key, group))?;
             }
             None => return Ok(groups),
@@ -115,13 +132,14 @@ fn take_group(
     key: &Key,
     first: Cells,
     rows: &mut VecDeque<ReadRow>,
+    release: Release,
 ) -> Result<Group, AllocError>
     ensures values { IfOk result (λ group. group
         ≡ first ∷ run_values ⟦<Key as Ord>⟧.cmp key.now (map (λ row. (row.key, row.cells)) rows.old.items)) }
     ensures rest { OnOk result (map (λ row. (row.key, row.cells)) rows.new.items
         ≡ run_rest ⟦<Key as Ord>⟧.cmp key.now (map (λ row. (row.key, row.cells)) rows.old.items)) }
 {
-    let mut group = Group::new(first);
+    let mut group = Group::with_release(first, release);
     'group: loop {
         match rows.front() {
             Some(next) => {

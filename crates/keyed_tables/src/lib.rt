@@ -4,12 +4,18 @@
 //! written stands above this crate.
 #![tactic(auto)]
 
+mod by_cell;
 mod gather;
+mod marked;
 mod order;
+mod overlay;
 mod table;
 mod versions;
 
+pub use by_cell::merge_by_cell_of;
 pub use gather::{grouped_rows, unique_rows};
+pub use marked::{Marked, marked_merge_by_cell_of, marked_merge_of};
 pub use order::Order;
+pub use overlay::{filled_over, laid_over};
 pub use table::Rows;
 pub use versions::{changes_of, merge_of, paired, patched};

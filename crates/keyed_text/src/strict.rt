@@ -31,7 +31,9 @@ pub struct Strict<R> {
 
 impl<R> Strict<R> {
     /// Returns a reader of the whole text that another one gives.
-    pub fn new(reader: R, marks: Marks) -> Self {
+    pub fn new(reader: R, marks: Marks) -> Self
+        ensures { result.reader ≡ reader }
+    {
         Strict {
             reader,
             marks,

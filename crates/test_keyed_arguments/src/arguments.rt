@@ -1,9 +1,13 @@
 //! Tests: what the words of a command line ask for.
 
-use keyed_arguments::{ParseError, parse};
+use keyed_arguments::{Line, ParseError, parse};
 use keyed_files::Colours::{Off, On};
-use keyed_files::{Colours, Command, JoinNames, Layout};
+use keyed_files::{
+    Asked as Parsed, Colours, Command, Finding, Form, JoinNames, Layout, Lookup, Overlay, Settings,
+    Wanted,
+};
 use std::alloc::{AllocError, Global};
+use std::fmt::Write;
 use std::test::Fail;
 
 // The words of a command line, which a space parts here, behind the name of the program.
@@ -21,26 +25,104 @@ fn words_of(alloc: Global, line: &str) -> Result<Vec<String>, AllocError> {
 fn asked(alloc: Global, line: &str, terminal: Colours) -> Result<String, AllocError> {
     let words = words_of(alloc, line)?;
     match parse(alloc, &words, terminal) {
-        Ok(command) => show_command(alloc, command),
+        Ok(Line::Asked { asked, .. }) => show_asked(alloc, asked),
+        Ok(Line::Cut(cut)) => format!(in alloc; "{cut:?}"),
         Err(error) => show_error(alloc, &error),
     }
 }
 
+// The command and the file that its answer goes into, if there is one; or what git asks for.
+fn show_asked(alloc: Global, asked: Parsed<'_>) -> Result<String, AllocError> {
+    match asked {
+        Parsed::Answer { command, output } => {
+            let command = show_command(alloc, command)?;
+            match output {
+                Some(file) => format!(in alloc; "{command} into {file:?}"),
+                None => Ok(command),
+            }
+        }
+        Parsed::GitDiff {
+            settings,
+            format,
+            diff,
+        } => {
+            let settings = show_settings(alloc, settings)?;
+            format!(in alloc; "{settings} {format:?} {diff:?}")
+        }
+        Parsed::GitMerge { settings, merge } => {
+            let settings = show_settings(alloc, settings)?;
+            format!(in alloc; "{settings} {merge:?}")
+        }
+        other => format!(in alloc; "{other:?}"),
+    }
+}
+
+fn show_settings(alloc: Global, settings: Settings<'_>) -> Result<String, AllocError> {
+    let (keeps_order, groups) = (settings.keeps_order as u8, settings.groups as u8);
+    let layout = show_layout(alloc, settings.layout())?;
+    format!(in alloc; "{layout}, {keeps_order}, {groups}, 0]")
+}
+
 fn show_command(alloc: Global, command: Command<'_>) -> Result<String, AllocError> {
     match command {
-        Command::Whole { settings, request } => {
-            let (keeps_order, groups) = (settings.keeps_order as u8, settings.groups as u8);
-            let layout = show_layout(alloc, settings.layout())?;
+        Command::Whole {
+            settings,
+            request,
+            wanted,
+        } => {
+            let settings = show_settings(alloc, settings)?;
             let text = format!(in alloc; "{request:?}")?;
             let request = without_names(alloc, &text)?;
-            format!(in alloc; "{layout}, {keeps_order}, {groups}, 0] {request}")
+            let only = show_wanted(wanted);
+            format!(in alloc; "{settings} {request}{only}")
         }
-        Command::Sorted { layout, request } => {
+        Command::Sorted {
+            layout,
+            request,
+            wanted,
+        } => {
             let layout = show_layout(alloc, layout)?;
             let text = format!(in alloc; "{request:?}")?;
             let request = without_names(alloc, &text)?;
-            format!(in alloc; "{layout}, 0, 0, 1] {request}")
+            let only = show_wanted(wanted);
+            format!(in alloc; "{layout}, 0, 0, 1] {request}{only}")
         }
+        Command::Lookup { layout, request } => show_lookup(alloc, layout, request),
+        Command::Overlay { settings, request } => show_overlay(alloc, settings, &request),
+    }
+}
+
+fn show_lookup(
+    alloc: Global,
+    layout: Layout<'_>,
+    request: Lookup<'_>,
+) -> Result<String, AllocError> {
+    let layout = show_layout(alloc, layout)?;
+    let Finding { kind, names } = request.how;
+    let (left, right) = (request.left, request.right);
+    let words = format!(in alloc; "{:?} {:?}", names.left, names.right)?;
+    format!(in alloc; "{layout}] {left} {right} {kind:?} {words}")
+}
+
+fn show_overlay(
+    alloc: Global,
+    settings: Settings<'_>,
+    request: &Overlay<'_>,
+) -> Result<String, AllocError> {
+    let layout = show_layout(alloc, settings.layout())?;
+    let (keeps_order, groups) = (settings.keeps_order as u8, settings.groups as u8);
+    let mut text = format!(in alloc; "{layout}, {keeps_order}, {groups}] {:?}", request.layer)?;
+    for named in &request.files {
+        write!(text, " {} {:?}", named.file, named.delimiter.byte() as char)?;
+    }
+    Ok(text)
+}
+
+// What stands behind a request of which the status alone is wanted.
+fn show_wanted(wanted: Wanted) -> &'static str {
+    match wanted {
+        Wanted::Answer => "",
+        Wanted::Status => ", status",
     }
 }
 
@@ -93,7 +175,7 @@ fn expect<R: AllocGlobal>(rt: &R, lines: &[Asked]) -> Result<(), Fail> {
 }
 
 #[rattlefmt::skip]
-static REQUESTS: [Asked; 14] = [
+static REQUESTS: [Asked; 20] = [
     ("diff a b",                On,  r#"',' None [1, 0, 0, 0] Diff { old: "a", new: "b", format: Table { colours: On } }"#),
     ("diff a b --color auto",   Off, r#"',' None [1, 0, 0, 0] Diff { old: "a", new: "b", format: Table { colours: Off } }"#),
     ("diff a b --color never",  On,  r#"',' None [1, 0, 0, 0] Diff { old: "a", new: "b", format: Table { colours: Off } }"#),
@@ -101,13 +183,19 @@ static REQUESTS: [Asked; 14] = [
     ("diff a - --format table", Off, r#"',' None [1, 0, 0, 0] Diff { old: "a", new: "-", format: Table { colours: Off } }"#),
     ("diff - b --format csv",   On,  r#"',' None [1, 0, 0, 0] Diff { old: "-", new: "b", format: Csv }"#),
     ("apply a b",               On,  r#"',' None [1, 0, 0, 0] Apply { old: "a", changes: "b" }"#),
-    ("merge a b c",             On,  r#"',' None [1, 0, 0, 0] Merge { base: "a", ours: "b", theirs: "c" }"#),
+    ("merge a b c",             On,  r#"',' None [1, 0, 0, 0] Merge { base: "a", ours: "b", theirs: "c", how: Merging { unit: Row, conflicts: Report } }"#),
+    ("merge a b c --by-cell",   On,  r#"',' None [1, 0, 0, 0] Merge { base: "a", ours: "b", theirs: "c", how: Merging { unit: Cell, conflicts: Report } }"#),
     ("join a b",                On,  r#"',' None [1, 0, 0, 0] Join { left: "a", right: "b", Outer }"#),
     ("join a b --kind inner",   On,  r#"',' None [1, 0, 0, 0] Join { left: "a", right: "b", Inner }"#),
     ("join a b --kind left",    On,  r#"',' None [1, 0, 0, 0] Join { left: "a", right: "b", Left }"#),
     ("join a b --kind right",   On,  r#"',' None [1, 0, 0, 0] Join { left: "a", right: "b", Right }"#),
     ("join a b --kind semi",    On,  r#"',' None [1, 0, 0, 0] Join { left: "a", right: "b", Semi }"#),
     ("join --kind=anti a b",    On,  r#"',' None [1, 0, 0, 0] Join { left: "a", right: "b", Anti }"#),
+    ("merge a b c --conflicts marks", On, r#"',' None [1, 0, 0, 0] Merge { base: "a", ours: "b", theirs: "c", how: Merging { unit: Row, conflicts: Marks } }"#),
+    ("diff a b -o c",           On,  r#"',' None [1, 0, 0, 0] Diff { old: "a", new: "b", format: Table { colours: On } } into "c""#),
+    ("apply a b --output=a",    On,  r#"',' None [1, 0, 0, 0] Apply { old: "a", changes: "b" } into "a""#),
+    ("apply a b --output -",    On,  r#"',' None [1, 0, 0, 0] Apply { old: "a", changes: "b" }"#),
+    ("join a b --sorted -oc",   On,  r#"',' None [1, 0, 0, 1] Join { left: "a", right: "b", Outer } into "c""#),
 ];
 
 /// A command takes its files in order, and what it is asked to write.
@@ -121,8 +209,8 @@ static SETTINGS: [Asked; 11] = [
     ("diff a b --format csv --key id",  On,  r#"',' Some("id") [1, 0, 0, 0] Diff { old: "a", new: "b", format: Csv }"#),
     ("apply a b --key id,day",          On,  r#"',' Some("id,day") [1, 0, 0, 0] Apply { old: "a", changes: "b" }"#),
     ("apply a b --delimiter ;",         On,  r#"';' None [1, 0, 0, 0] Apply { old: "a", changes: "b" }"#),
-    ("merge a b c --no-header",         On,  r#"',' None [0, 0, 0, 0] Merge { base: "a", ours: "b", theirs: "c" }"#),
-    ("merge a b c --keep-order",        On,  r#"',' None [1, 1, 0, 0] Merge { base: "a", ours: "b", theirs: "c" }"#),
+    ("merge a b c --no-header",         On,  r#"',' None [0, 0, 0, 0] Merge { base: "a", ours: "b", theirs: "c", how: Merging { unit: Row, conflicts: Report } }"#),
+    ("merge a b c --keep-order",        On,  r#"',' None [1, 1, 0, 0] Merge { base: "a", ours: "b", theirs: "c", how: Merging { unit: Row, conflicts: Report } }"#),
     ("join a b --group",                On,  r#"',' None [1, 0, 1, 0] Join { left: "a", right: "b", Outer }"#),
     ("join a b --sorted",               On,  r#"',' None [1, 0, 0, 1] Join { left: "a", right: "b", Outer }"#),
     ("diff a b --format csv --sorted",  On,  r#"',' None [1, 0, 0, 1] Diff { old: "a", new: "b" }"#),
@@ -136,6 +224,82 @@ static SETTINGS: [Asked; 11] = [
 #[test]
 fn option_sets_what_it_says(rt: HostRuntime) -> Result<(), Fail> {
     expect(&rt, &SETTINGS)
+}
+
+#[rattlefmt::skip]
+static LETTERS: [Asked; 15] = [
+    ("diff a b -k id -d ; -g -H",   On,  r#"';' Some("id") [0, 0, 1, 0] Diff { old: "a", new: "b", format: Table { colours: On } }"#),
+    ("apply -gHk 2 a b -d|",        On,  r#"'|' Some("2") [0, 0, 1, 0] Apply { old: "a", changes: "b" }"#),
+    ("merge a b -d tab c -k id,x",  On,  r#"'\t' Some("id,x") [1, 0, 0, 0] Merge { base: "a", ours: "b", theirs: "c", how: Merging { unit: Row, conflicts: Report } }"#),
+    ("join -kid a b -g",            On,  r#"',' Some("id") [1, 0, 1, 0] Join { left: "a", right: "b", Outer }"#),
+    ("diff a b -q -o out",          On,  "wrong"),
+    ("diff a b -q",                 On,  r#"',' None [1, 0, 0, 0] Diff { old: "a", new: "b", format: Csv }, status"#),
+    ("diff a b --quiet --format table --color always",
+                                    On,  r#"',' None [1, 0, 0, 0] Diff { old: "a", new: "b", format: Csv }, status"#),
+    ("diff a b -q --sorted",        On,  r#"',' None [1, 0, 0, 1] Diff { old: "a", new: "b" }, status"#),
+    ("apply a b -q",                On,  r#"',' None [1, 0, 0, 0] Apply { old: "a", changes: "b" }, status"#),
+    ("merge a b c --quiet",         On,  r#"',' None [1, 0, 0, 0] Merge { base: "a", ours: "b", theirs: "c", how: Merging { unit: Row, conflicts: Report } }, status"#),
+    ("join a b -q",                 On,  "wrong"),
+    ("join a b -gs --sorted",       On,  "wrong"),
+    ("join a b -g --sorted",        On,  "wrong"),
+    ("diff a b -k",                 On,  "wrong"),
+    ("diff a b -x",                 On,  "wrong"),
+];
+
+/// The letter of an option is the option, alone or with others behind one `-`. Nothing but the status is asked for by `-q`, of commands that
+/// have one to tell.
+#[test]
+fn letter_stands_for_its_option(rt: HostRuntime) -> Result<(), Fail> {
+    expect(&rt, &LETTERS)
+}
+
+#[rattlefmt::skip]
+static LOOKUPS: [Asked; 14] = [
+    ("lookup a b",                      On, r#"',' None [1] a b Left "left." "right.""#),
+    ("lookup - b --kind inner",         On, r#"',' None [1] - b Inner "left." "right.""#),
+    ("lookup a - --kind=anti -H -k 3=1", On, r#"',' Some("3=1") [0] a - Anti "left." "right.""#),
+    ("lookup a.tsv b --kind left --prefix l_, -k x=y,z",
+                                        On, r#"'\t' Some("x=y,z") [1] a.tsv b Left "l_" """#),
+    ("lookup -d; a b",                  On, r#"';' None [1] a b Left "left." "right.""#),
+    ("lookup a",                        On, "wrong"),
+    ("lookup a b c",                    On, "wrong"),
+    ("lookup a b --kind outer",         On, "wrong"),
+    ("lookup a b --kind right",         On, "wrong"),
+    ("lookup a b -g",                   On, "wrong"),
+    ("lookup a b --keep-order",         On, "wrong"),
+    ("lookup a b --side s",             On, "wrong"),
+    ("lookup a b --sorted",             On, "wrong"),
+    ("lookup a b --prefix x",           On, NO_PREFIX),
+];
+
+#[rattlefmt::skip]
+static OVERLAYS: [Asked; 14] = [
+    ("overlay a b",                     On, "',' None [1, 0, 0] Rows a ',' b ','"),
+    ("overlay a b - d.tsv e",           On, "',' None [1, 0, 0] Rows a ',' b ',' - ',' d.tsv '\\t' e ','"),
+    ("overlay a.tab b --cells",         On, "'\\t' None [1, 0, 0] Cells a.tab '\\t' b ','"),
+    ("overlay a b.tsv -d ; --keep-order -H", On, "';' None [0, 1, 0] Rows a ';' b.tsv ';'"),
+    ("overlay --group a b -k id=key",   On, "',' Some(\"id=key\") [1, 0, 1] Rows a ',' b ','"),
+    ("overlay a",                       On, "wrong"),
+    ("overlay",                         On, "wrong"),
+    ("overlay a b --cells -g",          On, "wrong"),
+    ("overlay a b --left-delimiter ;",  On, "wrong"),
+    ("overlay a b --sorted",            On, "wrong"),
+    ("overlay a b -q",                  On, "wrong"),
+    ("overlay a b --kind left",         On, "wrong"),
+    ("diff a b --cells",                On, "wrong"),
+    ("overlay a b.tsv --comment \t",   On, NO_COMMENT),
+];
+
+/// A look-up takes two files, and what may be said of its rows and of its header; rows are neither ordered nor grouped by it.
+#[test]
+fn lookup_takes_two_files(rt: HostRuntime) -> Result<(), Fail> {
+    expect(&rt, &LOOKUPS)
+}
+
+/// An overlay takes two files or more, each with the byte between its cells.
+#[test]
+fn overlay_takes_files(rt: HostRuntime) -> Result<(), Fail> {
+    expect(&rt, &OVERLAYS)
 }
 
 const NO_PREFIX: &str = "keyed: --prefix: not two texts with a comma between them\n";
@@ -212,8 +376,13 @@ fn words_that_make_no_request_are_refused(rt: HostRuntime) -> Result<(), Fail> {
 fn reading(alloc: Global, line: &str) -> Result<String, AllocError> {
     let words = words_of(alloc, line)?;
     let form = match parse(alloc, &words, Off) {
-        Ok(Command::Whole { settings, .. }) => settings.form,
-        Ok(Command::Sorted { layout, .. }) => layout.form,
+        Ok(
+            Line::Asked {
+                asked: Parsed::Answer { command, .. },
+                ..
+            },
+        ) => form_of(command),
+        Ok(_) => return "no command".to_string(alloc),
         Err(error) => return format!(in alloc; "{error}"),
     };
     let reading = form.reading;
@@ -232,13 +401,36 @@ fn reading(alloc: Global, line: &str) -> Result<String, AllocError> {
     format!(in alloc; "{first:?} {next:?} {last:?} {quotes:?} {lengths:?} {comment} {skipped}")
 }
 
+fn form_of(command: Command<'_>) -> Form {
+    match command {
+        Command::Whole {
+            settings,
+            request: _request,
+            wanted: _wanted,
+        } => settings.form,
+        Command::Sorted {
+            layout,
+            request: _request,
+            wanted: _wanted,
+        } => layout.form,
+        Command::Lookup {
+            layout,
+            request: _request,
+        } => layout.form,
+        Command::Overlay {
+            settings,
+            request: _request,
+        } => settings.form,
+    }
+}
+
 const NO_COMMENT: &str =
     "keyed: --comment: not one byte that may begin a line and stands between no cells\n";
 
 const NO_NUMBER: &str = "keyed: --skip: not a number of lines\n";
 
 #[rattlefmt::skip]
-static READINGS: [(&str, &str); 22] = [
+static READINGS: [(&str, &str); 28] = [
     ("diff a b",                                   r"',' ',' ',' Strict Equal - 0"),
     ("diff a.tsv b.csv",                           r"'\t' ',' ',' Strict Equal - 0"),
     ("join a.csv b.tab --sorted",                  r"',' '\t' '\t' Strict Equal - 0"),
@@ -260,6 +452,12 @@ static READINGS: [(&str, &str); 22] = [
     ("diff a b --skip two",                        NO_NUMBER),
     ("diff a b --left-delimiter ab",               "keyed: --left-delimiter: not one byte that may stand between cells\n"),
     ("diff a b --key a,b,a",                       "keyed: --key: the column a twice\n"),
+    ("join a b -k a=x,b=x",                        "keyed: --key: the column x twice\n"),
+    ("join a b -k x,b=x",                          "keyed: --key: the column x twice\n"),
+    ("lookup a b -k a=x,a=y",                      "keyed: --key: the column a twice\n"),
+    ("merge a b c -k a=b=c",                       "keyed: --key: more than two names of a column: a=b=c\n"),
+    ("overlay a b -k a=b=",                        "keyed: --key: more than two names of a column: a=b=\n"),
+    ("diff a b -k a==b,=",                         r"',' ',' ',' Strict Equal - 0"),
     ("diff a b --key \"a",                         "keyed: --key: not one record of CSV\n"),
 ];
 
@@ -274,4 +472,23 @@ fn option_says_how_files_are_read(rt: HostRuntime) -> Result<(), Fail> {
         }
     }
     Ok(())
+}
+
+#[rattlefmt::skip]
+static OF_GIT: [Asked; 8] = [
+    ("git-diff p a b c d e f",     On,  r#"',' None [1, 1, 0, 0] Table { colours: On } GitDiff { path: "p", renamed: None, old: "a", new: "d" }"#),
+    ("git-diff p.tsv a 0 1 d 0 1", Off, r#"'\t' None [1, 1, 0, 0] Table { colours: Off } GitDiff { path: "p.tsv", renamed: None, old: "a", new: "d" }"#),
+    ("git-diff --key id p a b c d e f q r", Off,
+        r#"',' Some("id") [1, 1, 0, 0] Table { colours: Off } GitDiff { path: "p", renamed: Some("q"), old: "a", new: "d" }"#),
+    ("git-diff p",                 On,  r#"GitUnmerged { path: "p" }"#),
+    ("git-merge a b c",            On,  r#"',' None [1, 1, 0, 0] GitMerge { base: "a", ours: "b", theirs: "c" }"#),
+    ("git-merge --group a b c p.tsv", On, r#"'\t' None [1, 1, 1, 0] GitMerge { base: "a", ours: "b", theirs: "c" }"#),
+    ("git-setup --key id,day",     On,  r#"GitSetup { options: ["--key", "id,day"] }"#),
+    ("git-setup --key",            On,  "wrong"),
+];
+
+/// A command for git takes the words that git gives it, keeps the order of files, and takes what stands between cells from the path.
+#[test]
+fn command_for_git_takes_its_words(rt: HostRuntime) -> Result<(), Fail> {
+    expect(&rt, &OF_GIT)
 }

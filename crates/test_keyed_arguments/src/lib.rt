@@ -3,3 +3,5 @@
 
 #[cfg(test)]
 mod arguments;
+#[cfg(test)]
+mod cuts;

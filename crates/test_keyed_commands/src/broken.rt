@@ -7,7 +7,7 @@ use crate::commands::{
     write_answer_of_files, write_report_of_files,
 };
 use crate::made::{inputs, with_input};
-use keyed_commands::{Answer, Fault};
+use keyed_commands::{Answer, Fault, Outcome};
 use std::alloc::{AllocError, Global};
 use std::io;
 use std::io::{ErrorKind, Write};
@@ -27,13 +27,19 @@ const CHANGES: &[u8] = b"change,id,a\n-,1,\"x\ny\"\n+,1,w\n-,2,z\n+,3,v\n";
 
 const JOINED: &[u8] = b"side,id,left.a,right.a\nboth,1,\"x\ny\",w\nleft,2,z,\nright,3,,v\n";
 
-const CASES: [Case; 6] = [
+const FOUND: &[u8] = b"id,left.a,right.a\n1,\"x\ny\",w\n2,z,\n";
+
+const LAID: &[u8] = b"id,a\n1,w\n2,z\n3,v\n";
+
+const CASES: [Case; 8] = [
     (Command::Diff, [TABLE, OTHER, b""], 1, CHANGES),
     (Command::SortedDiff, [TABLE, OTHER, b""], 1, CHANGES),
     (Command::Apply, [TABLE, CHANGES, b""], 0, OTHER),
     (Command::Merge, [TABLE, OTHER, TABLE], 0, OTHER),
     (Command::Join, [TABLE, OTHER, b""], 0, JOINED),
     (Command::SortedJoin, [TABLE, OTHER, b""], 0, JOINED),
+    (Command::Lookup, [TABLE, OTHER, b""], 0, FOUND),
+    (Command::Overlay, [TABLE, OTHER, b""], 0, LAID),
 ];
 
 // An input that gives one byte at a time, and may fail.
@@ -62,7 +68,11 @@ fn broken_off<'a>(
     );
     let mut bytes = Vec::new(alloc);
     let status = write_answer(alloc, PLAIN, command, inputs, &mut bytes)?;
-    Ok(Answer { bytes, status })
+    Ok(Answer {
+        bytes,
+        status,
+        outcome: Outcome::Made,
+    })
 }
 
 // Fails unless each input is named that fails, at every so many bytes from its end on.

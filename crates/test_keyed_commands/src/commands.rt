@@ -1,11 +1,12 @@
 //! Each command on tables that are texts, and on readers and writers. What the tests know of the calls of `keyed_commands` stands here.
 
 use keyed_commands::{
-    Answer, Colours, Delimiter, Fault, Form, Format, Joining, Kind, Reading, Request, Settings,
-    SortedRequest, Stream, apply, at, diff, diff_sorted, join, join_sorted, merge, stream_request,
-    write_request, write_whole,
+    Answer, Colours, Command as AnyCommand, Delimiter, Fault, Finding, Form, Format, JoinNames,
+    Joining, Kind, Layer, LookupKind, LookupRequest, Merging, NamedFile, Outcome, OverlayRequest,
+    Reading, Reason, Request, Settings, SortedRequest, Stream, apply, at, diff, diff_sorted, join,
+    join_sorted, lookup, merge, overlay, stream_request, write_command, write_request, write_whole,
 };
-use std::alloc::Global;
+use std::alloc::{AllocError, Global};
 use std::io::{Read, Write};
 use std::rt::Files;
 use std::test::Fail;
@@ -90,17 +91,27 @@ pub enum Command {
     Join,
     SortedDiff,
     SortedJoin,
+    Lookup,
+    Overlay,
 }
 
 /// All of them.
-pub const COMMANDS: [Command; 6] = [
+pub const COMMANDS: [Command; 8] = [
     Command::Diff,
     Command::Apply,
     Command::Merge,
     Command::Join,
     Command::SortedDiff,
     Command::SortedJoin,
+    Command::Lookup,
+    Command::Overlay,
 ];
+
+/// Each row of the left table, whether it is found or not.
+pub const FOUND: Finding<'static> = Finding {
+    kind: LookupKind::Left,
+    names: JoinNames::PLAIN,
+};
 
 impl Command {
     /// The names of its inputs, as faults have them.
@@ -109,12 +120,13 @@ impl Command {
             Command::Diff | Command::SortedDiff => &["old", "new"],
             Command::Apply => &["old", "changes"],
             Command::Merge => &["base", "ours", "theirs"],
-            Command::Join | Command::SortedJoin => &["left", "right"],
+            Command::Join | Command::SortedJoin | Command::Lookup => &["left", "right"],
+            Command::Overlay => &["base", "over"],
         }
     }
 
-    /// The command of these files.
-    pub fn of<'a>(self, files: [&'a str; 3]) -> Request<'a> {
+    // The command of these files, whole.
+    fn of<'a>(self, files: [&'a str; 3]) -> Request<'a> {
         let [first, next, last] = files;
         match self {
             Command::Diff | Command::SortedDiff => Request::Diff {
@@ -130,12 +142,14 @@ impl Command {
                 base: first,
                 ours: next,
                 theirs: last,
+                how: Merging::PLAIN,
             },
-            Command::Join | Command::SortedJoin => Request::Join {
-                left: first,
-                right: next,
-                how: Joining::of(Kind::Outer),
-            },
+            Command::Join | Command::SortedJoin | Command::Lookup | Command::Overlay =>
+                Request::Join {
+                    left: first,
+                    right: next,
+                    how: Joining::of(Kind::Outer),
+                },
         }
     }
 }
@@ -170,7 +184,8 @@ pub fn write_answer<'a, R: Read + Drop, W: Write>(
         Command::Merge => {
             let (base, ours) = (named("base", old), named("ours", new));
             let theirs = stream("theirs", last);
-            write_whole_answer(merge(alloc, settings, base, ours, theirs), output)
+            let answer = merge(alloc, settings, Merging::PLAIN, base, ours, theirs);
+            write_whole_answer(answer, output)
         }
         Command::Join => {
             let (left, right) = (named("left", old), named("right", new));
@@ -190,7 +205,44 @@ pub fn write_answer<'a, R: Read + Drop, W: Write>(
                 output,
             )
         }
+        Command::Lookup => {
+            let (left, right) = (named("left", old), named("right", new));
+            lookup(alloc, settings.layout(), FOUND, left, right, output)
+        }
+        Command::Overlay => {
+            let (base, over) = (named("base", old), named("over", new));
+            write_whole_answer(overlaid(alloc, settings, base, over), output)
+        }
     }
+}
+
+// Two tables laid one over the other.
+fn overlaid<'a, R: Read + Drop>(
+    alloc: Global,
+    settings: Settings<'a>,
+    base: Stream<'a, R>,
+    over: Stream<'a, R>,
+) -> Result<Answer, Fault<'a>> {
+    let file = base.file;
+    match two_of(alloc, base, over) {
+        Ok(tables) => overlay(alloc, settings, Layer::Rows, tables),
+        Err(AllocError) => Err(Fault {
+            file,
+            reason: Reason::NoMemory,
+        }),
+    }
+}
+
+// Two tables.
+fn two_of<'a, R: Drop>(
+    alloc: Global,
+    first: Stream<'a, R>,
+    next: Stream<'a, R>,
+) -> Result<Vec<Stream<'a, R>>, AllocError> {
+    let mut tables = Vec::new(alloc);
+    tables.push(first)?;
+    tables.push(next)?;
+    Ok(tables)
 }
 
 // A file by another name.
@@ -236,8 +288,41 @@ pub fn write_answer_of_files<'a, R: Files + Input + AllocGlobal, W: Write>(
             };
             stream_request(rt, settings.layout(), request, output)
         }
+        Command::Lookup => {
+            let request = LookupRequest {
+                left: first,
+                right: next,
+                how: FOUND,
+            };
+            let layout = settings.layout();
+            write_command(rt, AnyCommand::Lookup { layout, request }, output)
+        }
+        Command::Overlay => {
+            let files = at(first, two_files(rt.alloc(), first, next))?;
+            let request = OverlayRequest {
+                files,
+                layer: Layer::Rows,
+            };
+            write_command(rt, AnyCommand::Overlay { settings, request }, output)
+        }
         _ => write_request(rt, settings, command.of(files), output),
     }
+}
+
+// Two files with commas between their cells.
+fn two_files<'a>(
+    alloc: Global,
+    first: &'a str,
+    next: &'a str,
+) -> Result<Vec<NamedFile<'a>>, AllocError> {
+    let mut files = Vec::new(alloc);
+    for file in [first, next] {
+        files.push(NamedFile {
+            file,
+            delimiter: Delimiter::COMMA,
+        })?;
+    }
+    Ok(files)
 }
 
 /// Writes the answer to `diff` of files as a person reads it, and returns the status.
@@ -262,7 +347,11 @@ pub fn asked<'a>(
     let [first, next, last] = inputs;
     let mut bytes = Vec::new(alloc);
     let status = write_answer(alloc, settings, command, (first, next, last), &mut bytes)?;
-    Ok(Answer { bytes, status })
+    Ok(Answer {
+        bytes,
+        status,
+        outcome: Outcome::Made,
+    })
 }
 
 /// The answer to `diff`.
@@ -313,6 +402,19 @@ pub fn merged<'a>(
     asked(alloc, settings, Command::Merge, [base, ours, theirs])
 }
 
+/// The answer to `merge`, merged in this way.
+pub fn merged_by<'a>(
+    alloc: Global,
+    settings: Settings<'a>,
+    how: Merging,
+    base: &[u8],
+    ours: &[u8],
+    theirs: &[u8],
+) -> Result<Answer, Fault<'a>> {
+    let (base, ours) = (stream("base", base), stream("ours", ours));
+    merge(alloc, settings, how, base, ours, stream("theirs", theirs))
+}
+
 /// The answer to `join`.
 pub fn joined<'a>(
     alloc: Global,
@@ -343,7 +445,11 @@ pub fn joined_in_parts<'a>(
         right,
         &mut bytes,
     )?;
-    Ok(Answer { bytes, status })
+    Ok(Answer {
+        bytes,
+        status,
+        outcome: Outcome::Made,
+    })
 }
 
 /// The answer of a command whose inputs are good.

@@ -11,17 +11,25 @@ mod columns;
 #[cfg(test)]
 mod commands;
 #[cfg(test)]
+mod disk;
+#[cfg(test)]
 mod faults;
 #[cfg(test)]
 mod form;
 #[cfg(test)]
 mod groups;
 #[cfg(test)]
+mod looked_up;
+#[cfg(test)]
 mod made;
+#[cfg(test)]
+mod marks;
 #[cfg(test)]
 mod merge;
 #[cfg(test)]
 mod misfits;
+#[cfg(test)]
+mod output;
 #[cfg(test)]
 mod repeats;
 #[cfg(test)]

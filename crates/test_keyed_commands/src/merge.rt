@@ -1,6 +1,7 @@
 //! Tests: three versions of a table merged, of hundreds of rows made by a rule.
 
-use crate::commands::{PLAIN, expect, merged};
+use crate::commands::{GROUPED, ORDERED, PLAIN, expect, merged, merged_by};
+use keyed_commands::{Conflicts, Merging, Unit};
 use std::alloc::{AllocError, Global};
 use std::fmt::Write;
 use std::test::Fail;
@@ -74,6 +75,110 @@ theirs  5   (no row)
 ";
     expect(
         merged(alloc, PLAIN, base, ours, theirs),
+        1,
+        wanted.as_bytes(),
+    )
+}
+
+const BY_CELL: Merging = Merging {
+    unit: Unit::Cell,
+    conflicts: Conflicts::Report,
+};
+
+// The three versions of a row with three cells, and the merged one: each cell that one side alone changed is as that side has it, also
+// where it is empty there, and what both changed alike is as both have it.
+const CELLS: [[&str; 4]; 9] = [
+    ["a,b,c", "a,b,c", "a,b,c", "a,b,c"],
+    ["a,b,c", "x,b,c", "a,b,c", "x,b,c"],
+    ["a,b,c", "a,b,c", "a,b,y", "a,b,y"],
+    ["a,b,c", "x,b,c", "a,b,y", "x,b,y"],
+    ["a,b,c", "a,x,c", "y,b,z", "y,x,z"],
+    ["a,b,c", "x,b,z", "x,y,c", "x,y,z"],
+    ["a,b,c", ",b,c", "a,b,", ",b,"],
+    ["a,,c", "a,\"p,q\",c", "b,,c", "b,\"p,q\",c"],
+    ["a,b,c", "b,c,c", "a,b,a", "b,c,a"],
+];
+
+// A version of a table of nine hundred rows.
+fn version_of_cells(alloc: Global, place: usize) -> Result<String, AllocError> {
+    let mut text = String::from_str(alloc, "key,p,q,r\n")?;
+    for number in 0..900usize {
+        let row = CELLS.get(number % 9).copied().unwrap_or([""; 4]);
+        if let Some(cells) = row.get(place) {
+            writeln!(text, "k{number:03},{cells}")?;
+        }
+    }
+    Ok(text)
+}
+
+/// Each cell is merged as a row of its own, whatever the order of the rows, and under a key of one row also where keys may repeat.
+#[test]
+fn cells_are_merged(rt: HostRuntime) -> Result<(), Fail> {
+    let alloc = rt.alloc();
+    let base = version_of_cells(alloc, 0)?;
+    let ours = version_of_cells(alloc, 1)?;
+    let theirs = version_of_cells(alloc, 2)?;
+    let wanted = version_of_cells(alloc, 3)?;
+    for settings in [PLAIN, ORDERED, GROUPED] {
+        let merge = merged_by(
+            alloc,
+            settings,
+            BY_CELL,
+            base.as_bytes(),
+            ours.as_bytes(),
+            theirs.as_bytes(),
+        );
+        expect(merge, 0, wanted.as_bytes())?;
+    }
+    Ok(())
+}
+
+/// A row is in conflict by cell where both sides changed one cell, and not alike; where one removed it and the other changed it; and where
+/// both added it, and not alike. Another row with a change of each side is none of them.
+#[test]
+fn cells_in_conflict_are_shown_with_their_rows(rt: HostRuntime) -> Result<(), Fail> {
+    let base = b"id,a,b\n1,x,x\n2,x,x\n3,x,x\n5,x,x\n";
+    let ours = b"id,a,b\n1,y,x\n2,y,x\n4,p,q\n5,y,x\n";
+    let theirs = b"id,a,b\n1,x,z\n2,z,x\n3,x,w\n4,p,r\n";
+    let wanted = "        id  a         b
+base    2   x         x
+ours    2   y         x
+theirs  2   z         x
+base    3   x         x
+ours    3   (no row)
+theirs  3   x         w
+base    4   (no row)
+ours    4   p         q
+theirs  4   p         r
+base    5   x         x
+ours    5   y         x
+theirs  5   (no row)
+";
+    expect(
+        merged_by(rt.alloc(), PLAIN, BY_CELL, base, ours, theirs),
+        1,
+        wanted.as_bytes(),
+    )
+}
+
+/// A group of several rows in one version is merged whole.
+#[test]
+fn groups_of_several_rows_are_merged_whole(rt: HostRuntime) -> Result<(), Fail> {
+    let base: &[u8] = b"id,a,b\n1,x,x\n2,x,x\n";
+    let ours: &[u8] = b"id,a,b\n1,y,x\n2,y,x\n2,y,x\n";
+    let theirs: &[u8] = b"id,a,b\n1,x,z\n2,x,x\n";
+    let wanted: &[u8] = b"id,a,b\n1,y,z\n2,y,x\n2,y,x\n";
+    let merge = merged_by(rt.alloc(), GROUPED, BY_CELL, base, ours, theirs);
+    expect(merge, 0, wanted)?;
+    let changed: &[u8] = b"id,a,b\n1,x,z\n2,x,z\n";
+    let wanted = "        id  a  b
+base    2   x  x
+ours    2   y  x
+ours    2   y  x
+theirs  2   x  z
+";
+    expect(
+        merged_by(rt.alloc(), GROUPED, BY_CELL, base, ours, changed),
         1,
         wanted.as_bytes(),
     )

@@ -104,11 +104,17 @@ const HELP: &str = "Compares, changes, merges and joins tables of CSV by key.
 Usage: keyed <COMMAND>
 
 Commands:
-  diff   Prints the rows that changed. Status 0: none did, 1: some did, 2: trouble.
-  apply  Prints a table with changes made to it. Status 0: all fit, 1: some do not, 2: trouble.
-  merge  Prints two versions of a table merged over their base. Status 0: merged, 1: rows in conflict, 2: trouble.
-  join   Prints two tables joined by key as CSV. Status 0, or 2: trouble.
-  help   Print this message or the help of the given subcommand(s)
+  diff       Prints the rows that changed. Status 0: none did, 1: some did, 2: trouble.
+  apply      Prints a table with changes made to it. Status 0: all fit, 1: some do not, 2: trouble.
+  merge      Prints two versions of a table merged over their base. Status 0: merged, 1: rows in conflict, 2: trouble.
+  join       Prints two tables joined by key as CSV. Status 0, or 2: trouble.
+  lookup     Prints each row of a table with the row of another that has its key. Status 0, or 2: trouble.
+  overlay    Prints tables laid one over the other. Status 0, or 2: trouble.
+  cut        Cuts tables into parts by ranges of their keys. Status 0: cut, 1: a part takes more memory than asked for, 2: trouble.
+  git-diff   Prints the rows that changed, for git diff. Status 0, or 2: trouble.
+  git-merge  Merges two versions into the file of ours, for git merge. Status 0: merged, 1: rows in conflict, 129: trouble.
+  git-setup  Prints the commands that tell git of both, with these options.
+  help       Print this message or the help of the given subcommand(s)
 
 Options:
   -h, --help     Print help
@@ -125,17 +131,20 @@ Arguments:
   <CHANGES>  What diff --format csv printed; - is the standard input
 
 Options:
-      --key <COLUMN[,COLUMN..]>  The columns that are the key, as a record of CSV; the first column else
-      --delimiter <BYTE>         The byte between cells, or tab; a tab else in files named .tsv or .tab, and a comma in others
+  -q, --quiet                    Nothing is printed: the status alone tells what came out
+  -k, --key <COLUMN[,COLUMN..]>  The columns that are the key, as a record of CSV; the first column else; LEFT=RIGHT where a column has two names
+  -d, --delimiter <BYTE>         The byte between cells, or tab; a tab else in files named .tsv or .tab, and a comma in others
       --comment <BYTE>           Lines that begin with this byte are passed over
       --skip <N>                 So many lines at the top of each file are passed over
       --left-delimiter <BYTE>    The byte between the cells of the first file, and of what is written
       --right-delimiter <BYTE>   The byte between the cells of the second file
-      --no-header                The first row is no header: columns are named 1, 2 and so on
+  -H, --no-header                The first row is no header: columns are named 1, 2 and so on
       --ragged                   A short row has empty cells behind, and a long one may have empty ones
       --lenient                  Quotes that are not in order are taken as they are
       --keep-order               Rows come out in the order of the files, and not in that of their keys
-      --group                    Keys may repeat: rows with the same key are a group
+  -g, --group                    Keys may repeat: rows with the same key are a group
+  -o, --output <FILE>            The file that the answer goes into, once it is whole; it may be one of those that are read
+      --no-heading               CSV has no names of columns, so that it can stand behind other CSV
   -h, --help                     Print help
 ";
 
@@ -199,7 +208,8 @@ fn command_is_required(rt: HostRuntime) -> Result<(), Fail> {
     assert_eq!(rt; status, 2);
     assert!(rt; output.is_empty());
     let first = "error: 'keyed' requires a subcommand but one was not provided\n";
-    let commands = "  [subcommands: diff, apply, merge, join, help]\n\n";
+    let commands =
+        "  [subcommands: diff, apply, merge, join, lookup, overlay, cut, git-diff, git-merge, git-setup, help]\n\n";
     let want = format!(in alloc; "{first}{commands}Usage: keyed <COMMAND>{TRY_HELP}")?;
     assert_eq!(rt; said, want);
     Ok(())

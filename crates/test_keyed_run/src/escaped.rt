@@ -7,7 +7,7 @@ use std::test::Fail;
 
 // In these texts `@` stands for a character, `~` for a quote where the character is escaped, and `%` for the line on which the second row
 // of `again` begins: its first has the character twice.
-static FILES: [(&str, &str); 11] = [
+static FILES: [(&str, &str); 12] = [
     ("old", "id,name\n1,\"a@b\"\n"),
     ("new", "id,name\n1,\"c@\"\n"),
     ("ours", "id,name\n1,\"@\"\n"),
@@ -19,12 +19,13 @@ static FILES: [(&str, &str); 11] = [
     ("named twice", "id,\"n@\",\"n@\"\n"),
     ("again", "id,name,kind\n\"k@\",a,\"@\"\n\"k@\",b,\"@\"\n"),
     ("again @", "id,name\n1,a\n1,b\n"),
+    ("goes", "change,id,\"-n@\"\n"),
 ];
 
 // What is asked, and what is printed or said: the table for a person of each command, each thing that is said of columns, faults with a
-// file's name, a column's name or a key, and what is said of a word of the command line.
+// file's name, a column's name or a key, a path of git, and what is said of a word of the command line.
 #[rattlefmt::skip]
-static PLACES: [Case<'static>; 20] = [
+static PLACES: [Case<'static>; 28] = [
     ("diff|old|new", 1,
         "         id  name\nchanged  1   ~a@b~ -> ~c@~\n0 added, 0 removed, 1 changed, 0 the same\n", ""),
     ("apply|old|changes", 1, "        id  name\ntable   1   ~a@b~\nchange  1   ~x@~\n", ""),
@@ -38,6 +39,17 @@ static PLACES: [Case<'static>; 20] = [
     ("diff|old|new|--key|\"n@\"", 2, "", "keyed: old: line 1: no column ~n@~; there are id, name\n"),
     ("diff|again|new", 2, "", "keyed: again: line %: duplicate key ~k@~, first on line 2: give more columns by --key, or --group\n"),
     ("diff|again|new|--key|id,kind", 2, "", "keyed: again: line %: duplicate key ~k@~,~@~, first on line 2: give more columns by --key, or --group\n"),
+    ("diff|named|old|--key|x", 2, "", "keyed: named: line 1: no column x; there are id, ~n@~\n"),
+    ("diff|old|new|--key|\"n@\",\"n@\"", 2, "", "keyed: --key: the column ~n@~ twice\n"),
+    ("diff|old|new|--key|\"a=b=@\"", 2, "", "keyed: --key: more than two names of a column: ~a=b=@~\n"),
+    ("diff|named|named later|--key|\"id=n@\"", 2, "",
+        "keyed: named: line 1: a column of the key is to have the name ~n@~, which another has\n"),
+    ("join|bare|bare and named|--side|n@", 2, "",
+        "keyed: bare and named: the join has two columns ~n@~: give another by --side\n"),
+    ("apply|named|goes", 1,
+        "column ~n@~ goes, and has cells in these rows\n       id  ~n@~\ntable  1   a\n", ""),
+    ("git-diff|t@|bare|1|2|bare|3|4", 0, "keyed diff t@\n0 added, 0 removed, 0 changed, 0 the same\n", ""),
+    ("git-diff|t@", 0, "* Unmerged path t@\n", ""),
     ("diff|none @|new", 2, "", "keyed: none @: No such file or directory (os error 2)\n"),
     ("join|old|again @", 2, "", "keyed: again @: line 3: duplicate key 1, first on line 2: give more columns by --key, or --group\n"),
     ("join|old|again @|--sorted", 2, "",

@@ -28,7 +28,7 @@ static FILES: World = World {
 };
 
 #[rattlefmt::skip]
-static ANSWERS: [Case<'static>; 26] = [
+static ANSWERS: [Case<'static>; 31] = [
     ("diff|old|new", 1,
         "         id  name\nadded    13  medlar\nchanged  2   pear -> quince\nremoved  7   fig\n\
          1 added, 1 removed, 1 changed, 0 the same\n", ""),
@@ -48,6 +48,15 @@ static ANSWERS: [Case<'static>; 26] = [
     ("merge|old|sized|red", 1,
         "        id  size  name  colour\nbase    7         fig\nours    7   2     fig\n\
          theirs  7         fig   red\n", ""),
+    ("merge|old|sized|red|--by-cell", 0, "id,size,name,colour\n2,3,pear,\n7,2,fig,red\n", ""),
+    ("merge|old|red|sized|--by-cell|--keep-order", 0, "colour,id,name,size\nred,7,fig,2\n,2,pear,3\n", ""),
+    ("merge|mine|yours|theirs too|--by-cell", 1,
+        "        id  size\nbase    2   a\nours    2   b\ntheirs  2   c\nbase    7   a\nours    7   b\ntheirs  7   c\n", ""),
+    ("merge|mine|yours|theirs too|--by-cell|--conflicts|marks", 1,
+        "id,size\n<<<<<<< ours\n2,b\n||||||| base\n2,a\n=======\n2,c\n>>>>>>> theirs\n\
+         <<<<<<< ours\n7,b\n||||||| base\n7,a\n=======\n7,c\n>>>>>>> theirs\n", ""),
+    ("merge|old|sized|red|--conflicts|marks", 1,
+        "id,size,name,colour\n2,3,pear,\n<<<<<<< ours\n7,2,fig,\n||||||| base\n7,,fig,\n=======\n7,,fig,red\n>>>>>>> theirs\n", ""),
     ("merge|mine|yours|theirs too", 1,
         "        id  size\nbase    2   a\nours    2   b\ntheirs  2   c\nbase    7   a\nours    7   b\ntheirs  7   c\n", ""),
     ("merge|yours|mine|theirs too|--keep-order", 1,

@@ -9,13 +9,21 @@ mod escaped;
 #[cfg(test)]
 mod faults;
 #[cfg(test)]
+mod git;
+#[cfg(test)]
 mod inputs;
 #[cfg(test)]
 mod keys_shown;
 #[cfg(test)]
+mod lookups;
+#[cfg(test)]
 mod outputs;
 #[cfg(test)]
+mod overlays;
+#[cfg(test)]
 mod process;
+#[cfg(test)]
+mod quiet;
 #[cfg(test)]
 mod reading;
 #[cfg(test)]
@@ -24,3 +32,5 @@ mod runs;
 mod shapes;
 #[cfg(test)]
 mod tables;
+#[cfg(test)]
+mod two_names;

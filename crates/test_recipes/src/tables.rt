@@ -8,7 +8,7 @@ use recipes::ledger::{count_unpaid, ledger};
 use recipes::matched::{counted, on_sale, to_order};
 use recipes::own_join::still_due;
 use recipes::readme::{full_outer_join, joined_if_rising, port, side_by_side, split};
-use recipes::three_tables::by_key;
+use recipes::three_tables::as_one_table;
 use recipes::totals::totals;
 use std::alloc::{AllocError, Global};
 use std::collections::BTreeMap;
@@ -149,7 +149,7 @@ fn of_three_tables(rt: HostRuntime) -> Result<(), Fail> {
     let second = vec![in alloc; (1, "x"), (2, "y")]?;
     let third = vec![in alloc; (1, 7), (2, 8), (3, 9), (4, 10)]?;
     assert!(rt; is_rising(&first) && is_rising(&second) && is_rising(&third));
-    let rows = by_key(alloc, first, second, third)?;
+    let rows = as_one_table(alloc, first, second, third)?;
     let want = "[(1, Both('a', Both(\"x\", 7))), (2, Right(Both(\"y\", 8))), \
                 (3, Both('b', Right(9))), (4, Right(Right(10)))]";
     expect_shown(alloc, &rows, want)

@@ -1,0 +1,190 @@
+//! The commands that git calls, and the one that prints how it is told of them.
+
+use crate::form::files_of;
+use crate::{
+    COLOR, FLAGS, ParseError, TEXTS, choice, file_of, flag, format_of, put, settings_of, text,
+};
+use clap::{Arg, ArgMatches, Command};
+use keyed_files::{Asked, Colours, Format, GitDiff, GitMerge, Merging, Request, Settings};
+use std::alloc::{AllocError, Global};
+
+// A command that git calls: its name, what it does, and the words that git gives it, each with its help. So many of them are required.
+type GitCommand = (
+    &'static str,
+    &'static str,
+    usize,
+    &'static [(&'static str, &'static str)],
+);
+
+static COMMANDS: [GitCommand; 3] = [
+    (
+        "git-diff",
+        "Prints the rows that changed, for git diff. Status 0, or 2: trouble.",
+        1,
+        &[
+            ("PATH", "The path of the table"),
+            ("OLD", "The file of the old table"),
+            ("OLD-HEX", "Its hash, which is not read"),
+            ("OLD-MODE", "Its mode, which is not read"),
+            ("NEW", "The file of the new table"),
+            ("NEW-HEX", "Its hash, which is not read"),
+            ("NEW-MODE", "Its mode, which is not read"),
+            (
+                "NEW-PATH",
+                "The path that the table got, where it was renamed",
+            ),
+            ("CHANGE", "How it was renamed, which is not read"),
+        ],
+    ),
+    (
+        "git-merge",
+        "Merges two versions into the file of ours, for git merge. Status 0: merged, 1: rows in conflict, 129: trouble.",
+        3,
+        &[
+            ("BASE", "The file of the base, %O"),
+            ("OURS", "The file of our version, %A"),
+            ("THEIRS", "The file of their version, %B"),
+            ("PATH", "The path of the table, %P"),
+        ],
+    ),
+    (
+        "git-setup",
+        "Prints the commands that tell git of both, with these options.",
+        0,
+        &[],
+    ),
+];
+
+/// Puts the commands for git behind others.
+///
+/// # Errors
+///
+/// Returns `AllocError` if a request for memory was refused.
+pub fn put_git_commands<'a>(
+    alloc: Global,
+    commands: &mut Vec<Command<'a>>,
+) -> Result<(), AllocError> {
+    for command in &COMMANDS {
+        put(commands, git_command(alloc, command)?)?;
+    }
+    Ok(())
+}
+
+fn git_command<'a>(alloc: Global, command: &GitCommand) -> Result<Command<'a>, AllocError> {
+    let (name, about, required, words) = *command;
+    let mut args = Vec::new(alloc);
+    for (place, (word, help)) in words.iter().enumerate() {
+        let arg = Arg::new(alloc, word).required(place < required).help(help);
+        put(&mut args, arg)?;
+    }
+    if name == "git-diff" {
+        put(&mut args, choice(alloc, COLOR))?;
+    }
+    for (name, value, help) in &TEXTS {
+        put(&mut args, text(alloc, name, value, help))?;
+    }
+    for (name, help) in &FLAGS {
+        if *name != "keep-order" {
+            put(&mut args, flag(alloc, name, help))?;
+        }
+    }
+    Command::new(alloc, name).about(about).args(args)
+}
+
+/// What a command for git asks for, if it is one. The words are all of the command line.
+///
+/// # Errors
+///
+/// Returns a `ParseError` if what is given for an option is none of its values.
+pub fn git_asked<'a>(
+    alloc: Global,
+    name: &str,
+    matches: &ArgMatches<'a>,
+    words: &'a [String],
+    terminal: Colours,
+) -> Result<Option<Asked<'a>>, ParseError> {
+    match name {
+        "git-diff" => Ok(Some(diff_asked(alloc, matches, terminal)?)),
+        "git-merge" => Ok(Some(merge_asked(alloc, matches)?)),
+        "git-setup" => {
+            settings_in_order(alloc, matches, merge_of_path("-"))?;
+            Ok(Some(Asked::GitSetup {
+                options: words.get(2..).unwrap_or(&[]),
+            }))
+        }
+        _ => Ok(None),
+    }
+}
+
+fn diff_asked<'a>(
+    alloc: Global,
+    matches: &ArgMatches<'a>,
+    terminal: Colours,
+) -> Result<Asked<'a>, ParseError> {
+    let path = file_of(matches, "PATH");
+    match (matches.get_str("OLD"), matches.get_str("NEW")) {
+        (Some(old), Some(new)) => {
+            let diff = GitDiff {
+                path,
+                renamed: matches.get_str("NEW-PATH"),
+                old,
+                new,
+            };
+            versions_asked(alloc, matches, format_of(matches, terminal), diff)
+        }
+        _ => Ok(Asked::GitUnmerged { path }),
+    }
+}
+
+fn versions_asked<'a>(
+    alloc: Global,
+    matches: &ArgMatches<'a>,
+    format: Format,
+    diff: GitDiff<'a>,
+) -> Result<Asked<'a>, ParseError> {
+    let named = Request::Diff {
+        old: diff.path,
+        new: diff.renamed.unwrap_or(diff.path),
+        format,
+    };
+    Ok(Asked::GitDiff {
+        settings: settings_in_order(alloc, matches, named)?,
+        format,
+        diff,
+    })
+}
+
+fn merge_asked<'a>(alloc: Global, matches: &ArgMatches<'a>) -> Result<Asked<'a>, ParseError> {
+    let ours = file_of(matches, "OURS");
+    let named = merge_of_path(matches.get_str("PATH").unwrap_or(ours));
+    Ok(Asked::GitMerge {
+        settings: settings_in_order(alloc, matches, named)?,
+        merge: GitMerge {
+            base: file_of(matches, "BASE"),
+            ours,
+            theirs: file_of(matches, "THEIRS"),
+        },
+    })
+}
+
+// A merge of three files of this name, which says what stands between their cells. Those that git hands over have names of their own.
+fn merge_of_path(path: &str) -> Request<'_> {
+    Request::Merge {
+        base: path,
+        ours: path,
+        theirs: path,
+        how: Merging::AS_GIT,
+    }
+}
+
+// The settings of a command, with rows in the order of the files.
+fn settings_in_order<'a>(
+    alloc: Global,
+    matches: &ArgMatches<'a>,
+    request: Request<'a>,
+) -> Result<Settings<'a>, ParseError> {
+    Ok(Settings {
+        keeps_order: true,
+        ..settings_of(alloc, matches, files_of(request))?
+    })
+}

@@ -1,0 +1,38 @@
+//! The options for the file that an answer goes into, and for an answer that stands behind another.
+
+use crate::{Heading, flag, put};
+use clap::{Arg, ArgMatches};
+use std::alloc::{AllocError, Global};
+
+/// The file that the answer goes into, if that is not the standard output.
+pub fn output_of<'a>(matches: &ArgMatches<'a>) -> Option<&'a str> {
+    matches.get_str("output").filter(|file| *file != "-")
+}
+
+/// Whether the answer has the names of its columns.
+pub fn heading_of(matches: &ArgMatches<'_>) -> Heading {
+    if matches.get_flag("no-heading") {
+        Heading::LeftOut
+    } else {
+        Heading::Written
+    }
+}
+
+/// Puts the options behind others.
+///
+/// # Errors
+///
+/// Returns `AllocError` if a request for memory was refused.
+pub fn put_output(alloc: Global, args: &mut Vec<Arg<'_>>) -> Result<(), AllocError> {
+    let output = Arg::new(alloc, "output")
+        .short('o')
+        .long("output")
+        .value_name("FILE")
+        .help(
+            "The file that the answer goes into, once it is whole; it may be one of those that are read",
+        );
+    put(args, output)?;
+    let no_heading = "CSV has no names of columns, so that it can stand behind other CSV";
+    let no_heading = flag(alloc, "no-heading", no_heading).conflicts_with("output")?;
+    put(args, no_heading)
+}

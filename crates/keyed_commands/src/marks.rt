@@ -1,0 +1,142 @@
+//! A merged table in which rows in conflict stand between marks, as git writes them.
+ghost use Rattle.keyed_commands.specs.ComeOut.{AlikeMarked};
+
+use crate::job::Job;
+use crate::row_order::{Grouped, RowOrder};
+use eob_joins::Versions;
+use keyed_files::{Columns, Reason, Written, begin_table, quote_first};
+use keyed_rows::{Group, Key};
+use keyed_tables::Marked;
+use std::alloc::{AllocError, Global};
+
+impl Grouped for Marked<Group> {
+    ghost alike = { AlikeMarked };
+
+    fn in_order(self, alloc: Global, order: &RowOrder, key: &Key) -> Result<Self, AllocError> {
+        match self {
+            Marked::Settled(group) => Ok(Marked::Settled(group.in_order(alloc, order, key)?)),
+            Marked::Stuck(versions) => { Ok(Marked::Stuck(versions.in_order(alloc, order, key)?)) }
+        }
+    }
+}
+
+/// Whether one of the rows is in conflict.
+pub fn has_conflict(rows: &[(Key, Marked<Group>)]) -> bool {
+    rows.iter().any(|row| is_stuck(&row.1))
+}
+
+fn is_stuck(row: &Marked<Group>) -> bool {
+    match row {
+        Marked::Settled(_) => false,
+        Marked::Stuck(_) => true,
+    }
+}
+
+/// The merged rows, and those that are in conflict.
+///
+/// # Errors
+///
+/// Returns `AllocError` if a request for memory was refused.
+pub fn parted(
+    alloc: Global,
+    rows: Vec<(Key, Marked<Group>)>,
+) -> Result<(Vec<(Key, Group)>, Vec<(Key, Versions<Group>)>), AllocError> {
+    let mut settled = Vec::new(alloc);
+    let mut stuck = Vec::new(alloc);
+    for (key, row) in rows {
+        match row {
+            Marked::Settled(group) => settled.push((key, group))?,
+            Marked::Stuck(versions) => stuck.push((key, versions))?,
+        }
+    }
+    Ok((settled, stuck))
+}
+
+/// The table as CSV, with the versions of each row in conflict between marks.
+///
+/// # Errors
+///
+/// Returns `CellCount` if a row has more or fewer cells than the first one, and `NoMemory`, or `Io` with the error that the
+/// writer makes of it, if a request for memory was refused.
+pub fn write_marked(
+    job: &Job<'_, Columns>,
+    rows: Vec<(Key, Marked<Group>)>,
+) -> Result<Vec<u8>, Reason> {
+    let mut text = Text {
+        bytes: Vec::new(job.alloc),
+        written: begin_table(job.alloc, job.form, None, job.columns)?,
+    };
+    for (key, row) in rows {
+        text = match row {
+            Marked::Settled(group) => text.with_rows(job, &key, &group)?,
+            Marked::Stuck(versions) => text.with_versions(job, &key, &versions)?,
+        };
+    }
+    let bytes = text.with_line(job, "")?.bytes;
+    Ok(quote_first(job.alloc, bytes, job.form.delimiter)?)
+}
+
+// A text in the making: bytes that stay as they are, and rows behind them.
+#[derive(Drop)]
+struct Text {
+    bytes: Vec<u8>,
+    written: Written,
+}
+
+impl Text {
+    // The text with the rows under a key behind it.
+    fn with_rows(
+        mut self,
+        job: &Job<'_, Columns>,
+        key: &Key,
+        rows: &Group,
+    ) -> Result<Self, Reason> {
+        self.written.put_rows(None, job.columns, key, rows)?;
+        Ok(self)
+    }
+
+    // The text with a line behind it that is no row.
+    fn with_line(self, job: &Job<'_, Columns>, line: &str) -> Result<Self, Reason> {
+        let Text { mut bytes, written } = self;
+        bytes.extend_from_slice(&written.finish()?)?;
+        bytes.extend_from_slice(line.as_bytes())?;
+        Ok(Text {
+            bytes,
+            written: Written::new(job.alloc, job.form),
+        })
+    }
+
+    // The text with the versions of a row in conflict behind it, each behind a mark.
+    fn with_versions(
+        self,
+        job: &Job<'_, Columns>,
+        key: &Key,
+        versions: &Versions<Group>,
+    ) -> Result<Self, Reason> {
+        let (base, sides) = versions.as_ref().unzip();
+        let (ours, theirs) = match sides {
+            Some(sides) => sides.as_ref().unzip(),
+            None => (None, None),
+        };
+        let text = self.with_line(job, "<<<<<<< ours\n")?;
+        let text = text.with_version(job, key, ours)?;
+        let text = text.with_line(job, "||||||| base\n")?;
+        let text = text.with_version(job, key, base)?;
+        let text = text.with_line(job, "=======\n")?;
+        let text = text.with_version(job, key, theirs)?;
+        text.with_line(job, ">>>>>>> theirs\n")
+    }
+
+    // The text with the rows of one version behind it, if it has any.
+    fn with_version(
+        self,
+        job: &Job<'_, Columns>,
+        key: &Key,
+        rows: Option<&Group>,
+    ) -> Result<Self, Reason> {
+        match rows {
+            Some(rows) => self.with_rows(job, key, rows),
+            None => Ok(self),
+        }
+    }
+}

@@ -1,0 +1,209 @@
+//! Tables in memory as the answers to the commands that make them: changes made to a table, and versions merged.
+ghost use Rattle.std.specs.Prelude.{◌≡◌, IfOk, MatchBool, is_none};
+ghost use Rattle.keyed_tables.specs.Arranged.{noted};
+ghost use Rattle.keyed_commands.specs.Answers.{AllFit, AnswersMerge, AnswersMerged, AnswersMergedByCell, AnswersPatched};
+ghost use Rattle.keyed_commands.specs.Answers.{AnswersTable, HasConflict, HasNoConflict, HasNoneStuck};
+ghost use Rattle.keyed_commands.specs.Answers.{HasStuck, IsTableText, Stops, key_cmp};
+ghost use Rattle.keyed_commands.specs.declared.answers.Outcome.TheVariants.{Made};
+
+use crate::answers::{Answer, Outcome};
+use crate::fits::all_fit;
+use crate::job::{Changes, Job, Table};
+use crate::losses::lose_cells;
+use crate::lost::render_lost;
+use crate::merged::render_conflicts;
+use crate::patch::render_misfits;
+use eob_joins::{Merged, Versions};
+use keyed_files::{Columns, Reason, write_table};
+use keyed_rows::{Group, Key};
+use keyed_tables::{merge_by_cell_of, merge_of, patched};
+
+/// The answer to `apply`: the table with the changes made to it, where each of them fits, and else a report of those that do not.
+///
+/// # Errors
+///
+/// Returns the errors of `write_table`.
+pub fn apply_tables(job: &Job<'_, Columns>, old: Table, changes: Changes) -> Result<Answer, Reason>
+    ensures fits { IfOk result (λ answer. AllFit key_cmp old.pairs.items changes.pairs.items
+        → AnswersPatched job.now.form job.now.columns.now (noted job.now.order)
+        (is_none job.now.row_order.files) old.pairs.items changes.pairs.items answer) }
+    ensures misfits { IfOk result (λ answer. (AllFit key_cmp old.pairs.items changes.pairs.items → ⊥) → Stops answer) }
+{
+    let fit = all_fit(&old, &changes);
+    let answer = apply_if(job, fit, old, changes)?;
+    Ok(answer)
+}
+
+// The table with the changes made to it if they fit, and else a report.
+fn apply_if(
+    job: &Job<'_, Columns>,
+    fit: bool,
+    old: Table,
+    changes: Changes,
+) -> Result<Answer, Reason>
+    ensures { IfOk result (λ answer. MatchBool fit (AnswersPatched job.now.form job.now.columns.now (noted job.now.order)
+        (is_none job.now.row_order.files) old.pairs.items changes.pairs.items answer) (Stops answer)) }
+{
+    if fit {
+        let answer = apply_fitting(job, old, changes)?;
+        Ok(answer)
+    } else {
+        let answer = report_misfits(job, old, changes)?;
+        Ok(answer)
+    }
+}
+
+// The table with changes made to it that fit.
+fn apply_fitting(job: &Job<'_, Columns>, old: Table, changes: Changes) -> Result<Answer, Reason>
+    ensures { IfOk result (AnswersPatched job.now.form job.now.columns.now (noted job.now.order)
+        (is_none job.now.row_order.files) old.pairs.items changes.pairs.items) }
+{
+    let rows = patched(job.alloc, old, changes)?;
+    let answer = answer_of_rows(job, "table", rows)?;
+    Ok(answer)
+}
+
+// Changes that do not fit, as a person reads them.
+fn report_misfits(job: &Job<'_, Columns>, old: Table, changes: Changes) -> Result<Answer, Reason>
+    ensures { IfOk result Stops }
+{
+    let text = render_misfits(job, (old, changes))?;
+    Ok(stopped(text))
+}
+
+/// The answer to `merge` that takes each row whole: the merged table, or a report of the rows in conflict.
+///
+/// # Errors
+///
+/// Returns the errors of `write_table`.
+pub fn merge_by_row(
+    job: &Job<'_, Columns>,
+    base: Table,
+    ours: Table,
+    theirs: Table,
+) -> Result<Answer, Reason>
+    ensures whole { IfOk result (λ answer. HasNoConflict base.pairs.items ours.pairs.items theirs.pairs.items
+        → AnswersMerged job.now.form job.now.columns.now (noted job.now.order)
+        (is_none job.now.row_order.files) base.pairs.items ours.pairs.items theirs.pairs.items answer) }
+    ensures conflict { IfOk result (λ answer. HasConflict base.pairs.items ours.pairs.items theirs.pairs.items → Stops answer) }
+{
+    let merged = merge_of(job.alloc, base, ours, theirs)?;
+    let answer = answer_of_merge(job, merged)?;
+    Ok(answer)
+}
+
+/// The answer to `merge` that merges a row of each version cell by cell: the merged table, or a report of the rows in conflict.
+///
+/// # Errors
+///
+/// Returns the errors of `write_table`.
+pub fn merge_by_cell(
+    job: &Job<'_, Columns>,
+    base: Table,
+    ours: Table,
+    theirs: Table,
+) -> Result<Answer, Reason>
+    ensures whole { IfOk result (λ answer. HasNoneStuck base.pairs.items ours.pairs.items theirs.pairs.items
+        → AnswersMergedByCell job.now.form job.now.columns.now (noted job.now.order)
+        (is_none job.now.row_order.files) base.pairs.items ours.pairs.items theirs.pairs.items answer) }
+    ensures conflict { IfOk result (λ answer. HasStuck base.pairs.items ours.pairs.items theirs.pairs.items → Stops answer) }
+{
+    let merged = merge_by_cell_of(job.alloc, base, ours, theirs)?;
+    let answer = answer_of_merge(job, merged)?;
+    Ok(answer)
+}
+
+// The merged table, or a report of the rows in conflict.
+fn answer_of_merge(job: &Job<'_, Columns>, merged: Merged<Key, Group>) -> Result<Answer, Reason>
+    ensures { IfOk result (AnswersMerge job.now.form job.now.columns.now (noted job.now.order)
+        (is_none job.now.row_order.files) merged) }
+{
+    match merged {
+        Merged::Whole(rows) => {
+            let answer = answer_of_rows(job, "merged", rows)?;
+            Ok(answer)
+        }
+        Merged::Conflicts(rows) => {
+            let answer = report_conflicts(job, rows)?;
+            Ok(answer)
+        }
+    }
+}
+
+/// Rows in conflict as a person reads them.
+///
+/// # Errors
+///
+/// Returns `NoMemory` if a request for memory was refused.
+pub fn report_conflicts(
+    job: &Job<'_, Columns>,
+    rows: Vec<(Key, Versions<Group>)>,
+) -> Result<Answer, Reason>
+    ensures { IfOk result Stops }
+{
+    let rows = job.arrange(rows)?;
+    let text = render_conflicts(job.alloc, job.columns, &rows)?;
+    Ok(stopped(text))
+}
+
+/// The rows as CSV, with status 0; or those that have cells in columns that go, with this word, and status 1.
+///
+/// # Errors
+///
+/// Returns the errors of `write_table`.
+pub fn answer_of_rows(
+    job: &Job<'_, Columns>,
+    word: &str,
+    rows: Vec<(Key, Group)>,
+) -> Result<Answer, Reason>
+    ensures { IfOk result (AnswersTable job.now.form job.now.columns.now (noted job.now.order)
+        (is_none job.now.row_order.files) rows.items) }
+{
+    if lose_cells(job.columns, &rows) {
+        let answer = report_lost(job, word, rows)?;
+        Ok(answer)
+    } else {
+        let answer = table_as_csv(job, rows)?;
+        Ok(answer)
+    }
+}
+
+// The rows that have cells in columns that go.
+fn report_lost(
+    job: &Job<'_, Columns>,
+    word: &str,
+    rows: Vec<(Key, Group)>,
+) -> Result<Answer, Reason>
+    ensures { IfOk result Stops }
+{
+    let rows = job.arrange(rows)?;
+    let text = render_lost(job, word, &rows)?;
+    Ok(stopped(text))
+}
+
+// The rows as CSV.
+fn table_as_csv(job: &Job<'_, Columns>, rows: Vec<(Key, Group)>) -> Result<Answer, Reason>
+    ensures text { IfOk result (λ answer. IsTableText job.now.form job.now.columns.now (noted job.now.order)
+        (is_none job.now.row_order.files) rows.items answer.bytes.items) }
+    ensures status { IfOk result (λ answer. answer.status ≡ 0) }
+    ensures outcome { IfOk result (λ answer. answer.outcome ≡ Made) }
+{
+    let rows = job.arrange(rows)?;
+    let bytes = write_table(job.alloc, job.form, job.columns, rows)?;
+    Ok(Answer {
+        bytes,
+        status: 0,
+        outcome: Outcome::Made,
+    })
+}
+
+// A report that is no table.
+fn stopped(text: String) -> Answer
+    ensures { Stops result }
+{
+    Answer {
+        bytes: text.into_bytes(),
+        status: 1,
+        outcome: Outcome::Stopped,
+    }
+}

@@ -1,0 +1,20 @@
+//! Tables cut into parts by ranges of their keys, all at the same ones, so that the commands can be run on the parts, one after the other
+//! or side by side, and what they print, one after the other, is what they print of the whole (`law_cut_joins` of `eob_parts`).
+//!
+//! `write_cut` reads each table twice, in memory that does not grow: once for a sample of keys, from which boundaries are taken, and once
+//! to deal the rows. Which part a row is in, and that it is in that one alone, is proved in `keyed_parts`.
+#![tactic(auto)]
+
+mod batches;
+mod cutting;
+mod fault;
+mod listing;
+mod names;
+mod request;
+mod sampling;
+mod sinks;
+mod tables;
+
+pub use cutting::{CutStatus, write_cut};
+pub use fault::{CutFault, CutReason};
+pub use request::{Cut, CutTables, Divided, LEAST_PARTS, MOST_PARTS, Second};

@@ -1,0 +1,260 @@
+//! The tables that are cut, each with the columns of its own header, read row by row.
+
+use crate::fault::{CutFault, CutReason};
+use crate::request::{Cut, CutTables, Second};
+use keyed_files::{
+    Columns, Content, Delimiter, Fate, KeyNames, Opened, Places, Reason, Sign, Stream, at,
+    key_names,
+};
+use keyed_rows::{Cells, Key};
+use std::alloc::{AllocError, Global};
+use std::fs;
+use std::io::Read;
+use std::rt::Files;
+
+/// A row as it goes into a part: its sign, where it is one of changes, and its cells beside those of its key.
+#[derive(Drop)]
+pub struct PartRow {
+    pub sign: Option<Sign>,
+    pub cells: Cells,
+}
+
+/// A table whose header is read, and its columns.
+#[derive(Drop)]
+pub struct Table<'a, R> {
+    opened: Opened<'a, R>,
+    content: Content,
+    pub columns: Columns,
+    places: Places,
+}
+
+/// The tables that are cut, and the names of the columns that are their key in the first of them.
+#[derive(Drop)]
+pub struct Tables<'a, R> {
+    pub tables: Vec<Table<'a, R>>,
+    pub key: Cells,
+}
+
+// A file by its name, with what it has and the byte between its cells where that is not the one of the first.
+type Named<'a> = (&'a str, Content, Option<Delimiter>);
+
+// A file of rows.
+fn rows<'a>(file: &'a str, delimiter: Option<Delimiter>) -> Named<'a> {
+    (file, Content::Rows, delimiter)
+}
+
+// The files that are cut, of which none is the standard input.
+fn files_of<'a>(alloc: Global, cut: Cut<'a>) -> Result<Vec<Named<'a>>, CutFault<'a>> {
+    let reading = cut.layout.form.reading;
+    let mut files = Vec::new(alloc);
+    match cut.tables {
+        CutTables::Two {
+            left,
+            right,
+            second,
+        } => {
+            let content = match second {
+                Second::Rows => Content::Rows,
+                Second::Changes => Content::Changes,
+            };
+            put(&mut files, rows(left, None))?;
+            put(&mut files, (right, content, reading.next))?;
+        }
+        CutTables::Three { base, ours, theirs } => {
+            put(&mut files, rows(base, None))?;
+            put(&mut files, rows(ours, reading.next))?;
+            put(&mut files, rows(theirs, reading.last))?;
+        }
+    }
+    for (file, _content, _delimiter) in &files {
+        if *file == "-" {
+            return Err(CutFault::Asked {
+                file: "-",
+                reason: CutReason::ReadTwice,
+            });
+        }
+    }
+    Ok(files)
+}
+
+// Puts an item behind the others. The error of `push` holds the item, and so is none that a fault can be of.
+fn put<T: Drop>(items: &mut Vec<T>, item: T) -> Result<(), AllocError> {
+    items.push(item)?;
+    Ok(())
+}
+
+/// Opens the tables that are cut, and reads their headers.
+///
+/// # Errors
+///
+/// Returns `ReadTwice` if one is the standard input, and the fault of the first table that can't be opened or lacks a column of the key.
+pub fn open_tables<'a, R: Files + AllocGlobal>(
+    rt: &R,
+    cut: Cut<'a>,
+) -> Result<Tables<'a, R::File>, CutFault<'a>> {
+    let alloc = rt.alloc();
+    let mut opened = Vec::new(alloc);
+    for (file, content, delimiter) in files_of(alloc, cut)? {
+        let stream = Stream {
+            file,
+            delimiter,
+            reader: match fs::open(rt, file) {
+                Ok(reader) => Ok(reader),
+                Err(error) => Err(Reason::Io(error)),
+            },
+        };
+        let table = Opened::new(alloc, cut.layout.form, content, stream)?;
+        put(&mut opened, (table, content))?;
+    }
+    tables_of(alloc, cut.layout.key, opened)
+}
+
+// The tables, of which the first has the first names of the key, and the others its other names.
+fn tables_of<'a, F: Read + Drop>(
+    alloc: Global,
+    key: Option<&str>,
+    opened: Vec<(Opened<'a, F>, Content)>,
+) -> Result<Tables<'a, F>, CutFault<'a>> {
+    let names = key_of(alloc, key, &opened)?;
+    let mut tables = Vec::new(alloc);
+    for (table, content) in opened {
+        let key = key_at(&names, tables.len())?;
+        put(&mut tables, table_of(alloc, key, table, content)?)?;
+    }
+    Ok(Tables {
+        tables,
+        key: names.first,
+    })
+}
+
+// The names of the key in the table at a place.
+fn key_at(names: &KeyNames, place: usize) -> Result<Cells, AllocError> {
+    match place {
+        0 => names.first.clone(),
+        _ => names.others.clone(),
+    }
+}
+
+fn table_of<'a, F: Read + Drop>(
+    alloc: Global,
+    key: Cells,
+    opened: Opened<'a, F>,
+    content: Content,
+) -> Result<Table<'a, F>, CutFault<'a>> {
+    let columns = columns_under(alloc, key, opened.header())?;
+    let places = at(opened.file, opened.source.places(&columns))?;
+    Ok(Table {
+        opened,
+        content,
+        columns,
+        places,
+    })
+}
+
+/// The columns of one header under a key.
+///
+/// # Errors
+///
+/// Returns `AllocError` if a request for memory was refused.
+pub fn columns_under(alloc: Global, key: Cells, header: &Cells) -> Result<Columns, AllocError> {
+    Columns::new(alloc, key, &[header])
+}
+
+// The names of the key: those that are set, or that of the first column of the first table that has one.
+fn key_of<'a, F>(
+    alloc: Global,
+    key: Option<&str>,
+    opened: &[(Opened<'a, F>, Content)],
+) -> Result<KeyNames, CutFault<'a>> {
+    let Some((first, _)) = opened.first() else {
+        return Err(CutFault::NoMemory);
+    };
+    match key {
+        Some(names) => Ok(at(first.file, key_names(alloc, names))?),
+        None => {
+            let mut names = Cells::new(alloc);
+            for (table, _) in opened {
+                if let Some(name) = table.header().get(0) {
+                    names.push(name)?;
+                    break;
+                }
+            }
+            Ok(KeyNames::alike(names)?)
+        }
+    }
+}
+
+impl<'a, R> Table<'a, R> {
+    /// The name of its file.
+    pub fn file(&self) -> &'a str {
+        self.opened.file
+    }
+
+    /// The header of its parts, or none of a file with no row. Changes have a sign before the columns, and marks where the names would be
+    /// taken for others.
+    ///
+    /// # Errors
+    ///
+    /// Returns `AllocError` if a request for memory was refused.
+    pub fn part_header(&self, alloc: Global) -> Result<Option<Cells>, AllocError> {
+        if self.columns.order.is_empty() {
+            return Ok(None);
+        }
+        let mut header = Cells::new(alloc);
+        match self.content {
+            Content::Rows => {
+                for name in self.opened.header() {
+                    header.push(name)?;
+                }
+            }
+            Content::Changes => {
+                header.push(b"change")?;
+                for name in self.opened.header() {
+                    header.push(&self.fate_of(name).marked(alloc, name)?)?;
+                }
+            }
+        }
+        Ok(Some(header))
+    }
+
+    // What becomes of a column of changes. One that comes needs no mark to be read.
+    fn fate_of(&self, name: &[u8]) -> Fate {
+        if self.opened.source.gone().iter().any(|gone| gone == name) {
+            Fate::Goes
+        } else {
+            Fate::Stays
+        }
+    }
+}
+
+impl<'a, R: Read + Drop> Table<'a, R> {
+    /// Reads the next row, if there is one.
+    ///
+    /// # Errors
+    ///
+    /// Returns the fault of the row.
+    pub fn next_row(&mut self) -> Result<Option<(Key, PartRow)>, CutFault<'a>> {
+        let row = match self.content {
+            Content::Rows => match self.opened.source.read_row(&self.places) {
+                Ok(Some(row)) => Ok(Some((None, row))),
+                Ok(None) => Ok(None),
+                Err(reason) => Err(reason),
+            },
+            Content::Changes => match self.opened.source.read_signed(&self.places) {
+                Ok(Some(signed)) => Ok(Some((Some(signed.sign), signed.row))),
+                Ok(None) => Ok(None),
+                Err(reason) => Err(reason),
+            },
+        };
+        match at(self.opened.file, row)? {
+            Some((sign, row)) => Ok(Some((
+                row.key,
+                PartRow {
+                    sign,
+                    cells: row.cells,
+                },
+            ))),
+            None => Ok(None),
+        }
+    }
+}

@@ -1,0 +1,96 @@
+-- What a source has given of a text, from its lines to its records.
+use Rattle.std.proofs.Common.{◌≡◌, ◌∙◌, ◌==◌, ℕ, List, [], ◌∷◌, ◌++◌, Option, Some, None, Bool, true, false, refl, sym, ap, subst, inl, inr, if◌then◌else◌}
+use Rattle.std.specs.Prelude.{◌&&◌, IfSome, is_none, option_map}
+use Rattle.std.specs.Io.KnownBytes.{Keeps}
+use Rattle.std.proofs.KnownBytes.{prepend_known-nil}
+use Rattle.std.proofs.lemmas.Bool.{cases_Bool, eqb-true}
+use Rattle.csv.specs.Records.{fields_of}
+use Rattle.keyed_text.specs.Streams.{GivesRow, HasRead}
+use Rattle.keyed_text.specs.Texts.{AreRows}
+use Rattle.keyed_text.specs.declared.row_reader.RowReader.{RowReader}
+use Rattle.keyed_files.specs.Headers.{HeaderOf, NamesOf}
+use Rattle.keyed_files.specs.Lines.{Begins, checked_left, lines_left}
+use Rattle.keyed_files.specs.Reading.{GivesRecord, HasGiven, HasGivenIn, IsHeader, IsOpen, next_of, text_read}
+use Rattle.keyed_files.specs.Writing.{comment_of, delimiter_of}
+use Rattle.keyed_files.specs.declared.by_line.ByLine.{ByLine}
+use Rattle.keyed_files.specs.declared.checked.Checked.{Checked}
+use Rattle.keyed_files.specs.declared.request.Comment.{Comment}
+use Rattle.keyed_files.specs.declared.request.Form.{Form}
+use Rattle.keyed_files.specs.declared.request.Reading.{Reading}
+use Rattle.keyed_files.specs.declared.source.Content.{Content}
+use Rattle.keyed_files.specs.declared.source.Next.TheVariants as next
+use Rattle.keyed_files.specs.declared.source.Source.{Source}
+
+-- a reader of lines of which nothing is read has all that its reader has
+pub begun-left : {R : Type 0} (rem : R → Option (List ℕ)) (inner : R) (reading : Reading) (lines : ByLine R) → Begins inner reading lines
+    → lines_left rem lines ≡ (if is_none (option_map (λ comment. comment.byte) reading.comment) then rem inner else None)
+begun-left rem inner reading lines h = rw (h.comment, h.goes_on, h.none, h.under, prepend_known-nil (rem inner)) refl
+
+pub kept-text : (comment : Option Comment) (skipped : ℕ) (known x y : Option (List ℕ))
+    → x ≡ (if is_none (option_map (λ comment. comment.byte) comment) then known else None) → (skipped ≡ 0 → Keeps x y)
+    → Keeps (if is_none comment && (skipped == 0) then known else None) y
+kept-text None skipped known x y e h = elim (cases_Bool (skipped == 0)) [
+  | inl none ↦ rw none (subst (λ x. Keeps x y) e (h (eqb-true skipped 0 none)))
+  | inr some ↦ rw some tt
+]
+kept-text (Some c) skipped known x y e h = tt
+
+some-kept : (P : List ℕ → Type 0) (a b : Option (List ℕ)) → Keeps a b → IfSome b P → IfSome a P
+some-kept P None b k h = tt
+some-kept P (Some x) None k h = absurd k
+some-kept P (Some x) (Some y) k h = subst P k h
+
+-- a reader of the rows of what is read of a file
+pub begun-rows : {R : Type 0} (rem : R → Option (List ℕ)) (form : Form) (known left : Option (List ℕ)) (rows : RowReader (Checked R))
+    → Keeps (text_read form known) left
+    → IfSome left (λ text. HasRead (delimiter_of form) (comment_of form) (checked_left rem) text [] rows)
+    → IfSome (text_read form known) (λ text. HasRead (delimiter_of form) (comment_of form) (checked_left rem) text [] rows)
+begun-rows rem form known left rows k h =
+    some-kept (λ text. HasRead (delimiter_of form) (comment_of form) (checked_left rem) text [] rows) (text_read form known) left k h
+
+-- a step of a source that reads on
+pub gives-next : {R : Type 0} (rem : R → Option (List ℕ)) (a b : Source R) (found : Bool) → a.next ≡ next.Read → (found ≡ true → b.next ≡ next.Read)
+    → GivesRow (checked_left rem) a.reader b.reader found (fields_of b.last) → GivesRecord rem a b found
+gives-next rem a b true was stays reads = λ d c text rows h.
+    subst (HasGivenIn d c rem text (rows ++ (fields_of b.last ∷ [])) b) (sym (stays refl)) (reads d c text rows (subst (HasGivenIn d c rem text rows a) was h))
+gives-next rem a b false was stays reads = λ d c text rows h. reads d c text rows (subst (HasGivenIn d c rem text rows a) was h)
+
+-- a source that gives the record that waits
+pub gives-kept : {R : Type 0} (rem : R → Option (List ℕ)) (a b : Source R) → a.next ≡ next.Kept → b.next ≡ next.Read → b.reader ≡ a.reader → b.last ≡ a.last
+    → GivesRecord rem a b true
+gives-kept rem a b was is reader last = λ d c text rows h.
+    subst (HasGivenIn d c rem text (rows ++ (fields_of b.last ∷ [])) b) (sym is) (rw (reader, last) (subst (HasGivenIn d c rem text rows a) was h))
+
+-- a source that has no more
+pub gives-none : {R : Type 0} (rem : R → Option (List ℕ)) (a b : Source R) → a.next ≡ next.Ended → GivesRecord rem a b false
+gives-none rem a b was = λ d c text rows h. subst (HasGivenIn d c rem text rows a) was h
+
+-- a source whose first record is read
+module _ {R : Type 0} (rem : R → Option (List ℕ)) (form : Form) (kind : Content) (text : List ℕ) (old : RowReader (Checked R)) (source : Source R)
+    (content : source.content ≡ kind) (begun : HasRead (delimiter_of form) (comment_of form) (checked_left rem) text [] old) where
+  opened-if : (has_header has_first : Bool) → form.has_header ≡ has_header
+      → GivesRow (checked_left rem) old source.reader has_first (fields_of source.last) → source.next ≡ next_of has_first has_header
+      → HeaderOf has_header kind has_first (fields_of source.last) source.header.names → IsOpen form kind rem text source
+  opened-if true false same reads is header =
+      let none = reads _ _ text [] begun in
+      record { content = content; first = []; header = rw same (none, header); given = rw is none }
+  opened-if false false same reads is header = record { content = content; first = []; header = rw same tt; given = rw is (reads _ _ text [] begun) }
+  opened-if true true same reads is header =
+      record { content = content; first = fields_of source.last ∷ []; header = rw same header; given = rw is (reads _ _ text [] begun) }
+  opened-if false true same reads is header = record { content = content; first = []; header = rw same tt; given = rw is (reads _ _ text [] begun) }
+
+  pub opened : (has_first : Bool) → GivesRow (checked_left rem) old source.reader has_first (fields_of source.last)
+      → source.next ≡ next_of has_first form.has_header → HeaderOf form.has_header kind has_first (fields_of source.last) source.header.names
+      → IsOpen form kind rem text source
+  opened has_first reads is header = opened-if form.has_header has_first refl reads is header
+
+-- the same of a text that is known or not
+pub opened-known : {R : Type 0} (rem : R → Option (List ℕ)) (form : Form) (kind : Content) (known : Option (List ℕ)) (old : RowReader (Checked R))
+    (source made : Source R) → source ≡ made → made.content ≡ kind
+    → IfSome known (λ text. HasRead (delimiter_of form) (comment_of form) (checked_left rem) text [] old)
+    → (has_first : Bool) → GivesRow (checked_left rem) old made.reader has_first (fields_of made.last)
+    → made.next ≡ next_of has_first form.has_header → HeaderOf form.has_header kind has_first (fields_of made.last) made.header.names
+    → IfSome known (λ text. IsOpen form kind rem text source)
+opened-known rem form kind None old source made same content begun has_first reads is header = tt
+opened-known rem form kind (Some text) old source made same content begun has_first reads is header =
+    rw same (opened rem form kind text old made content begun has_first reads is header)

@@ -1,0 +1,61 @@
+-- The rows that are read of a text, one after the other, and the table that they are.
+use Rattle.std.proofs.Common.{◌≡◌, ◌∙◌, ℕ, List, [], ◌∷◌, ◌++◌, Option, Bool, true, false, map, refl, sym, ap, ap₂, subst, append_assoc}
+use Rattle.std.proofs.lemmas.List.{append-nil, map-append}
+use Rattle.std.proofs.lemmas.Simd.{map-map}
+use Rattle.keyed_rows.specs.declared.row.ReadRow.{ReadRow}
+use Rattle.keyed_text.specs.Texts.{AreRows}
+use Rattle.keyed_text.proofs.TextLemmas.{rows-once}
+use Rattle.keyed_files.specs.Headers.{ArePlaces, NamesOf, place_under}
+use Rattle.keyed_files.specs.Picked.{cell_at}
+use Rattle.keyed_files.specs.Reading.{HasGiven, IsHeader, IsOpen, IsPicked, IsTable, PlacesOf, ReadBehind, ReadsRest, ReadsRows, behind_header, parts_of, picked, row_under}
+use Rattle.keyed_files.specs.Writing.{comment_of, delimiter_of}
+use Rattle.keyed_files.specs.declared.columns.Columns.{Columns}
+use Rattle.keyed_files.specs.declared.request.Form.{Form}
+use Rattle.keyed_files.specs.declared.source.Content.{Content}
+use Rattle.keyed_files.specs.declared.source.Places.{Places}
+use Rattle.keyed_files.specs.declared.source.Source.{Source}
+
+-- no row is read yet
+pub rows-none : (places : Places) (old : List ReadRow) → ReadBehind places old old []
+rows-none places old = record { more = []; rows = sym (append-nil old); parts = refl }
+
+-- one more row
+pub rows-and : (places : Places) (old new next : List ReadRow) (records : List (List (List ℕ))) (row : ReadRow) (fields : List (List ℕ))
+    → ReadBehind places old new records → next ≡ new ++ (row ∷ []) → IsPicked places fields row → ReadBehind places old next (records ++ (fields ∷ []))
+rows-and places old new next records row fields h e is = record {
+  more = h.more ++ (row ∷ []);
+  rows = e ∙ ap (λ l. l ++ (row ∷ [])) h.rows ∙ append_assoc old h.more (row ∷ []);
+  parts = map-append parts_of h.more (row ∷ []) ∙ ap₂ (λ l p. l ++ (p ∷ [])) h.parts is ∙ sym (map-append (picked places) records (fields ∷ []));
+}
+
+-- the cells at the places of columns are those under their names
+picked-under : (kind : Content) (names : List (List ℕ)) (columns : Columns) (places : Places) → ArePlaces kind names columns places → (fields : List (List ℕ))
+    → picked places fields ≡ row_under kind names columns fields
+picked-under kind names columns places h fields =
+    rw (h.key, h.rest) (ap₂ (λ key rest. (key, rest)) (map-map (cell_at fields) (place_under kind names) columns.key) (map-map (cell_at fields) (place_under kind names) columns.rest))
+
+all-under : (kind : Content) (names : List (List ℕ)) (columns : Columns) (places : Places) → ArePlaces kind names columns places → (records : List (List (List ℕ)))
+    → map (picked places) records ≡ map (row_under kind names columns) records
+all-under kind names columns places h [] = refl
+all-under kind names columns places h (fields ∷ records) = ap₂ (λ row rows. row ∷ rows) (picked-under kind names columns places h fields) (all-under kind names columns places h records)
+
+-- a source that is read to the end has given a table
+module _ (form : Form) (kind : Content) (text : List ℕ) (names : List (List ℕ)) (columns : Columns) (rows : List ReadRow) where
+  table-if : (has_header : Bool) → form.has_header ≡ has_header → (first records : List (List (List ℕ))) → IsHeader form kind text names has_header first
+      → AreRows (delimiter_of form) (comment_of form) text (first ++ records) → map parts_of rows ≡ map (row_under kind names columns) records
+      → IsTable form kind text names columns rows
+  table-if true same [] records header all parts =
+      let none : records ≡ [] = rows-once _ _ text records [] all header.0 in
+      ([], header.0, rw same header.1, rw same (subst (λ r. map parts_of rows ≡ map (row_under kind names columns) r) none parts))
+  table-if true same (fields ∷ []) records header all parts = (fields ∷ records, all, rw same header, rw same parts)
+  table-if true same (fields ∷ more ∷ rest) records header all parts = absurd header
+  table-if false same [] records header all parts = (records, all, rw same tt, rw same parts)
+  table-if false same (fields ∷ rest) records header all parts = absurd header
+
+pub table-read : {R : Type 0} (rem : R → Option (List ℕ)) (columns : Columns) (places : Places) (source : Source R) (old new : List ReadRow)
+    → PlacesOf source columns places → ReadsRest rem places source old new → ReadsRows rem columns source old new
+table-read rem columns places source old new placed reads = λ form kind text begun.
+    let rest = reads _ _ text begun.first begun.given in
+    let read = rest.2 in
+    let under = all-under kind source.header.names columns places (subst (λ k. ArePlaces k source.header.names columns places) begun.content placed) rest.0 in
+    (read.more, read.rows, table-if form kind text source.header.names columns read.more form.has_header refl begun.first rest.0 begun.header rest.1 (read.parts ∙ under))

@@ -1,0 +1,121 @@
+-- What a source of rows has given of a known text, and what it gives next.
+use Rattle.std.specs.Prelude.{◌≡◌, ◌==◌, ◌&&◌, ℕ, List, [], ◌∷◌, ◌++◌, Bool, true, false, Option, Some, None, drop, is_none, if◌then◌else◌, map, ⊤}
+use Rattle.csv.specs.Records.{fields_of}
+use Rattle.keyed_rows.specs.declared.row.ReadRow.{ReadRow}
+use Rattle.keyed_text.specs.Streams.{HasRead}
+use Rattle.keyed_text.specs.Texts.{AreRows}
+use Rattle.keyed_files.specs.Lines.{checked_left}
+use Rattle.keyed_files.specs.Headers.{ArePlaces, NamesOf, place_under}
+use Rattle.keyed_files.specs.Picked.{cell_at}
+use Rattle.keyed_files.specs.Writing.{comment_of, delimiter_of}
+use Rattle.keyed_files.specs.declared.columns.Columns.{Columns}
+use Rattle.keyed_files.specs.declared.request.Form.{Form}
+use Rattle.keyed_files.specs.declared.source.Content.{Content}
+use Rattle.keyed_files.specs.declared.source.Next.{Next}
+use Rattle.keyed_files.specs.declared.source.Next.TheVariants as next
+use Rattle.keyed_files.specs.declared.source.Places.{Places}
+use Rattle.keyed_files.specs.declared.source.Source.{Source}
+
+-- the text that is read of a file; where lines are passed over, no clause says which
+abbrev pub text_read : Form → Option (List ℕ) → Option (List ℕ)
+text_read form known = if is_none form.reading.comment && (form.reading.skipped == 0) then known else None
+
+-- the cells of the record that was read last
+abbrev pub last_record : {R : Type 0} → Source R → List (List ℕ)
+last_record source = fields_of source.last
+
+module _ {R : Type 0} (d : ℕ) (c : Option ℕ) (remaining : R → Option (List ℕ)) (text : List ℕ) (rows : List (List (List ℕ))) (source : Source R) where
+  -- a source that is in this state has given these records of a text
+  abbrev pub HasGivenIn : Next → Type 0
+  HasGivenIn next.Kept = HasRead d c (checked_left remaining) text (rows ++ (last_record source ∷ [])) source.reader
+  HasGivenIn next.Read = HasRead d c (checked_left remaining) text rows source.reader
+  HasGivenIn next.Ended = AreRows d c text rows
+
+  -- a source of a text has given these records, and gives the next one at its next read
+  abbrev pub HasGiven : Type 0
+  HasGiven = HasGivenIn source.next
+
+-- the next step of a source: of each text of which it had given some records, it gave the next one, or those were all
+abbrev pub GivesRecord : {R : Type 0} → (R → Option (List ℕ)) → Source R → Source R → Bool → Type 0
+GivesRecord remaining old new true = (d : ℕ) (c : Option ℕ) (text : List ℕ) (rows : List (List (List ℕ)))
+    → HasGiven d c remaining text rows old → HasGiven d c remaining text (rows ++ (last_record new ∷ [])) new
+GivesRecord remaining old new false = (d : ℕ) (c : Option ℕ) (text : List ℕ) (rows : List (List (List ℕ)))
+    → HasGiven d c remaining text rows old → AreRows d c text rows
+
+-- what a row is apart from its line: its key, and its other cells
+abbrev pub parts_of : ReadRow → List (List ℕ) × List (List ℕ)
+parts_of row = (row.key, row.cells)
+
+-- the cells of a record at the places of columns
+abbrev pub picked : Places → List (List ℕ) → List (List ℕ) × List (List ℕ)
+picked places fields = (map (cell_at fields) places.key.items, map (cell_at fields) places.rest.items)
+
+-- a row has those cells
+abbrev pub IsPicked : Places → List (List ℕ) → ReadRow → Type 0
+IsPicked places fields row = parts_of row ≡ picked places fields
+
+-- the places of the cells of columns under the header of a source
+abbrev pub PlacesOf : {R : Type 0} → Source R → Columns → Places → Type 0
+PlacesOf source columns places = ArePlaces source.content source.header.names columns places
+
+-- what a source gives first, of a file that has a row or none
+abbrev pub next_of : Bool → Bool → Next
+next_of false has_header = next.Ended
+next_of true true = next.Read
+next_of true false = next.Kept
+
+-- the header is the first record of a text, if there is to be one; a text with no record has no name
+abbrev pub IsHeader : Form → Content → List ℕ → List (List ℕ) → Bool → List (List (List ℕ)) → Type 0
+IsHeader form kind text names true [] = AreRows (delimiter_of form) (comment_of form) text [] × (names ≡ [])
+IsHeader form kind text names true (fields ∷ []) = NamesOf kind fields names
+IsHeader form kind text names true (fields ∷ more ∷ rest) = ⊥
+IsHeader form kind text names false [] = ⊤
+IsHeader form kind text names false (fields ∷ rest) = ⊥
+
+-- a source of a text is open: its header is read, and the records under it come next
+pub record IsOpen {R : Type 0} (form : Form) (kind : Content) (remaining : R → Option (List ℕ)) (text : List ℕ) (source : Source R) : Type 0 where
+  pub content : source.content ≡ kind
+  pub first : List (List (List ℕ))
+  pub header : IsHeader form kind text source.header.names form.has_header first
+  pub given : HasGiven (delimiter_of form) (comment_of form) remaining text first source
+
+-- rows that stand behind others are those of records at the places of columns
+pub record ReadBehind (places : Places) (old new : List ReadRow) (records : List (List (List ℕ))) : Type 0 where
+  pub more : List ReadRow
+  pub rows : new ≡ old ++ more
+  pub parts : map parts_of more ≡ map (picked places) records
+
+-- a source is read to the end: behind the records that it had given, these come, and no more
+abbrev pub ReadsRest : {R : Type 0} → (R → Option (List ℕ)) → Places → Source R → List ReadRow → List ReadRow → Type 0
+ReadsRest remaining places source old new = (d : ℕ) (c : Option ℕ) (text : List ℕ) (given : List (List (List ℕ)))
+    → HasGiven d c remaining text given source
+    → (records : List (List (List ℕ))) × AreRows d c text (given ++ records) × ReadBehind places old new records
+
+-- the cell of a record under the name of a column, and an empty one where no column has the name
+abbrev pub cell_under : Content → List (List ℕ) → List (List ℕ) → List ℕ → List ℕ
+cell_under kind names fields name = cell_at fields (place_under kind names name)
+
+-- the cells of a record under the names of columns: those of the key, and the others
+abbrev pub row_under : Content → List (List ℕ) → Columns → List (List ℕ) → List (List ℕ) × List (List ℕ)
+row_under kind names columns fields = (map (cell_under kind names fields) columns.key, map (cell_under kind names fields) columns.rest)
+
+-- the records behind the header, if there is one
+abbrev pub behind_header : Bool → List (List (List ℕ)) → List (List (List ℕ))
+behind_header true records = drop 1 records
+behind_header false records = records
+
+-- the names of columns are those of the header, if there is one
+abbrev pub HeadedBy : Bool → Content → List (List (List ℕ)) → List (List ℕ) → Type 0
+HeadedBy true kind [] names = names ≡ []
+HeadedBy true kind (fields ∷ records) names = NamesOf kind fields names
+HeadedBy false kind records names = ⊤
+
+-- what a text says as a table: the names of its columns, and a row for each record behind the header, of its cells under these names
+abbrev pub IsTable : Form → Content → List ℕ → List (List ℕ) → Columns → List ReadRow → Type 0
+IsTable form kind text names columns rows = (records : List (List (List ℕ))) × AreRows (delimiter_of form) (comment_of form) text records
+    × HeadedBy form.has_header kind records names × (map parts_of rows ≡ map (row_under kind names columns) (behind_header form.has_header records))
+
+-- behind rows that were there come those of the table that a text says
+abbrev pub ReadsRows : {R : Type 0} → (R → Option (List ℕ)) → Columns → Source R → List ReadRow → List ReadRow → Type 0
+ReadsRows remaining columns source old new = (form : Form) (kind : Content) (text : List ℕ) → IsOpen form kind remaining text source
+    → (more : List ReadRow) × (new ≡ old ++ more) × IsTable form kind text source.header.names columns more

@@ -1,0 +1,61 @@
+-- The rows that a table and a join are written as, of the cells of keys and of what stands under them.
+use Rattle.std.specs.Prelude.{◌==◌, ◌||◌, ◌&&◌, ℕ, List, [], ◌∷◌, ◌++◌, Bool, not, Option, Some, None, is_some, drop, length, map, slice_get, unwrap_or, if◌then◌else◌}
+use Rattle.std.specs.List.{flat_map}
+use Rattle.keyed_files.specs.declared.columns.Columns.{Columns}
+use Rattle.keyed_files.specs.declared.columns.Place.{Place}
+use Rattle.keyed_files.specs.declared.columns.Place.TheVariants as at
+use Rattle.keyed_files.specs.declared.request.Form.{Form}
+use Rattle.keyed_files.specs.declared.sign.Sign.{Sign}
+use Rattle.keyed_files.specs.declared.sign.Sign.TheVariants as sign
+
+-- the cell of a column: that of the key at its place, or the next one of the others; an empty one where the row has none there
+abbrev pub cell_placed : Place → List (List ℕ) → List (List ℕ) → List ℕ
+cell_placed (at.Key place) key rest = unwrap_or (slice_get key place) []
+cell_placed at.Rest key rest = unwrap_or (slice_get rest 0) []
+
+-- the other cells that are left behind a column
+abbrev pub rest_behind : Place → List (List ℕ) → List (List ℕ)
+rest_behind (at.Key place) rest = rest
+rest_behind at.Rest rest = drop 1 rest
+
+-- the cells of a key and the others, in the order of columns
+unfoldable pub placed : List Place → List (List ℕ) → List (List ℕ) → List (List ℕ)
+placed [] key rest = []
+placed (place ∷ order) key rest = cell_placed place key rest ∷ placed order key (rest_behind place rest)
+
+-- a cell that stands before the others, if there is one
+abbrev pub first_cells : Option (List ℕ) → List (List ℕ)
+first_cells None = []
+first_cells (Some cell) = cell ∷ []
+
+-- the cell that a sign is
+abbrev pub shown_sign : Sign → List ℕ
+shown_sign sign.Minus = 45 ∷ []
+shown_sign sign.Plus = 43 ∷ []
+
+-- the name of the column of signs, `change`
+abbrev pub change_name : List ℕ
+change_name = 99 ∷ 104 ∷ 97 ∷ 110 ∷ 103 ∷ 101 ∷ []
+
+-- the rows under a key, each behind a first cell if there is one
+abbrev pub rows_under : Option (List ℕ) → List Place → List (List ℕ) → List (List (List ℕ)) → List (List (List ℕ))
+rows_under first order key rows = map (λ rest. first_cells first ++ placed order key rest) rows
+
+-- the rows of a table
+abbrev pub table_rows : List Place → List (List (List ℕ) × List (List (List ℕ))) → List (List (List ℕ))
+table_rows order rows = flat_map (λ group. rows_under None order group.0 group.1) rows
+
+-- the names of columns in their order, behind a first cell if there is one
+abbrev pub names_row : Option (List ℕ) → Columns → List (List ℕ)
+names_row first columns = first_cells first ++ placed columns.order.items columns.key columns.rest
+
+-- whether a table has a header, behind a first cell if there is one: not where tables have none, and not where it would have no cell
+abbrev pub has_heading : Form → Option (List ℕ) → Columns → Bool
+has_heading form first columns = form.has_header && (is_some first || not (length columns.order.items == 0))
+
+-- the header of a table, if it has one
+abbrev pub heading : Form → Option (List ℕ) → Columns → List (List (List ℕ))
+heading form first columns =
+    if has_heading form first columns
+    then names_row first columns ∷ []
+    else []

@@ -1,0 +1,49 @@
+//! What a whole command line asks for: the answer to a command, or what git does with tables.
+
+use crate::request::{Command, Format, Settings};
+
+/// What a command line asks for.
+#[derive(Drop, Debug)]
+pub enum Asked<'a> {
+    /// The answer to a command, in this file or else on the standard output.
+    Answer {
+        command: Command<'a>,
+        output: Option<&'a str>,
+    },
+    /// What git shows of a table that changed.
+    GitDiff {
+        settings: Settings<'a>,
+        format: Format,
+        diff: GitDiff<'a>,
+    },
+    /// What git shows of a table that is in conflict, and so has no two versions to compare.
+    GitUnmerged {
+        path: &'a str,
+    },
+    /// Two versions merged over their base, into the file of ours, as git asks a driver of merges.
+    GitMerge {
+        settings: Settings<'a>,
+        merge: GitMerge<'a>,
+    },
+    /// How git is told of both, with these options of theirs.
+    GitSetup {
+        options: &'a [String],
+    },
+}
+
+/// The two versions of a table that git has compared, and its path; the new one is another where it was renamed.
+#[derive(Clone, Copy, Debug)]
+pub struct GitDiff<'a> {
+    pub path: &'a str,
+    pub renamed: Option<&'a str>,
+    pub old: &'a str,
+    pub new: &'a str,
+}
+
+/// The files of the three versions that git has merged.
+#[derive(Clone, Copy, Debug)]
+pub struct GitMerge<'a> {
+    pub base: &'a str,
+    pub ours: &'a str,
+    pub theirs: &'a str,
+}

@@ -1,0 +1,131 @@
+//! What is asked for of a table whose rows are looked up in another, and the rows that come of it, written as CSV.
+
+use crate::columns::{Columns, JoinColumns, Place};
+use crate::fault::{Fault, Reason};
+use crate::joined_rows::{JoinHeader, names_of_left};
+use crate::names::Names;
+use crate::request::{JoinNames, check_files};
+use crate::written::Written;
+use keyed_rows::{Cells, Key};
+use std::alloc::Global;
+
+/// Which rows of the left table a look-up gives.
+#[derive(Clone, Copy, Debug)]
+pub enum LookupKind {
+    /// All, with empty cells where the right table has no row.
+    Left,
+    /// Those whose key the right table has.
+    Inner,
+    /// Those whose key it lacks, with their cells alone.
+    Anti,
+}
+
+/// How rows are looked up: which there are, and what the header has. The name of a first column is not asked for.
+#[derive(Clone, Copy, Debug)]
+pub struct Finding<'a> {
+    pub kind: LookupKind,
+    pub names: JoinNames<'a>,
+}
+
+/// What is asked for of a table whose rows are looked up in another, in files by name, of which `-` is the standard input.
+#[derive(Clone, Copy, Debug)]
+pub struct Lookup<'a> {
+    pub left: &'a str,
+    pub right: &'a str,
+    pub how: Finding<'a>,
+}
+
+impl Lookup<'_> {
+    /// Tells that no more than one of the files is the standard input.
+    ///
+    /// # Errors
+    ///
+    /// Returns `TwiceStdin` if both are.
+    pub fn check_stdin<'a>(self) -> Result<(), Fault<'a>> {
+        check_files(&[self.left, self.right])
+    }
+}
+
+/// The names of the columns of a look-up: those of the left table in their order, and behind them those of the right one without its key. A
+/// name that both have is told apart by what stands before it, but not that of a column of the left key. Of rows that are not found there
+/// are the left names alone.
+///
+/// # Errors
+///
+/// Returns `JoinedTwice` if two of the names are the same, and `NoMemory` if a request for memory was refused.
+pub fn lookup_header(
+    alloc: Global,
+    how: Finding<'_>,
+    columns: &JoinColumns,
+) -> Result<Cells, Reason> {
+    let none = Cells::new(alloc);
+    let right = match how.kind {
+        LookupKind::Left | LookupKind::Inner => &columns.right.rest,
+        LookupKind::Anti => &none,
+    };
+    let left = &columns.left;
+    let of_right = Names::of_cells(alloc, right)?;
+    let mut header = JoinHeader::new(alloc, None)?;
+    let mut rest = left.rest.iter();
+    for place in &left.order {
+        match place {
+            Place::Key(place) => header.put(alloc, left.key.get(*place).unwrap_or(b""))?,
+            Place::Rest => {
+                let name = rest.next().unwrap_or(b"");
+                header.put_told(alloc, how.names.left, name, &of_right)?;
+            }
+        }
+    }
+    header.put_side(alloc, how.names.right, right, &names_of_left(alloc, left)?)?;
+    Ok(header.names)
+}
+
+impl Written {
+    /// Puts a row of the left table, and behind it the cells that were found, or as many empty ones.
+    ///
+    /// # Errors
+    ///
+    /// Returns `CellCount` if a row has more or fewer cells than the first one, and `NoMemory`, or `Io` with the error that the
+    /// writer makes of it, if a request for memory was refused.
+    pub fn put_found(
+        &mut self,
+        columns: &JoinColumns,
+        key: &Key,
+        rest: &Cells,
+        found: Option<&Cells>,
+    ) -> Result<(), Reason> {
+        self.put_in_order(&columns.left, key, rest)?;
+        match found {
+            Some(cells) => self.put(cells)?,
+            None => {
+                for _ in &columns.right.rest {
+                    self.put_cell(b"")?;
+                }
+            }
+        }
+        self.end_row()
+    }
+
+    /// Puts a row of the left table that was not found.
+    ///
+    /// # Errors
+    ///
+    /// Returns the errors of `put_found`.
+    pub fn put_lone(&mut self, columns: &Columns, key: &Key, rest: &Cells) -> Result<(), Reason> {
+        self.put_in_order(columns, key, rest)?;
+        self.end_row()
+    }
+
+    // Puts the cells of a row in the order of its columns.
+    fn put_in_order(&mut self, columns: &Columns, key: &Key, rest: &Cells) -> Result<(), Reason> {
+        let mut rest = rest.iter();
+        for place in &columns.order {
+            let cell = match place {
+                Place::Key(place) => key.iter().nth(*place),
+                Place::Rest => rest.next(),
+            };
+            self.put_cell(cell.unwrap_or(b""))?;
+        }
+        Ok(())
+    }
+}
