@@ -5,4 +5,5 @@ pub mod GatherLemmas
 pub mod KeyLemmas
 pub mod OrderLemmas
 pub mod OverlayLemmas
+pub mod PlaceLemmas
 pub mod RepeatLemmas

@@ -2,6 +2,7 @@ pub mod Arranged
 pub mod Gathered
 pub mod Laid
 pub mod Marked
+pub mod Placed
 pub mod Repeated
 pub mod RisingRows
 pub mod RowsByCell

@@ -9,6 +9,7 @@ mod gather;
 mod marked;
 mod order;
 mod overlay;
+mod placed;
 mod table;
 mod versions;
 
@@ -17,5 +18,6 @@ pub use gather::{grouped_rows, unique_rows};
 pub use marked::{Marked, marked_merge_by_cell_of, marked_merge_of};
 pub use order::Order;
 pub use overlay::{filled_over, laid_over};
+pub use placed::law_placed;
 pub use table::Rows;
 pub use versions::{changes_of, merge_of, paired, patched};

@@ -1,7 +1,9 @@
 //! The order in which rows come out: that of their keys, or that of the files.
-ghost use Rattle.std.specs.Prelude.{◌≡◌, [], None, Some, IfOk, IsPermutation, OnOk};
+ghost use Rattle.std.specs.Prelude.{◌≡◌, [], None, Some, IfOk, IsPermutation, OnOk, option_map};
 ghost use Rattle.keyed_tables.specs.Arranged.{AreArranged, IsNoted, noted};
+ghost use Rattle.keyed_tables.specs.Placed.{placed_noted};
 
+use crate::placed::placed_keys;
 use indexmap::IndexSet;
 use keyed_rows::Key;
 use std::alloc::{AllocError, Global};
@@ -26,6 +28,37 @@ impl Order {
     {
         Order {
             keys: Some(IndexSet::new(alloc)),
+        }
+    }
+
+    /// An order of the same kind, that of keys or that of the files, with no file read yet.
+    pub fn begun(&self, alloc: Global) -> Self
+        ensures { noted result ≡ option_map (λ keys. []) (noted self.now) }
+    {
+        match &self.keys {
+            Some(_) => Order::by_file(alloc),
+            None => Order::by_key(),
+        }
+    }
+
+    /// The order of a table that is merged of two: the keys of ours as they were taken, and each that only theirs has right behind the key
+    /// that it follows there, or first where it is the first there. It is the order of keys where one of both is.
+    ///
+    /// # Errors
+    ///
+    /// Returns `AllocError` if a request for memory was refused.
+    pub fn placed(alloc: Global, ours: &Order, theirs: &Order) -> Result<Self, AllocError>
+        ensures { IfOk result
+            (λ order. noted order ≡ placed_noted ⟦<Key as Eq>⟧.eq (noted ours.now) (noted theirs.now)) }
+    {
+        match &ours.keys {
+            Some(ours) => match &theirs.keys {
+                Some(theirs) => Ok(Order {
+                    keys: Some(placed_keys(alloc, ours, theirs)?),
+                }),
+                None => Ok(Order::by_key()),
+            },
+            None => Ok(Order::by_key()),
         }
     }
 
