@@ -82,7 +82,10 @@ pub fn cut_of<'a>(alloc: Global, matches: &ArgMatches<'a>) -> Result<Cut<'a>, Pa
     let key = matches.get_str("key");
     if let Some(names) = key {
         if let Err(reason) = key_names(alloc, names) {
-            return Err(ParseError::Key(reason));
+            return Err(ParseError::Names {
+                option: "key",
+                reason,
+            });
         }
     }
     let form = form_of(matches, [left, right, theirs.unwrap_or(right)])?;

@@ -1,11 +1,12 @@
 //! The commands that git calls, and the one that prints how it is told of them.
 
 use crate::form::files_of;
-use crate::{
-    COLOR, FLAGS, ParseError, TEXTS, choice, file_of, flag, format_of, put, settings_of, text,
-};
+use crate::view::colours_of;
+use crate::{COLOR, FLAGS, ParseError, TEXTS, choice, file_of, flag, put, settings_of, text};
 use clap::{Arg, ArgMatches, Command};
-use keyed_files::{Asked, Colours, Format, GitDiff, GitMerge, Merging, Request, Settings};
+use keyed_files::{
+    Asked, Colours, Comparing, Format, GitDiff, GitMerge, Look, Merging, Request, Settings,
+};
 use std::alloc::{AllocError, Global};
 
 // A command that git calls: its name, what it does, and the words that git gives it, each with its help. So many of them are required.
@@ -130,7 +131,10 @@ fn diff_asked<'a>(
                 old,
                 new,
             };
-            versions_asked(alloc, matches, format_of(matches, terminal), diff)
+            let look = Look::Table {
+                colours: colours_of(matches, terminal),
+            };
+            versions_asked(alloc, matches, Format::Report(look), diff)
         }
         _ => Ok(Asked::GitUnmerged { path }),
     }
@@ -145,7 +149,7 @@ fn versions_asked<'a>(
     let named = Request::Diff {
         old: diff.path,
         new: diff.renamed.unwrap_or(diff.path),
-        format,
+        how: Comparing::whole(format),
     };
     Ok(Asked::GitDiff {
         settings: settings_in_order(alloc, matches, named)?,

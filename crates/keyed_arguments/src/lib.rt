@@ -6,7 +6,10 @@ mod form;
 mod git;
 mod merging;
 mod more;
+mod numbers;
 mod output;
+mod renames;
+mod view;
 
 use clap::{Arg, ArgAction, ArgMatches};
 use cutting::{cut_of, put_cut};
@@ -14,14 +17,17 @@ use form::{files_of, form_of};
 use git::{git_asked, put_git_commands};
 use keyed_cut::Cut;
 use keyed_files::{
-    Asked, Colours, Command, Format, JoinNames, Joining, Kind, Reason, Request, Settings,
-    SortedRequest, Wanted, key_names,
+    Asked, Colours, Command, Comparing, Format, JoinNames, Joining, Kind, Reason, Request,
+    Settings, SortedRequest, Wanted, key_names,
 };
 use merging::{merging_of, put_merging};
 use more::{lookup_of, overlay_of};
+use numbers::put_numbers;
 use output::{heading_of, output_of, put_output};
+use renames::{put_renames, renames_of};
 use std::alloc::{AllocError, Global};
 use std::{fmt, io};
+use view::{comparing_of, look_of, put_view};
 
 /// Why the words of a command line make no command. Its `Display` is the text for the user.
 #[derive(Drop)]
@@ -33,8 +39,11 @@ pub enum ParseError {
         option: &'static str,
         wrong: &'static str,
     },
-    /// What is given for the columns of the key is not such.
-    Key(Reason),
+    /// What is given for an option are no names of columns.
+    Names {
+        option: &'static str,
+        reason: Reason,
+    },
     /// Tables are to be compared as they are read, and the answer to be lined up, for which all its rows must be known.
     SortedTable,
     /// Changes are to have no heading, and to be lined up under one.
@@ -79,7 +88,7 @@ impl ParseError {
         match self {
             ParseError::Words(error) => error.use_stderr(),
             ParseError::Value { .. }
-            | ParseError::Key(_)
+            | ParseError::Names { .. }
             | ParseError::SortedTable
             | ParseError::TableWithNoHeading
             | ParseError::PartCount(_) => true,
@@ -105,7 +114,7 @@ impl fmt::Display for ParseError {
         match self {
             ParseError::Words(error) => write!(f, "{error}"),
             ParseError::Value { option, wrong } => writeln!(f, "keyed: --{option}: {wrong}"),
-            ParseError::Key(reason) => writeln!(f, "keyed: --key: {reason}"),
+            ParseError::Names { option, reason } => writeln!(f, "keyed: --{option}: {reason}"),
             ParseError::SortedTable => f.write_str("keyed: diff --sorted needs --format csv\n"),
             ParseError::TableWithNoHeading => {
                 f.write_str("keyed: diff --no-heading needs --format csv\n")
@@ -157,7 +166,10 @@ fn answer_of<'a>(
         if matches!(
             request,
             Request::Diff {
-                format: Format::Table { .. },
+                how: Comparing {
+                    format: Format::Report(_),
+                    ..
+                },
                 ..
             }
         ) {
@@ -184,7 +196,7 @@ fn command_of<'a>(
         "overlay" => return overlay_of(alloc, matches),
         _ => {}
     }
-    let request = request_of(name, matches, terminal)?;
+    let request = request_of(alloc, name, matches, terminal)?;
     let settings = settings_of(alloc, matches, files_of(request))?;
     let wanted = wanted_of(matches);
     if !matches.get_flag("sorted") {
@@ -216,17 +228,17 @@ fn wanted_of(matches: &ArgMatches<'_>) -> Wanted {
 // The request as one whose answer is written while its tables are read, if it can be.
 fn sorted_of(request: Request<'_>) -> Option<SortedRequest<'_>> {
     match request {
-        Request::Diff {
-            old,
-            new,
-            format: Format::Csv,
-        } => Some(SortedRequest::Diff { old, new }),
+        Request::Diff { old, new, how } => match how.format {
+            Format::Csv => Some(SortedRequest::Diff { old, new }),
+            Format::Report(_) => None,
+        },
         Request::Join { left, right, how } => Some(SortedRequest::Join { left, right, how }),
         _ => None,
     }
 }
 
 fn request_of<'a>(
+    alloc: Global,
     name: &str,
     matches: &ArgMatches<'a>,
     terminal: Colours,
@@ -240,7 +252,7 @@ fn request_of<'a>(
             base: file_of(matches, "BASE"),
             ours: file_of(matches, "OURS"),
             theirs: file_of(matches, "THEIRS"),
-            how: merging_of(matches),
+            how: merging_of(matches)?,
         },
         "join" => Request::Join {
             left: file_of(matches, "LEFT"),
@@ -253,7 +265,7 @@ fn request_of<'a>(
         _ => Request::Diff {
             old: file_of(matches, "OLD"),
             new: file_of(matches, "NEW"),
-            format: format_of(matches, terminal),
+            how: comparing_of(alloc, matches, terminal)?,
         },
     })
 }
@@ -287,20 +299,6 @@ fn file_of<'a>(matches: &ArgMatches<'a>, name: &str) -> &'a str {
     matches.get_str(name).unwrap_or("-")
 }
 
-// An answer of which the status alone is wanted takes the form that is made with the least.
-fn format_of(matches: &ArgMatches<'_>, terminal: Colours) -> Format {
-    if matches.get_str("format") == Some("csv") || matches.get_flag("quiet") {
-        return Format::Csv;
-    }
-    Format::Table {
-        colours: match matches.get_str("color").unwrap_or("auto") {
-            "always" => Colours::On,
-            "never" => Colours::Off,
-            _ => terminal,
-        },
-    }
-}
-
 fn kind_of(name: &str) -> Kind {
     match name {
         "inner" => Kind::Inner,
@@ -320,14 +318,19 @@ fn settings_of<'a>(
     let key = matches.get_str("key");
     if let Some(names) = key {
         if let Err(reason) = key_names(alloc, names) {
-            return Err(ParseError::Key(reason));
+            return Err(ParseError::Names {
+                option: "key",
+                reason,
+            });
         }
     }
     Ok(Settings {
         form: form_of(matches, files)?,
         key,
+        renames: renames_of(alloc, matches)?,
         keeps_order: matches.get_flag("keep-order"),
         groups: matches.get_flag("group"),
+        look: look_of(matches, Colours::Off),
     })
 }
 
@@ -521,11 +524,21 @@ fn put_options<'a>(alloc: Global, args: &mut Vec<Arg<'a>>, name: &str) -> Result
         "diff" => {
             put(args, choice(alloc, FORMAT))?;
             put(args, choice(alloc, COLOR))?;
+            put_view(alloc, args)?;
+            put_renames(alloc, args)?;
+            put_numbers(alloc, args)?;
             put(args, quiet(alloc)?)?;
             put(args, sorted(alloc)?)
         }
-        "apply" => put(args, quiet(alloc)?),
+        "apply" => {
+            put(args, choice(alloc, REPORT))?;
+            put_renames(alloc, args)?;
+            put(args, quiet(alloc)?)
+        }
         "merge" => {
+            put(args, choice(alloc, REPORT))?;
+            put_renames(alloc, args)?;
+            put_numbers(alloc, args)?;
             put(args, quiet(alloc)?)?;
             put_merging(alloc, args)
         }
@@ -591,9 +604,16 @@ struct OneOf {
 
 const FORMAT: OneOf = OneOf {
     name: "format",
-    shown: "table|csv",
-    words: &["table", "csv"],
-    help: "A table to read, or CSV that apply takes",
+    shown: "FORM",
+    words: &["table", "csv", "json", "markdown", "html"],
+    help: "A table to read, CSV that apply takes, JSON, a line a row, a table of Markdown, or a page of HTML",
+};
+
+const REPORT: OneOf = OneOf {
+    name: "format",
+    shown: "FORM",
+    words: &["table", "json", "markdown", "html"],
+    help: "How rows are told for which there is no table, as rows in conflict",
 };
 
 const COLOR: OneOf = OneOf {

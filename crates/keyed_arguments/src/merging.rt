@@ -1,6 +1,7 @@
 //! The options of a merge.
 
-use crate::{OneOf, choice, flag, put};
+use crate::numbers::tolerance_of;
+use crate::{OneOf, ParseError, choice, flag, put};
 use clap::{Arg, ArgMatches};
 use keyed_files::{Conflicts, Merging, Unit};
 use std::alloc::{AllocError, Global};
@@ -13,8 +14,12 @@ const CONFLICTS: OneOf = OneOf {
 };
 
 /// How a merge is asked for.
-pub fn merging_of(matches: &ArgMatches<'_>) -> Merging {
-    Merging {
+///
+/// # Errors
+///
+/// Returns a `ParseError::Value` if what is given for a tolerance is none.
+pub fn merging_of<'a>(matches: &ArgMatches<'a>) -> Result<Merging<'a>, ParseError> {
+    Ok(Merging {
         unit: if matches.get_flag("by-cell") {
             Unit::Cell
         } else {
@@ -24,7 +29,8 @@ pub fn merging_of(matches: &ArgMatches<'_>) -> Merging {
             Some("marks") => Conflicts::Marks,
             _ => Conflicts::Report,
         },
-    }
+        tolerance: tolerance_of(matches)?,
+    })
 }
 
 /// Puts the options of a merge behind others.

@@ -3,3 +3,4 @@ pub mod ChangeLemmas
 pub mod ComeLemmas
 pub mod KeyLemmas
 pub mod LawLemmas
+pub mod ReadLemmas

@@ -1,5 +1,5 @@
 -- What a command answers of tables in memory: the text of its rows, and its status.
-use Rattle.std.specs.Prelude.{◌≡◌, ◌↔◌, ◌||◌, ℕ, Bool, true, false, List, ◌++◌, Option, None, Some, IfSome, MatchBool, nat_eq, if◌then◌else◌}
+use Rattle.std.specs.Prelude.{◌≡◌, ◌↔◌, ◌||◌, ◌&&◌, ℕ, Bool, true, false, not, List, ◌++◌, Option, None, Some, IfSome, MatchBool, nat_eq, if◌then◌else◌}
 use Rattle.std.specs.Cmp.Lexicographic.{pointwise, slice_cmp}
 use Rattle.std.specs.Option.{option_eq}
 use Rattle.std.specs.Ordering.{nat_cmp}
@@ -22,6 +22,7 @@ use Rattle.keyed_files.specs.declared.column_changes.ColumnChanges.{ColumnChange
 use Rattle.keyed_files.specs.declared.columns.Columns.{Columns}
 use Rattle.keyed_files.specs.declared.request.Form.{Form}
 use Rattle.keyed_commands.specs.declared.answers.Answer.{Answer}
+use Rattle.keyed_commands.specs.declared.as_written.Style.{Style}
 use Rattle.keyed_commands.specs.declared.answers.Outcome.TheVariants.{Made, Stopped}
 use Rattle.keyed_commands.specs.ChangeRows.{changes_heading, changes_rows}
 use Rattle.keyed_commands.specs.ComeOut.{AlikePlaces, AlikeRows, ComesOut}
@@ -47,6 +48,11 @@ status_of holds = if holds then 0 else 1
 -- an answer that is no table
 abbrev pub Stops : Answer → Type 0
 Stops answer = (answer.status ≡ 1) × (answer.outcome ≡ Stopped)
+
+-- whether rows are written as this table is where they are written plainly: with no byte order mark, LF, quotes where they are needed, and
+-- an end of the last line
+abbrev pub is_plain : Style → Bool
+is_plain style = not style.has_mark && not style.has_cr && not style.has_quotes && style.has_end
 
 -- whether a column comes or goes
 abbrev pub columns_differ : ColumnChanges → Bool

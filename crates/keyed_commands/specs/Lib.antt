@@ -4,3 +4,4 @@ pub mod ComeOut
 pub mod Keys
 pub mod Laws
 pub mod Lost
+pub mod TablesRead

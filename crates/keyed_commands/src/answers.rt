@@ -1,19 +1,26 @@
 //! The answer to each request, of streams.
 //!
 //! Each has three steps: its headers are read, then the rows under its columns, and then the tables are answered.
-ghost use Rattle.std.specs.Prelude.{IfOk};
-ghost use Rattle.keyed_commands.specs.Answers.{IsDiffStatus};
+ghost use Rattle.std.specs.Prelude.{◌≡◌, ◌↔◌, IfOk, None, is_none, length};
+ghost use Rattle.keyed_files.specs.declared.request.Format.TheVariants.{Csv};
+ghost use Rattle.keyed_tables.specs.Arranged.{noted};
+ghost use Rattle.keyed_commands.specs.Answers.{ChangesComeOut, IsDiffStatus};
+ghost use Rattle.keyed_commands.specs.TablesRead.{DiffsSources, DiffsStreams};
 
+use crate::by_number::{changed_by_number, settled_by_number};
 use crate::changed::{changes_shown, diff_as_csv, diff_status};
-use crate::changes::{count_rows, report};
 use crate::job::{Job, Table};
 use crate::joined::{JoinForm, join_as_csv};
 use crate::marks::{has_conflict, parted, write_marked};
 use crate::tables::{answer_of_rows, apply_tables, merge_by_cell, merge_by_row, report_conflicts};
+use crate::watched::{Watched, watch};
+use eob_joins::Change;
 use keyed_files::{
-    Colours, ColumnChanges, Columns, Conflicts, Content, Fault, Format, JoinColumns, Joining,
-    Merging, Opened, Reason, Settings, Stream, Two, Unit, at, columns_of, merged_columns,
+    ColumnChanges, Columns, Comparing, Conflicts, Content, Decimal, Fault, Format, JoinColumns,
+    Joining, Look, Merging, Opened, Picked, Reason, Settings, Stream, Two, Unit, at, columns_of,
+    merged_columns, names_among, picked_columns,
 };
+use keyed_reports::{Report, count_rows, row_changes, write_report};
 use keyed_rows::{Cells, Group, Key};
 use keyed_tables::{Marked, marked_merge_by_cell_of, marked_merge_of};
 use std::alloc::{AllocError, Global};
@@ -41,61 +48,110 @@ pub enum Outcome {
 /// # Errors
 ///
 /// Returns the fault of a table that can't be opened or read, that lacks a column of the key, or in which a key stands twice where keys may
-/// not repeat; also want of memory, as the fault of one of them.
+/// not repeat; of a column that is picked and is in neither table; also want of memory, as the fault of one of them.
 pub fn diff<'a, R: Read + Drop>(
     alloc: Global,
     settings: Settings<'a>,
-    format: Format,
+    how: Comparing<'_>,
     old: Stream<'a, R>,
     new: Stream<'a, R>,
-) -> Result<Answer, Fault<'a>> {
+) -> Result<Answer, Fault<'a>>
+    ensures { IfOk result (λ answer. how.entry.format ≡ Csv →
+        DiffsStreams R.remaining settings.entry old.entry new.entry answer) }
+{
     let mut versions = Two::new(alloc, settings.form, Content::Rows, old, new)?;
-    versions.first.rename_key(alloc, settings.key)?;
-    let columns = match format {
+    versions.first.rename(alloc, settings)?;
+    let columns = match how.format {
         Format::Csv => versions.change_columns(alloc, settings.key)?,
-        Format::Table { .. } => versions.columns(alloc, settings.key)?,
+        Format::Report(_) => columns_compared(alloc, settings, how.view.columns, &versions)?,
     };
-    diff_files(Job::new(alloc, settings, &columns), format, &mut versions)
+    diff_files(Job::new(alloc, settings, &columns), how, &mut versions)
+}
+
+// The columns of both tables that are picked.
+fn columns_compared<'a, R>(
+    alloc: Global,
+    settings: Settings<'_>,
+    picked: Picked<'_>,
+    versions: &Two<'a, R>,
+) -> Result<Columns, Fault<'a>> {
+    let columns = versions.columns(alloc, settings.key)?;
+    at(versions.next.file, picked_columns(alloc, picked, columns))
 }
 
 fn diff_files<'a, R: Read + Drop>(
-    mut job: Job<'_, Columns>,
-    format: Format,
+    job: Job<'_, Columns>,
+    how: Comparing<'_>,
     versions: &mut Two<'a, R>,
-) -> Result<Answer, Fault<'a>> {
-    let tables = job.read_both(versions)?;
-    let marked = versions.marked_names(job.alloc)?;
-    let answer = diff_tables(&job, format, versions.column_changes(), &marked, tables);
-    at(versions.next.file, answer)
-}
-
-fn diff_tables(
-    job: &Job<'_, Columns>,
-    format: Format,
-    column_changes: ColumnChanges<'_>,
-    marked: &Cells,
-    tables: (Table, Table),
-) -> Result<Answer, Reason> {
-    let (old, new) = tables;
-    match format {
-        Format::Csv => diff_as_csv(job, column_changes, marked, old, new),
-        Format::Table { colours } => diff_as_table(job, colours, column_changes, old, new),
+) -> Result<Answer, Fault<'a>>
+    ensures { IfOk result (λ answer. how.entry.format ≡ Csv →
+        DiffsSources R.remaining job.entry versions.old answer) }
+{
+    match how.format {
+        Format::Csv => diff_files_as_csv(job, versions),
+        Format::Report(look) => diff_files_as_report(job, look, how, versions),
     }
 }
 
-fn diff_as_table(
-    job: &Job<'_, Columns>,
-    colours: Colours,
-    column_changes: ColumnChanges<'_>,
+// The changes between the rows of two files as CSV.
+fn diff_files_as_csv<'a, R: Read + Drop>(
+    mut job: Job<'_, Columns>,
+    versions: &mut Two<'a, R>,
+) -> Result<Answer, Fault<'a>>
+    ensures { IfOk result (DiffsSources R.remaining job.entry versions.old) }
+{
+    let tables = job.read_both(versions)?;
+    let marked = versions.marked_names(job.alloc)?;
+    let (old, new) = tables;
+    let answer = diff_as_csv(&job, versions.column_changes(), &marked, old, new);
+    at(versions.next.file, answer)
+}
+
+// The changes between the rows of two files as a person or another program reads them, of the columns that are compared.
+fn diff_files_as_report<'a, R: Read + Drop>(
+    mut job: Job<'_, Columns>,
+    look: Look,
+    how: Comparing<'_>,
+    versions: &mut Two<'a, R>,
+) -> Result<Answer, Fault<'a>> {
+    let (old, new) = job.read_both(versions)?;
+    let before = at(
+        versions.first.file,
+        names_among(job.alloc, versions.first.header(), job.columns),
+    )?;
+    let after = at(
+        versions.next.file,
+        names_among(job.alloc, versions.next.header(), job.columns),
+    )?;
+    let columns = ColumnChanges::new(&before, &after);
+    let answer = diff_as_report(&job, look, how, columns, old, new);
+    at(versions.next.file, answer)
+}
+
+fn diff_as_report<'a>(
+    job: &Job<'a, Columns>,
+    look: Look,
+    how: Comparing<'a>,
+    column_changes: ColumnChanges<'a>,
     old: Table,
     new: Table,
 ) -> Result<Answer, Reason>
-    ensures { IfOk result (λ answer. IsDiffStatus column_changes.entry old.pairs.items new.pairs.items answer.status) }
+    ensures { IfOk result (λ answer. how.entry.tolerance ≡ None →
+        IsDiffStatus column_changes.entry old.pairs.items new.pairs.items answer.status) }
 {
-    let rows = count_rows(&old.pairs);
-    let changes = changes_shown(job, old, new)?;
+    let old_rows = count_rows(&old.pairs);
+    let changes = compared(job, how, old, new)?;
     let status = diff_status(job.alloc, column_changes, &changes)?;
-    let bytes = report(job, colours, column_changes, rows, &changes)?;
+    let rows = row_changes(job.alloc, job.groups, &changes)?;
+    let report = Report::new(
+        job.columns,
+        column_changes,
+        how.view.rows,
+        how.tolerance,
+        old_rows,
+        &rows,
+    );
+    let bytes = write_report(job.alloc, look, &report)?;
     Ok(Answer {
         bytes,
         status,
@@ -103,7 +159,26 @@ fn diff_as_table(
     })
 }
 
-/// The answer to `apply`.
+// The changes between two tables. Where cells that are numbers are compared by value, rows whose cells are the same by it did not change.
+fn compared(
+    job: &Job<'_, Columns>,
+    how: Comparing<'_>,
+    old: Table,
+    new: Table,
+) -> Result<Vec<(Key, Change<Group>)>, AllocError>
+    ensures changes { IfOk result (λ shown. how.entry.tolerance ≡ None → ChangesComeOut (noted job.now.order)
+        (is_none job.now.row_order.files) old.pairs.items new.pairs.items shown.items) }
+    ensures none { IfOk result (λ shown. how.entry.tolerance ≡ None →
+        (length shown.items ≡ 0) ↔ (old.pairs.items ≡ new.pairs.items)) }
+{
+    let changes = changes_shown(job, old, new)?;
+    match how.tolerance {
+        Some(tolerance) => changed_by_number(job.alloc, tolerance, changes),
+        None => Ok(changes),
+    }
+}
+
+/// The answer to `apply`, with its rows written as the old table is.
 ///
 /// # Errors
 ///
@@ -115,21 +190,33 @@ pub fn apply<'a, R: Read + Drop>(
     old: Stream<'a, R>,
     changes: Stream<'a, R>,
 ) -> Result<Answer, Fault<'a>> {
+    let (old, changes) = (watch(settings.form, old), watch(settings.form, changes));
     let mut inputs = Two::new(alloc, settings.form, Content::Changes, old, changes)?;
-    inputs.first.rename_key(alloc, settings.key)?;
+    inputs.first.rename(alloc, settings)?;
     let columns = inputs.changed_columns(alloc, settings.key)?;
     apply_files(Job::new(alloc, settings, &columns), &mut inputs)
 }
 
 fn apply_files<'a, R: Read + Drop>(
     mut job: Job<'_, Columns>,
-    inputs: &mut Two<'a, R>,
+    inputs: &mut Two<'a, Watched<R>>,
 ) -> Result<Answer, Fault<'a>> {
     let (old, changes) = job.read_to_change(inputs)?;
-    at(inputs.next.file, apply_tables(&job, old, changes))
+    let answer = at(inputs.next.file, apply_tables(&job, old, changes))?;
+    as_written(job.alloc, &inputs.first, answer)
 }
 
-/// The answer to `merge`.
+// An answer with its rows written as those of a table that was read.
+fn as_written<'a, R: Read + Drop>(
+    alloc: Global,
+    table: &Opened<'a, Watched<R>>,
+    answer: Answer,
+) -> Result<Answer, Fault<'a>> {
+    let style = table.source.get_ref().style();
+    at(table.file, style.write_answer(alloc, answer))
+}
+
+/// The answer to `merge`, with its rows written as ours are.
 ///
 /// # Errors
 ///
@@ -138,14 +225,16 @@ fn apply_files<'a, R: Read + Drop>(
 pub fn merge<'a, R: Read + Drop>(
     alloc: Global,
     settings: Settings<'a>,
-    how: Merging,
+    how: Merging<'_>,
     base: Stream<'a, R>,
     ours: Stream<'a, R>,
     theirs: Stream<'a, R>,
 ) -> Result<Answer, Fault<'a>> {
+    let base = watch(settings.form, base);
+    let (ours, theirs) = (watch(settings.form, ours), watch(settings.form, theirs));
     let mut base = Opened::new(alloc, settings.form, Content::Rows, base)?;
     let mut sides = Two::new(alloc, settings.form, Content::Rows, ours, theirs)?;
-    base.rename_key(alloc, settings.key)?;
+    base.rename(alloc, settings)?;
     let columns = columns_of_merge(alloc, settings, &base, &sides)?;
     let job = Job::new(alloc, settings, &columns);
     merge_files(job, how, &mut base, &mut sides)
@@ -169,12 +258,13 @@ fn columns_of_merge<'a, R>(
 
 fn merge_files<'a, R: Read + Drop>(
     mut job: Job<'_, Columns>,
-    how: Merging,
-    base: &mut Opened<'a, R>,
-    sides: &mut Two<'a, R>,
+    how: Merging<'_>,
+    base: &mut Opened<'a, Watched<R>>,
+    sides: &mut Two<'a, Watched<R>>,
 ) -> Result<Answer, Fault<'a>> {
     let versions = read_versions(&mut job, base, sides)?;
-    at(sides.next.file, merge_tables(&job, how, versions))
+    let answer = at(sides.next.file, merge_tables(&job, how, versions))?;
+    as_written(job.alloc, &sides.first, answer)
 }
 
 // The rows of three versions of a table.
@@ -185,25 +275,54 @@ struct ThreeVersions {
     theirs: Table,
 }
 
-// Reads three versions. The base is not written: rows come out in the order of ours, and then in that of theirs.
+// Reads three versions. The base is not written: rows come out in the order of ours, and those that theirs adds behind the rows that they
+// follow there.
 fn read_versions<'a, R: Read + Drop>(
     job: &mut Job<'_, Columns>,
     base: &mut Opened<'a, R>,
     sides: &mut Two<'a, R>,
 ) -> Result<ThreeVersions, Fault<'a>> {
-    let (ours, theirs) = job.read_both(sides)?;
+    let (ours, theirs) = job.read_merged(sides)?;
     let base = job.unordered().read_table(job.columns, base)?;
     Ok(ThreeVersions { base, ours, theirs })
 }
 
 fn merge_tables(
     job: &Job<'_, Columns>,
-    how: Merging,
+    how: Merging<'_>,
     versions: ThreeVersions,
 ) -> Result<Answer, Reason> {
+    match how.tolerance {
+        Some(tolerance) => merge_by_number(job, how, tolerance, versions),
+        None => match how.conflicts {
+            Conflicts::Report => merge_reported(job, how.unit, versions),
+            Conflicts::Marks => mark_conflicts(job, marked_rows(job.alloc, how.unit, versions)?),
+        },
+    }
+}
+
+// The same where cells that are numbers are compared by value, which settles rows in conflict.
+fn merge_by_number(
+    job: &Job<'_, Columns>,
+    how: Merging<'_>,
+    tolerance: Decimal<'_>,
+    versions: ThreeVersions,
+) -> Result<Answer, Reason> {
+    let rows = marked_rows(job.alloc, how.unit, versions)?;
+    let rows = settled_by_number(job.alloc, tolerance, how.unit, rows)?;
     match how.conflicts {
-        Conflicts::Report => merge_reported(job, how.unit, versions),
-        Conflicts::Marks => mark_conflicts(job, marked_rows(job.alloc, how.unit, versions)?),
+        Conflicts::Marks => mark_conflicts(job, rows),
+        Conflicts::Report => merge_parted(job, rows),
+    }
+}
+
+// The merged table, or a report of the rows in conflict.
+fn merge_parted(job: &Job<'_, Columns>, rows: Vec<(Key, Marked<Group>)>) -> Result<Answer, Reason> {
+    let (settled, stuck) = parted(job.alloc, rows)?;
+    if stuck.is_empty() {
+        answer_of_rows(job, "merged", settled)
+    } else {
+        report_conflicts(job, stuck)
     }
 }
 
@@ -220,12 +339,7 @@ fn mark_conflicts(
             outcome: Outcome::Made,
         });
     }
-    let (settled, stuck) = parted(job.alloc, rows)?;
-    if stuck.is_empty() {
-        answer_of_rows(job, "merged", settled)
-    } else {
-        report_conflicts(job, stuck)
-    }
+    merge_parted(job, rows)
 }
 
 // The merged table, or a report of the rows in conflict.

@@ -1,5 +1,9 @@
 //! The rows of a table written as another one is: with its byte order mark, its line ends, its quotes, and its end of the last line.
+ghost use Rattle.std.specs.Prelude.{◌≡◌, IfOk, true};
+ghost use Rattle.keyed_commands.specs.Answers.{is_plain};
+ghost use Rattle.keyed_commands.specs.declared.answers.Outcome.TheVariants.{Stopped};
 
+use crate::answers::{Answer, Outcome};
 use std::alloc::{AllocError, Global};
 
 // A byte order mark in UTF-8.
@@ -16,38 +20,64 @@ const MARKS: [&[u8]; 4] = [
 /// How a table is written, beside its cells.
 #[derive(Clone, Copy, Debug)]
 pub struct Style {
-    delimiter: u8,
-    // Whether it begins with a byte order mark.
-    has_mark: bool,
-    // Whether its first line ends with CR LF.
-    has_cr: bool,
-    // Whether each cell of its first line is in quotes.
-    has_quotes: bool,
-    // Whether its last line has an end.
-    has_end: bool,
+    /// The byte between cells.
+    pub delimiter: u8,
+    /// Whether it begins with a byte order mark.
+    pub has_mark: bool,
+    /// Whether its first line ends with CR LF.
+    pub has_cr: bool,
+    /// Whether each cell of its first row is in quotes.
+    pub has_quotes: bool,
+    /// Whether its last line has an end.
+    pub has_end: bool,
 }
 
 impl Style {
-    /// How a table of these bytes is written, with this one between cells.
-    pub fn of(bytes: &[u8], delimiter: u8) -> Self {
-        let rows = bytes.strip_prefix(MARK).unwrap_or(bytes);
-        let line = first(rows, b'\n');
-        let header = line.strip_suffix(b"\r").unwrap_or(line);
-        Style {
-            delimiter,
-            has_mark: rows.len() < bytes.len(),
-            has_cr: header.len() < line.len(),
-            has_quotes: are_in_quotes(header, delimiter),
-            has_end: bytes.is_empty() || bytes.ends_with(b"\n"),
-        }
-    }
-
-    /// Rows that end with LF, written as this table is.
+    /// An answer with its rows written as this table is. A report stays as it is.
     ///
     /// # Errors
     ///
     /// Returns `AllocError` if a request for memory was refused.
-    pub fn write(self, alloc: Global, rows: &[u8]) -> Result<Vec<u8>, AllocError> {
+    pub fn write_answer(self, alloc: Global, answer: Answer) -> Result<Answer, AllocError>
+        ensures plain { is_plain self ≡ true → IfOk result (λ written. written ≡ answer) }
+        ensures stopped { answer.outcome ≡ Stopped → IfOk result (λ written. written ≡ answer) }
+        ensures status { IfOk result (λ written. written.status ≡ answer.status) }
+    {
+        let Answer {
+            bytes,
+            status,
+            outcome,
+        } = answer;
+        let bytes = match outcome {
+            Outcome::Made => self.write(alloc, bytes)?,
+            Outcome::Stopped => bytes,
+        };
+        Ok(Answer {
+            bytes,
+            status,
+            outcome,
+        })
+    }
+
+    // Rows that end with LF, written as this table is.
+    fn write(self, alloc: Global, rows: Vec<u8>) -> Result<Vec<u8>, AllocError>
+        ensures { is_plain self ≡ true → IfOk result (λ text. text ≡ rows) }
+    {
+        if self.is_plain() {
+            Ok(rows)
+        } else {
+            self.write_lines(alloc, &rows)
+        }
+    }
+
+    // Whether rows stay as they are.
+    fn is_plain(self) -> bool
+        ensures { result ≡ is_plain self }
+    {
+        !self.has_mark && !self.has_cr && !self.has_quotes && self.has_end
+    }
+
+    fn write_lines(self, alloc: Global, rows: &[u8]) -> Result<Vec<u8>, AllocError> {
         let mut text = Vec::new(alloc);
         if self.has_mark {
             text.extend_from_slice(MARK)?;
@@ -80,7 +110,8 @@ impl Style {
     // Puts the cells of a line, each in quotes.
     fn put_in_quotes(self, text: &mut Vec<u8>, line: &[u8]) -> Result<(), AllocError> {
         let mut rest = line;
-        for _ in 0..line.len() {
+        // There is one cell more than bytes between cells.
+        for _ in 0..line.len().saturating_add(1) {
             let cell = first(rest, self.delimiter);
             put_quoted(text, cell)?;
             if cell.len() == rest.len() {
@@ -109,22 +140,6 @@ fn put_quoted(text: &mut Vec<u8>, cell: &[u8]) -> Result<(), AllocError> {
         text.push(b'"')?;
     }
     Ok(())
-}
-
-// Whether each cell of a line is in quotes.
-fn are_in_quotes(line: &[u8], delimiter: u8) -> bool {
-    let mut rest = line;
-    for _ in 0..line.len() {
-        let cell = first(rest, delimiter);
-        if !cell.starts_with(b"\"") {
-            return false;
-        }
-        if cell.len() == rest.len() {
-            return true;
-        }
-        rest = behind(rest, cell);
-    }
-    false
 }
 
 // The bytes before the first such one outside quotes.

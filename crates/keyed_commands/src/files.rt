@@ -169,9 +169,9 @@ pub fn answer_request<'a, R: Files + Input + AllocGlobal>(
     let alloc = rt.alloc();
     let next = settings.form.reading.next;
     match request {
-        Request::Diff { old, new, format } => {
+        Request::Diff { old, new, how } => {
             let old = stream_of(rt, old, None);
-            diff(alloc, settings, format, old, stream_of(rt, new, next))
+            diff(alloc, settings, how, old, stream_of(rt, new, next))
         }
         Request::Apply { old, changes } => {
             let old = stream_of(rt, old, None);

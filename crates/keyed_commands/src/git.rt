@@ -1,11 +1,10 @@
 //! What git asks for: a table that changed, versions merged into a file, and how it is told of both.
 
-use crate::answers::Outcome;
-use crate::as_written::Style;
 use crate::files::{answer_request, write_whole};
+use crate::line_diff::{Versions, render_line_diff};
 use crate::output::write_answer;
 use keyed_files::{
-    Fault, Format, GitDiff, GitMerge, Merging, Reason, Request, Settings, Shown, at,
+    Comparing, Fault, Format, GitDiff, GitMerge, Merging, Reason, Request, Settings, Shown, at,
 };
 use std::alloc::{AllocError, Global};
 use std::fmt::Write as WriteText;
@@ -13,12 +12,12 @@ use std::fs;
 use std::io::Write;
 use std::rt::Files;
 
-/// Writes what changed between two versions of a table, behind its path. The status is 0, also where rows changed: git takes another one
-/// for trouble.
+/// Writes what changed between two versions of a table, behind its path. Where one of them is no table under these settings it says why, and
+/// compares them line by line, as git does. The status is 0, also where they differ: git takes another one for trouble.
 ///
 /// # Errors
 ///
-/// Returns the fault of the first version that is bad, or that of the output.
+/// Returns the fault of a version that can't be read, that of the output, and what is wrong with the settings.
 pub fn write_git_diff<'a, R: Files + Input + AllocGlobal, W: Write>(
     rt: &R,
     settings: Settings<'a>,
@@ -29,13 +28,66 @@ pub fn write_git_diff<'a, R: Files + Input + AllocGlobal, W: Write>(
     let request = Request::Diff {
         old: diff.old,
         new: diff.new,
-        format,
+        how: Comparing::whole(format),
     };
-    let answer = answer_request(rt, settings, request)?;
-    let mut bytes = at(diff.path, heading(rt.alloc(), diff))?.into_bytes();
-    at(diff.path, bytes.extend_from_slice(&answer.bytes))?;
-    at("the standard output", write_whole(output, &bytes))?;
+    let bytes = match answer_request(rt, settings, request) {
+        Ok(answer) => answer.bytes,
+        Err(fault) => lines_of_git(rt, diff, fault)?,
+    };
+    let mut text = at(diff.path, heading(rt.alloc(), diff))?.into_bytes();
+    at(diff.path, text.extend_from_slice(&bytes))?;
+    at("the standard output", write_whole(output, &text))?;
     Ok(0)
+}
+
+// What is wrong with a version that is no table, and both of them line by line; or the fault where it is of no version's text.
+fn lines_of_git<'a, R: Files + AllocGlobal>(
+    rt: &R,
+    diff: GitDiff<'a>,
+    fault: Fault<'a>,
+) -> Result<Vec<u8>, Fault<'a>> {
+    if !is_of_text(&fault.reason) {
+        return Err(fault);
+    }
+    let alloc = rt.alloc();
+    let mut text = at(diff.path, format!(in alloc; "no table: {fault}\n"))?;
+    let old = at(diff.old, fs::read(rt, diff.old))?;
+    let new = at(diff.new, fs::read(rt, diff.new))?;
+    let old_name = at(diff.path, name_beside(alloc, "a", diff.old, diff.path))?;
+    let new_path = diff.renamed.unwrap_or(diff.path);
+    let new_name = at(diff.path, name_beside(alloc, "b", diff.new, new_path))?;
+    let versions = Versions {
+        old_name: &old_name,
+        new_name: &new_name,
+        old: &old,
+        new: &new,
+    };
+    let lines = at(diff.path, render_line_diff(alloc, versions))?;
+    at(diff.path, text.push_str(&lines))?;
+    Ok(text.into_bytes())
+}
+
+// Whether a file is no table for what its text has, and not for want of a file, of memory or of a setting.
+fn is_of_text(reason: &Reason) -> bool {
+    match reason {
+        Reason::NoText(_)
+        | Reason::Quotes { .. }
+        | Reason::NoColumn { .. }
+        | Reason::RepeatedColumn { .. }
+        | Reason::NamedTwice { .. }
+        | Reason::CellCount { .. }
+        | Reason::RepeatedKey(_) => true,
+        _ => false,
+    }
+}
+
+// The name of a version of a file as git has it: its path in a folder of this name, unless there is none.
+fn name_beside(alloc: Global, folder: &str, file: &str, path: &str) -> Result<String, AllocError> {
+    if file == "/dev/null" {
+        String::from_str(alloc, file)
+    } else {
+        format!(in alloc; "{folder}/{path}")
+    }
 }
 
 // The line with the path of a table, and the one that it got where it was renamed.
@@ -82,24 +134,8 @@ pub fn write_git_merge<'a, R: Files + Input + AllocGlobal, W: Write>(
         theirs: merge.theirs,
         how: Merging::AS_GIT,
     };
-    let mut answer = answer_request(rt, settings, request)?;
-    if let Outcome::Made = answer.outcome {
-        let written = as_ours(rt, settings, merge.ours, &answer.bytes);
-        answer.bytes = at(merge.ours, written)?;
-    }
+    let answer = answer_request(rt, settings, request)?;
     write_answer(rt, answer, merge.ours, output)
-}
-
-// Rows written as the file of ours is.
-fn as_ours<R: Files + AllocGlobal>(
-    rt: &R,
-    settings: Settings<'_>,
-    ours: &str,
-    rows: &[u8],
-) -> Result<Vec<u8>, Reason> {
-    let bytes = fs::read(rt, ours)?;
-    let style = Style::of(&bytes, settings.form.delimiter.byte());
-    Ok(style.write(rt.alloc(), rows)?)
 }
 
 /// Writes the commands of a shell that tell git of the two others, with these options for them. The status is 0.

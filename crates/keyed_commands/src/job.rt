@@ -1,12 +1,14 @@
 //! What the steps of a command share, and how they read tables.
-ghost use Rattle.std.specs.Prelude.{◌≡◌, ◌++◌, ◌∷◌, [], OnOk};
+ghost use Rattle.std.specs.Prelude.{◌≡◌, ◌++◌, ◌∷◌, [], IfOk, None, OnOk, false, is_none, true};
+ghost use Rattle.keyed_files.specs.Reading.{ReadsRest, ReadsRows};
 ghost use Rattle.keyed_tables.specs.Arranged.{IsNoted, noted};
+ghost use Rattle.keyed_commands.specs.TablesRead.{Gathers, IsUnordered, ReadsTable};
 
 use crate::row_order::RowOrder;
 use eob_joins::Change;
 use keyed_files::{
-    Columns, Fault, Form, JoinColumns, Layout, Opened, Reason, Settings, Sign, SignedRow, Two, at,
-    write_table,
+    Columns, Fault, Form, JoinColumns, Layout, Look, Opened, Places, Reason, Settings, Sign,
+    SignedRow, Source, Two, at, write_table,
 };
 use keyed_rows::{Group, Key, ReadRow, Release};
 use keyed_tables::{Order, Rows, grouped_rows, paired, unique_rows};
@@ -19,12 +21,13 @@ pub type Table = Rows<Key, Group>;
 /// Changes to a table, by key.
 pub type Changes = Rows<Key, Change<Group>>;
 
-/// What the steps of a command share: how its tables are written, whether rows with the same key are a group, the columns, and the order
-/// in which rows come out.
+/// What the steps of a command share: how its tables are written, how rows are told for which there is none, whether rows with the same key
+/// are a group, the columns, and the order in which rows come out.
 #[derive(Drop)]
 pub struct Job<'c, C> {
     pub alloc: Global,
     pub form: Form,
+    pub look: Look,
     pub groups: bool,
     pub columns: &'c C,
     pub order: Order,
@@ -33,10 +36,16 @@ pub struct Job<'c, C> {
 
 impl<'c, C> Job<'c, C> {
     /// A job on whole tables, of which none is read yet.
-    pub fn new(alloc: Global, settings: Settings<'_>, columns: &'c C) -> Self {
+    pub fn new(alloc: Global, settings: Settings<'_>, columns: &'c C) -> Self
+        ensures form { result.form ≡ settings.entry.form }
+        ensures groups { result.groups ≡ settings.entry.groups }
+        ensures columns { result.columns.now ≡ columns.now }
+        ensures unordered { settings.entry.keeps_order ≡ false → IsUnordered result }
+    {
         Job {
             alloc,
             form: settings.form,
+            look: settings.look,
             groups: settings.groups,
             columns,
             order: order_of(alloc, settings),
@@ -49,6 +58,7 @@ impl<'c, C> Job<'c, C> {
         Job {
             alloc,
             form: layout.form,
+            look: Look::PLAIN,
             groups: false,
             columns,
             order: Order::by_key(),
@@ -61,6 +71,7 @@ impl<'c, C> Job<'c, C> {
         Job {
             alloc: self.alloc,
             form: self.form,
+            look: self.look,
             groups: self.groups,
             columns: self.columns,
             order: Order::by_key(),
@@ -78,19 +89,53 @@ impl<'c, C> Job<'c, C> {
         &mut self,
         columns: &Columns,
         table: &mut Opened<'a, R>,
-    ) -> Result<Table, Fault<'a>> {
+    ) -> Result<Table, Fault<'a>>
+        ensures table { IfOk result (λ rows.
+            ReadsTable R.remaining self.old.groups columns.now table.old.source.value rows.pairs.items) }
+        ensures same { self.new ≡ record self.old { order = self.new.order; row_order = self.new.row_order } }
+        ensures unordered { OnOk result (IsUnordered self.old → IsUnordered self.new) }
+        ensures header { table.new.source.value.header ≡ table.old.source.value.header }
+    {
         let mut rows = Vec::new(self.alloc);
         at(
             table.file,
             read_rows(table, columns, &mut self.order, &mut rows),
         )?;
-        at(table.file, self.row_order.note_file(self.alloc, &rows))?;
-        at(table.file, self.gather(rows))
+        self.take_rows(table.file, rows)
+    }
+
+    // Reads the rows of a table that is merged into the one before it: each that this one lacks comes out behind the row that it follows.
+    fn read_beside<'a, R: Read + Drop>(
+        &mut self,
+        columns: &Columns,
+        table: &mut Opened<'a, R>,
+    ) -> Result<Table, Fault<'a>>
+        ensures table { IfOk result (λ rows.
+            ReadsTable R.remaining self.old.groups columns.now table.old.source.value rows.pairs.items) }
+        ensures same { self.new ≡ record self.old { order = self.new.order; row_order = self.new.row_order } }
+    {
+        let mut order = self.order.begun(self.alloc);
+        let mut rows = Vec::new(self.alloc);
+        at(table.file, read_rows(table, columns, &mut order, &mut rows))?;
+        self.order = at(table.file, Order::placed(self.alloc, &self.order, &order))?;
+        self.take_rows(table.file, rows)
+    }
+
+    // The rows of a file by key, which are noted in their order.
+    fn take_rows<'a>(&mut self, file: &'a str, rows: Vec<ReadRow>) -> Result<Table, Fault<'a>>
+        ensures table { IfOk result (λ table. Gathers self.old.groups rows.items table.pairs.items) }
+        ensures same { self.new ≡ record self.old { row_order = self.new.row_order } }
+        ensures by_cells { is_none self.old.row_order.files ≡ true → is_none self.new.row_order.files ≡ true }
+    {
+        at(file, self.row_order.note_file(self.alloc, &rows))?;
+        at(file, self.gather(rows))
     }
 
     // The rows by key, of which no two have the same unless they are groups. A key that repeats and may not is an error. Rows last, since a
     // run ends with its answer.
-    fn gather(&self, rows: Vec<ReadRow>) -> Result<Table, Reason> {
+    fn gather(&self, rows: Vec<ReadRow>) -> Result<Table, Reason>
+        ensures { IfOk result (λ table. Gathers self.now.groups rows.items table.pairs.items) }
+    {
         if self.groups {
             Ok(grouped_rows(self.alloc, rows, Release::AtExit)?)
         } else {
@@ -132,10 +177,40 @@ impl Job<'_, Columns> {
     pub fn read_both<'a, R: Read + Drop>(
         &mut self,
         tables: &mut Two<'a, R>,
-    ) -> Result<(Table, Table), Fault<'a>> {
+    ) -> Result<(Table, Table), Fault<'a>>
+        ensures first { IfOk result (λ pair. ReadsTable R.remaining self.old.groups self.old.columns.now
+            tables.old.first.source.value pair.0.pairs.items) }
+        ensures next { IfOk result (λ pair. ReadsTable R.remaining self.old.groups self.old.columns.now
+            tables.old.next.source.value pair.1.pairs.items) }
+        ensures same { self.new ≡ record self.old { order = self.new.order; row_order = self.new.row_order } }
+        ensures unordered { OnOk result (IsUnordered self.old → IsUnordered self.new) }
+        ensures first_header { tables.new.first.source.value.header ≡ tables.old.first.source.value.header }
+        ensures next_header { tables.new.next.source.value.header ≡ tables.old.next.source.value.header }
+    {
         let first = self.read_table(self.columns, &mut tables.first)?;
         let next = self.read_table(self.columns, &mut tables.next)?;
         Ok((first, next))
+    }
+
+    /// Reads the rows of two versions of a table that are merged: those that only the second has come out behind the rows that they follow
+    /// there.
+    ///
+    /// # Errors
+    ///
+    /// Returns the first fault of `read_table`.
+    pub fn read_merged<'a, R: Read + Drop>(
+        &mut self,
+        sides: &mut Two<'a, R>,
+    ) -> Result<(Table, Table), Fault<'a>>
+        ensures ours { IfOk result (λ pair. ReadsTable R.remaining self.old.groups self.old.columns.now
+            sides.old.first.source.value pair.0.pairs.items) }
+        ensures theirs { IfOk result (λ pair. ReadsTable R.remaining self.old.groups self.old.columns.now
+            sides.old.next.source.value pair.1.pairs.items) }
+        ensures same { self.new ≡ record self.old { order = self.new.order; row_order = self.new.row_order } }
+    {
+        let ours = self.read_table(self.columns, &mut sides.first)?;
+        let theirs = self.read_beside(self.columns, &mut sides.next)?;
+        Ok((ours, theirs))
     }
 
     /// Reads the rows of a table, and the changes to be made to it.
@@ -176,7 +251,9 @@ impl Job<'_, Columns> {
     }
 }
 
-fn order_of(alloc: Global, settings: Settings<'_>) -> Order {
+fn order_of(alloc: Global, settings: Settings<'_>) -> Order
+    ensures { settings.entry.keeps_order ≡ false → noted result ≡ None }
+{
     if settings.keeps_order {
         Order::by_file(alloc)
     } else {
@@ -185,7 +262,9 @@ fn order_of(alloc: Global, settings: Settings<'_>) -> Order {
 }
 
 // The order of rows in a group is that of the files where rows come out in this order.
-fn row_order_of(alloc: Global, settings: Settings<'_>) -> RowOrder {
+fn row_order_of(alloc: Global, settings: Settings<'_>) -> RowOrder
+    ensures { settings.entry.keeps_order ≡ false → is_none result.files ≡ true }
+{
     if settings.keeps_order && settings.groups {
         RowOrder::by_file(alloc)
     } else {
@@ -199,15 +278,34 @@ fn read_rows<R: Read + Drop>(
     columns: &Columns,
     order: &mut Order,
     rows: &mut Vec<ReadRow>,
-) -> Result<(), Reason> {
+) -> Result<(), Reason>
+    ensures read { OnOk result (ReadsRows R.remaining columns.now table.old.source.value rows.old.items rows.new.items) }
+    ensures unordered { OnOk result (noted order.old ≡ None → noted order.new ≡ None) }
+    ensures header { table.new.source.value.header ≡ table.old.source.value.header }
+{
     let places = table.source.places(columns)?;
+    read_rest(&mut table.source, &places, order, rows)?;
+    Ok(())
+}
+
+// Reads the rows that a source has left, behind those that are there. No input has more of them than a number counts.
+fn read_rest<R: Read + Drop>(
+    source: &mut Source<R>,
+    places: &Places,
+    order: &mut Order,
+    rows: &mut Vec<ReadRow>,
+) -> Result<(), Reason>
+    ensures read { OnOk result (ReadsRest R.remaining places.now source.old rows.old.items rows.new.items) }
+    ensures unordered { OnOk result (noted order.old ≡ None → noted order.new ≡ None) }
+    ensures header { source.new.header ≡ source.old.header }
+{
     for _ in 0..u64::MAX {
-        match table.source.read_row(&places)? {
+        match source.read_row(places)? {
             Some(row) => note_and_push(order, rows, row)?,
-            None => break,
+            None => return Ok(()),
         }
     }
-    Ok(())
+    Err(Reason::NoMemory)
 }
 
 // Reads the rows that go behind those that are there, and so those that come.

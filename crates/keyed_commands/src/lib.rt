@@ -7,8 +7,8 @@
 
 mod answers;
 mod as_written;
+mod by_number;
 mod changed;
-mod changes;
 mod come_out;
 mod files;
 mod fits;
@@ -17,6 +17,7 @@ mod job;
 mod joined;
 mod laws;
 mod layers;
+mod line_diff;
 mod lookups;
 mod losses;
 mod lost;
@@ -27,16 +28,18 @@ mod patch;
 mod row_order;
 mod sorted;
 mod tables;
+mod watched;
 mod written;
 
 pub use answers::{Answer, Outcome, apply, diff, join, merge};
 pub use files::{answer_request, stream_request, write_command, write_request, write_whole};
 pub use git::{write_git_diff, write_git_merge, write_git_setup, write_git_unmerged};
 pub use keyed_files::{
-    Asked, Colours, Command, Comment, Conflicts, Delimiter, Encoding, Fault, Finding, Form, Format,
-    GitDiff, GitMerge, JoinNames, Joining, Kind, Layer, Layout, Lengths, Lookup as LookupRequest,
-    LookupKind, Merging, NamedFile, Overlay as OverlayRequest, Quotes, Reading, Reason, Request,
-    Settings, Shown, ShownCell, ShownName, SortedRequest, Stream, Unit, Wanted, at,
+    Asked, Colours, Command, Comment, Comparing, Conflicts, Decimal, Delimiter, Encoding, Fault,
+    Finding, Form, Format, GitDiff, GitMerge, JoinNames, Joining, Kind, Layer, Layout, Lengths,
+    Look, Lookup as LookupRequest, LookupKind, Merging, NamedFile, Overlay as OverlayRequest,
+    Picked, Quotes, Reading, Reason, Request, RowsShown, Settings, Shown, ShownCell, ShownName,
+    SortedRequest, Stream, Unit, View, Wanted, at,
 };
 pub use laws::{law_diff_apply, law_diff_reads};
 pub use layers::overlay;

@@ -1,14 +1,15 @@
-//! Changes that do not fit a table, as a person reads them.
+//! Changes that do not fit a table, told to a person or to a program.
 
 use crate::job::{Changes, Job, Table};
 use either_or_both::EitherOrBoth;
 use either_or_both::join::outer_join;
 use eob_joins::Change;
-use keyed_files::{Columns, Grid, heading, line_up, put_version};
+use keyed_files::Columns;
+use keyed_reports::{Stopped, Version, write_stopped};
 use keyed_rows::{Group, Key};
 use std::alloc::AllocError;
 
-/// The changes whose old row is not what the table has, in the order in which rows come out, as a table that a person reads.
+/// The changes whose old row is not what the table has, in the order in which rows come out.
 ///
 /// # Errors
 ///
@@ -16,30 +17,35 @@ use std::alloc::AllocError;
 pub fn render_misfits(
     job: &Job<'_, Columns>,
     tables: (Table, Changes),
-) -> Result<String, AllocError> {
+) -> Result<Vec<u8>, AllocError> {
     let (old, changes) = tables;
     let rows = outer_join(job.alloc, old.pairs, changes.pairs)?;
-    let mut grid: Grid = Vec::new(job.alloc);
-    grid.push(heading(job.alloc, job.columns)?)?;
-    for (key, row) in job.arrange(rows)? {
-        put_misfit(job, &mut grid, &key, &row)?;
+    let rows = job.arrange(rows)?;
+    let mut versions = Vec::new(job.alloc);
+    for (key, row) in &rows {
+        put_misfit(&mut versions, key, row)?;
     }
-    line_up(job.alloc, &grid)
+    let stopped = Stopped {
+        why: "misfit",
+        said: "",
+        columns: job.columns,
+        versions: &versions,
+    };
+    write_stopped(job.alloc, job.look, &stopped)
 }
 
 // Puts what the table has under a key beside what a change wants there, unless they are the same or there is no change.
-fn put_misfit(
-    job: &Job<'_, Columns>,
-    grid: &mut Grid,
-    key: &Key,
-    row: &EitherOrBoth<Group, Change<Group>>,
+fn put_misfit<'a>(
+    versions: &mut Vec<Version<'a>>,
+    key: &'a Key,
+    row: &'a EitherOrBoth<Group, Change<Group>>,
 ) -> Result<(), AllocError> {
     let (has, change) = row.as_ref().unzip();
     if let Some(change) = change {
         let wants = change.as_ref().left();
         if has != wants {
-            put_version(job.alloc, grid, "table", key, has)?;
-            put_version(job.alloc, grid, "change", key, wants)?;
+            versions.push(("table", key, has))?;
+            versions.push(("change", key, wants))?;
         }
     }
     Ok(())

@@ -37,7 +37,9 @@ impl Times {
 
 impl RowOrder {
     /// The order of cells.
-    pub fn by_cells() -> Self {
+    pub fn by_cells() -> Self
+        ensures { is_none result.files ≡ true }
+    {
         RowOrder { files: None }
     }
 
@@ -60,7 +62,9 @@ impl RowOrder {
     /// # Errors
     ///
     /// Returns `AllocError` if a request for memory was refused.
-    pub fn note_file(&mut self, alloc: Global, rows: &[ReadRow]) -> Result<(), AllocError> {
+    pub fn note_file(&mut self, alloc: Global, rows: &[ReadRow]) -> Result<(), AllocError>
+        ensures { is_none self.old.files ≡ true → is_none self.new.files ≡ true }
+    {
         if let Some(files) = &mut self.files {
             let mut file: RowsByKey = IndexMap::new(alloc);
             for row in rows {

@@ -63,7 +63,7 @@ fn apply_fitting(job: &Job<'_, Columns>, old: Table, changes: Changes) -> Result
     Ok(answer)
 }
 
-// Changes that do not fit, as a person reads them.
+// Changes that do not fit, as a report.
 fn report_misfits(job: &Job<'_, Columns>, old: Table, changes: Changes) -> Result<Answer, Reason>
     ensures { IfOk result Stops }
 {
@@ -130,7 +130,7 @@ fn answer_of_merge(job: &Job<'_, Columns>, merged: Merged<Key, Group>) -> Result
     }
 }
 
-/// Rows in conflict as a person reads them.
+/// Rows in conflict as a report.
 ///
 /// # Errors
 ///
@@ -142,7 +142,7 @@ pub fn report_conflicts(
     ensures { IfOk result Stops }
 {
     let rows = job.arrange(rows)?;
-    let text = render_conflicts(job.alloc, job.columns, &rows)?;
+    let text = render_conflicts(job, &rows)?;
     Ok(stopped(text))
 }
 
@@ -198,11 +198,11 @@ fn table_as_csv(job: &Job<'_, Columns>, rows: Vec<(Key, Group)>) -> Result<Answe
 }
 
 // A report that is no table.
-fn stopped(text: String) -> Answer
+fn stopped(bytes: Vec<u8>) -> Answer
     ensures { Stops result }
 {
     Answer {
-        bytes: text.into_bytes(),
+        bytes,
         status: 1,
         outcome: Outcome::Stopped,
     }

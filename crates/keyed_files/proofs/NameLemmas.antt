@@ -1,5 +1,5 @@
 -- Lists of names whose elements are read in another way.
-use Rattle.std.proofs.Common.{◌≡◌, ◌∙◌, ℕ, suc, Option, Some, None, arith, Bool, true, false, cond, List, [], ◌∷◌, ◌++◌, ◌+◌, length, map, nat_eq, position, refl, sym, ap}
+use Rattle.std.proofs.Common.{◌≡◌, ◌∙◌, ℕ, suc, Option, Some, None, arith, Bool, true, false, cond, List, [], ◌∷◌, ◌++◌, ◌+◌, length, map, nat_eq, position, refl, sym, ap, true≢false}
 use Rattle.std.specs.Prelude.{◌||◌, is_none, nat_lt, not}
 use Rattle.std.specs.Cmp.{IsEquivalence}
 use Rattle.std.specs.Cmp.Lexicographic.{nat_list_eq_equiv, pointwise}
@@ -28,6 +28,14 @@ module _ {X Y : Type 0} (f : X → Y) where
 
   pub insert-map : (eq : Y → Y → Bool) (xs : List X) (x : X) → map f (insert_key (λ x y. eq (f x) (f y)) xs x) ≡ insert_key eq (map f xs) (f x)
   insert-map eq xs x = insert_if (list_any (λ y. eq (f x) (f y)) xs) xs x ∙ rw (list_any-map (eq (f x)) xs) refl
+
+-- a name that is none of those there is put behind them
+not-true : (b : Bool) → not b ≡ true → b ≡ false
+not-true true e = absurd (true≢false (sym e))
+not-true false e = refl
+
+pub insert-new : {K : Type 0} (eq : K → K → Bool) (keys : List K) (k : K) → not (list_any (eq k) keys) ≡ true → insert_key eq keys k ≡ keys ++ k ∷ []
+insert-new eq keys k new = rw (not-true (list_any (eq k) keys) new) refl
 
 -- tests that agree
 pub list_any_agree : {X : Type 0} (p q : X → Bool) → ((x : X) → p x ≡ q x) → (xs : List X) → list_any p xs ≡ list_any q xs

@@ -70,7 +70,7 @@ module _ {R : Type 0} (rem : R → Option (List ℕ)) (form : Form) (kind : Cont
     (content : source.content ≡ kind) (begun : HasRead (delimiter_of form) (comment_of form) (checked_left rem) text [] old) where
   opened-if : (has_header has_first : Bool) → form.has_header ≡ has_header
       → GivesRow (checked_left rem) old source.reader has_first (fields_of source.last) → source.next ≡ next_of has_first has_header
-      → HeaderOf has_header kind has_first (fields_of source.last) source.header.names → IsOpen form kind rem text source
+      → HeaderOf has_header kind has_first (fields_of source.last) source.header.names → IsOpen form kind rem text source.header.names source
   opened-if true false same reads is header =
       let none = reads _ _ text [] begun in
       record { content = content; first = []; header = rw same (none, header); given = rw is none }
@@ -81,7 +81,7 @@ module _ {R : Type 0} (rem : R → Option (List ℕ)) (form : Form) (kind : Cont
 
   pub opened : (has_first : Bool) → GivesRow (checked_left rem) old source.reader has_first (fields_of source.last)
       → source.next ≡ next_of has_first form.has_header → HeaderOf form.has_header kind has_first (fields_of source.last) source.header.names
-      → IsOpen form kind rem text source
+      → IsOpen form kind rem text source.header.names source
   opened has_first reads is header = opened-if form.has_header has_first refl reads is header
 
 -- the same of a text that is known or not
@@ -90,7 +90,7 @@ pub opened-known : {R : Type 0} (rem : R → Option (List ℕ)) (form : Form) (k
     → IfSome known (λ text. HasRead (delimiter_of form) (comment_of form) (checked_left rem) text [] old)
     → (has_first : Bool) → GivesRow (checked_left rem) old made.reader has_first (fields_of made.last)
     → made.next ≡ next_of has_first form.has_header → HeaderOf form.has_header kind has_first (fields_of made.last) made.header.names
-    → IfSome known (λ text. IsOpen form kind rem text source)
+    → IfSome known (λ text. IsOpen form kind rem text source.header.names source)
 opened-known rem form kind None old source made same content begun has_first reads is header = tt
 opened-known rem form kind (Some text) old source made same content begun has_first reads is header =
     rw same (opened rem form kind text old made content begun has_first reads is header)

@@ -4,6 +4,7 @@ pub mod Headers
 pub mod JoinedRows
 pub mod Lines
 pub mod Names
+pub mod Opening
 pub mod Picked
 pub mod Reading
 pub mod Rows

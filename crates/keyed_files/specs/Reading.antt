@@ -1,15 +1,17 @@
 -- What a source of rows has given of a known text, and what it gives next.
 use Rattle.std.specs.Prelude.{◌≡◌, ◌==◌, ◌&&◌, ℕ, List, [], ◌∷◌, ◌++◌, Bool, true, false, Option, Some, None, drop, is_none, if◌then◌else◌, map, ⊤}
-use Rattle.csv.specs.Records.{fields_of}
+use Rattle.csv.specs.Records.{field_at, fields_of}
 use Rattle.keyed_rows.specs.declared.row.ReadRow.{ReadRow}
 use Rattle.keyed_text.specs.Streams.{HasRead}
 use Rattle.keyed_text.specs.Texts.{AreRows}
 use Rattle.keyed_files.specs.Lines.{checked_left}
 use Rattle.keyed_files.specs.Headers.{ArePlaces, NamesOf, place_under}
 use Rattle.keyed_files.specs.Picked.{cell_at}
+use Rattle.keyed_files.specs.Rows.{shown_sign}
 use Rattle.keyed_files.specs.Writing.{comment_of, delimiter_of}
 use Rattle.keyed_files.specs.declared.columns.Columns.{Columns}
 use Rattle.keyed_files.specs.declared.request.Form.{Form}
+use Rattle.keyed_files.specs.declared.sign.SignedRow.{SignedRow}
 use Rattle.keyed_files.specs.declared.source.Content.{Content}
 use Rattle.keyed_files.specs.declared.source.Next.{Next}
 use Rattle.keyed_files.specs.declared.source.Next.TheVariants as next
@@ -54,6 +56,11 @@ picked places fields = (map (cell_at fields) places.key.items, map (cell_at fiel
 abbrev pub IsPicked : Places → List (List ℕ) → ReadRow → Type 0
 IsPicked places fields row = parts_of row ≡ picked places fields
 
+-- a row of changes has them, and the sign that the first cell of the record is
+pub record IsSigned (places : Places) (fields : List (List ℕ)) (signed : SignedRow) : Type 0 where
+  pub row : IsPicked places fields signed.row
+  pub sign : field_at fields 0 ≡ Some (shown_sign signed.sign)
+
 -- the places of the cells of columns under the header of a source
 abbrev pub PlacesOf : {R : Type 0} → Source R → Columns → Places → Type 0
 PlacesOf source columns places = ArePlaces source.content source.header.names columns places
@@ -72,11 +79,11 @@ IsHeader form kind text names true (fields ∷ more ∷ rest) = ⊥
 IsHeader form kind text names false [] = ⊤
 IsHeader form kind text names false (fields ∷ rest) = ⊥
 
--- a source of a text is open: its header is read, and the records under it come next
-pub record IsOpen {R : Type 0} (form : Form) (kind : Content) (remaining : R → Option (List ℕ)) (text : List ℕ) (source : Source R) : Type 0 where
+-- a source of a text with this header is open: its header is read, and the records under it come next
+pub record IsOpen {R : Type 0} (form : Form) (kind : Content) (remaining : R → Option (List ℕ)) (text : List ℕ) (names : List (List ℕ)) (source : Source R) : Type 0 where
   pub content : source.content ≡ kind
   pub first : List (List (List ℕ))
-  pub header : IsHeader form kind text source.header.names form.has_header first
+  pub header : IsHeader form kind text names form.has_header first
   pub given : HasGiven (delimiter_of form) (comment_of form) remaining text first source
 
 -- rows that stand behind others are those of records at the places of columns
@@ -84,6 +91,12 @@ pub record ReadBehind (places : Places) (old new : List ReadRow) (records : List
   pub more : List ReadRow
   pub rows : new ≡ old ++ more
   pub parts : map parts_of more ≡ map (picked places) records
+
+-- rows were read of a source: of each text of which it had given some records, it gave more, and these rows stand behind others
+abbrev pub ReadsOn : {R : Type 0} → (R → Option (List ℕ)) → Places → Source R → Source R → List ReadRow → List ReadRow → Type 0
+ReadsOn remaining places source now old new = (d : ℕ) (c : Option ℕ) (text : List ℕ) (given : List (List (List ℕ)))
+    → HasGiven d c remaining text given source
+    → (records : List (List (List ℕ))) × HasGiven d c remaining text (given ++ records) now × ReadBehind places old new records
 
 -- a source is read to the end: behind the records that it had given, these come, and no more
 abbrev pub ReadsRest : {R : Type 0} → (R → Option (List ℕ)) → Places → Source R → List ReadRow → List ReadRow → Type 0
@@ -110,12 +123,14 @@ HeadedBy true kind [] names = names ≡ []
 HeadedBy true kind (fields ∷ records) names = NamesOf kind fields names
 HeadedBy false kind records names = ⊤
 
--- what a text says as a table: the names of its columns, and a row for each record behind the header, of its cells under these names
-abbrev pub IsTable : Form → Content → List ℕ → List (List ℕ) → Columns → List ReadRow → Type 0
-IsTable form kind text names columns rows = (records : List (List (List ℕ))) × AreRows (delimiter_of form) (comment_of form) text records
-    × HeadedBy form.has_header kind records names × (map parts_of rows ≡ map (row_under kind names columns) (behind_header form.has_header records))
+-- what a text says as a table: the names of its columns in its header, and a row for each record behind it, of its cells under the names
+-- by which they are read
+abbrev pub IsTable : Form → Content → List ℕ → List (List ℕ) → List (List ℕ) → Columns → List ReadRow → Type 0
+IsTable form kind text header names columns rows = (records : List (List (List ℕ))) × AreRows (delimiter_of form) (comment_of form) text records
+    × HeadedBy form.has_header kind records header × (map parts_of rows ≡ map (row_under kind names columns) (behind_header form.has_header records))
 
 -- behind rows that were there come those of the table that a text says
 abbrev pub ReadsRows : {R : Type 0} → (R → Option (List ℕ)) → Columns → Source R → List ReadRow → List ReadRow → Type 0
-ReadsRows remaining columns source old new = (form : Form) (kind : Content) (text : List ℕ) → IsOpen form kind remaining text source
-    → (more : List ReadRow) × (new ≡ old ++ more) × IsTable form kind text source.header.names columns more
+ReadsRows remaining columns source old new = (form : Form) (kind : Content) (text : List ℕ) (header : List (List ℕ))
+    → IsOpen form kind remaining text header source
+    → (more : List ReadRow) × (new ≡ old ++ more) × IsTable form kind text header source.header.names columns more

@@ -41,6 +41,13 @@ impl<R: Drop> Ahead<R> {
 }
 
 impl<R> Ahead<R> {
+    /// The reader.
+    pub fn get_ref(&self) -> &R
+        ensures { result.now ≡ self.now.inner }
+    {
+        &self.inner
+    }
+
     /// The bytes that are read ahead.
     pub fn rest(&self) -> &[u8]
         ensures { result.now ≡ ahead_of self.now }

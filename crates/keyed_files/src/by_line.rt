@@ -52,6 +52,13 @@ impl<R: Drop> ByLine<R> {
 }
 
 impl<R> ByLine<R> {
+    /// The reader of the file.
+    pub fn get_ref(&self) -> &R
+        ensures { result.now ≡ self.now.file.inner }
+    {
+        self.file.get_ref()
+    }
+
     /// Notes that a row is read next, before which blank lines may stand.
     pub fn begin_row(&self) {
         self.lines.row.set(None);

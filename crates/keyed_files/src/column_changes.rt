@@ -1,10 +1,10 @@
 //! What became of the columns between two versions of a table.
-ghost use Rattle.std.specs.Prelude.{◌≡◌, ◌||◌, ◌∷◌, [], IfOk, OnOk};
-ghost use Rattle.keyed_files.specs.Names.{compared, has_lone};
+ghost use Rattle.std.specs.Prelude.{◌≡◌, ◌||◌, ◌∷◌, [], IfOk, OnOk, filter, is_none};
+ghost use Rattle.keyed_files.specs.Names.{compared, has_lone, place_in};
 ghost use Rattle.keyed_files.specs.Rows.{change_name};
 ghost use Rattle.keyed_files.specs.Writing.{PutsRows};
 
-use crate::columns::place_of;
+use crate::columns::{kept_names, place_of};
 use crate::fault::Reason;
 use crate::lined_up::ShownName;
 use crate::names::Names;
@@ -59,6 +59,36 @@ impl<'a> ColumnChanges<'a> {
                 || has_lone_name(alloc, self.after, self.before)?,
         )
     }
+}
+
+/// The names of the columns that one of two tables alone has.
+#[derive(Drop)]
+pub struct LoneColumns {
+    pub added: Cells,
+    pub removed: Cells,
+}
+
+impl ColumnChanges<'_> {
+    /// The names of the columns that one of the headers alone has.
+    ///
+    /// # Errors
+    ///
+    /// Returns `AllocError` if a request for memory was refused.
+    pub fn lone(self, alloc: Global) -> Result<LoneColumns, AllocError> {
+        Ok(LoneColumns {
+            added: lone_names(alloc, self.after, self.before)?,
+            removed: lone_names(alloc, self.before, self.after)?,
+        })
+    }
+}
+
+// The names that are not among others.
+fn lone_names(alloc: Global, names: &Cells, others: &Cells) -> Result<Cells, AllocError>
+    ensures { IfOk result (λ lone. lone ≡ filter (λ name. is_none (place_in others.now name)) names.now) }
+{
+    let known = Names::of_cells(alloc, others)?;
+    let lone = kept_names(alloc, &known, false, names)?;
+    Ok(lone)
 }
 
 impl Written {

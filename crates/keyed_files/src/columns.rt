@@ -1,10 +1,11 @@
 //! The columns of tables: from headers to the columns of what is written.
-ghost use Rattle.std.specs.Prelude.{◌≡◌};
-ghost use Rattle.keyed_files.specs.Names.{place_in};
+ghost use Rattle.std.specs.Prelude.{◌≡◌, IfOk, filter};
+ghost use Rattle.keyed_files.specs.Names.{is_kept, names_in, place_in};
 
 use crate::fault::Reason;
 use crate::key_record::{KeyNames, key_names};
 use crate::names::Names;
+use crate::request::Picked;
 use keyed_rows::Cells;
 use std::alloc::{AllocError, Global};
 
@@ -62,6 +63,94 @@ fn put_name(key: &Cells, rest: &mut Cells, name: &[u8]) -> Result<Place, AllocEr
             Ok(Place::Rest)
         }
     }
+}
+
+/// The same columns with those alone, beside the key, that are picked: the key, and then the others in their order.
+///
+/// # Errors
+///
+/// Returns the errors of `key_names`, `NeitherHas` if a name that is given is that of no column, and `NoMemory` if a request for memory was
+/// refused.
+pub fn picked_columns(
+    alloc: Global,
+    picked: Picked<'_>,
+    columns: Columns,
+) -> Result<Columns, Reason> {
+    let (record, keeps) = match picked {
+        Picked::All => return Ok(columns),
+        Picked::Only(record) => (record, true),
+        Picked::AllBut(record) => (record, false),
+    };
+    let given = key_names(alloc, record)?.first;
+    for name in &given {
+        if place_of(&columns.key, name).is_none() && place_of(&columns.rest, name).is_none() {
+            return Err(Reason::NeitherHas(Vec::from_slice(alloc, name)?));
+        }
+    }
+    let names = Names::of_cells(alloc, &given)?;
+    Ok(columns_among(alloc, &names, keeps, columns)?)
+}
+
+// The same columns with those alone, beside the key, whose names are among these, or are not.
+fn columns_among(
+    alloc: Global,
+    names: &Names,
+    keeps: bool,
+    columns: Columns,
+) -> Result<Columns, AllocError>
+    ensures key { IfOk result (λ kept. kept.key ≡ columns.key) }
+    ensures rest { IfOk result (λ kept. kept.rest ≡ filter (is_kept keeps (names_in names.now)) columns.rest) }
+{
+    let rest = kept_names(alloc, names, keeps, &columns.rest)?;
+    let order = key_first(alloc, columns.key.len(), rest.len())?;
+    Ok(Columns {
+        key: columns.key,
+        rest,
+        order,
+    })
+}
+
+// Those of a header that are among these names, or those that are not.
+pub(crate) fn kept_names(
+    alloc: Global,
+    names: &Names,
+    keeps: bool,
+    header: &Cells,
+) -> Result<Cells, AllocError>
+    ensures { IfOk result (λ kept. kept ≡ filter (is_kept keeps (names_in names.now)) header.now) }
+{
+    let mut kept = Cells::new(alloc);
+    for name in header {
+        if names.has(name) == keeps {
+            kept.push(name)?;
+        }
+    }
+    Ok(kept)
+}
+
+// The places of so many columns of a key, and of so many others behind them.
+fn key_first(alloc: Global, key: usize, rest: usize) -> Result<Vec<Place>, AllocError> {
+    let mut order = Vec::new(alloc);
+    for place in 0..key {
+        order.push(Place::Key(place))?;
+    }
+    for _ in 0..rest {
+        order.push(Place::Rest)?;
+    }
+    Ok(order)
+}
+
+/// The names of a header that are those of columns, in its order.
+///
+/// # Errors
+///
+/// Returns `AllocError` if a request for memory was refused.
+pub fn names_among(alloc: Global, header: &Cells, columns: &Columns) -> Result<Cells, AllocError> {
+    let mut there = Names::of_cells(alloc, &columns.key)?;
+    for name in &columns.rest {
+        there.add(alloc, name)?;
+    }
+    kept_names(alloc, &there, true, header)
 }
 
 /// The names of the columns of both tables, whose keys have as many.

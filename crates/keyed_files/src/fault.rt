@@ -44,9 +44,11 @@ pub enum Reason {
     KeyNoRecord,
     /// Among the names of the columns that are the key one stands twice.
     RepeatedName(Vec<u8>),
+    /// A column that is to be compared or not is in neither table.
+    NeitherHas(Vec<u8>),
     /// For a column of the key more than two names are given.
     ManyNames(Vec<u8>),
-    /// In the header on this line, a column of the key is to have this name, which another column has.
+    /// In the header on this line, a column is to have this name, which another column has.
     NamedTwice {
         line: u64,
         name: Vec<u8>,
@@ -243,6 +245,9 @@ impl fmt::Display for Reason {
             ),
             Reason::KeyNoRecord => f.write_str("not one record of CSV"),
             Reason::RepeatedName(name) => write!(f, "the column {} twice", ShownName(name)),
+            Reason::NeitherHas(name) => {
+                write!(f, "neither table has a column {}", ShownName(name))
+            }
             Reason::ManyNames(names) => write!(
                 f,
                 "more than two names of a column: {}",
@@ -250,7 +255,7 @@ impl fmt::Display for Reason {
             ),
             Reason::NamedTwice { line, name } => write!(
                 f,
-                "line {line}: a column of the key is to have the name {}, which another has",
+                "line {line}: a column is to have the name {}, which another has",
                 ShownName(name)
             ),
             Reason::JoinedTwice { name, option } => write!(

@@ -1,9 +1,9 @@
 //! The names of a table's columns, told apart where the header has one more than once.
-ghost use Rattle.std.specs.Prelude.{◌≡◌, ◌++◌, ◌∷◌, ◌^◌, ◌<◌, IfOk, IfSome, OnOk, [], false, nat_eq, unwrap_or};
+ghost use Rattle.std.specs.Prelude.{◌≡◌, ◌++◌, ◌∷◌, ◌^◌, ◌<◌, IfOk, IfSome, OnOk, [], false, map, nat_eq, unwrap_or};
 ghost use Rattle.std.specs.Cmp.Lexicographic.{pointwise};
 ghost use Rattle.std.specs.List.{list_any};
 ghost use Rattle.csv.specs.Records.{field_at, fields_of};
-ghost use Rattle.keyed_files.specs.Names.{names_in, place_in, repeats};
+ghost use Rattle.keyed_files.specs.Names.{names_in, place_in, renamed, repeats};
 
 use crate::columns::place_of;
 use crate::fate::Fate;
@@ -92,11 +92,13 @@ impl Header {
     ///
     /// Returns `NoColumn` if the header lacks a column that gets another name, `RepeatedColumn` if it has one more than once, `NamedTwice`
     /// if two columns would have one name, and `NoMemory` if a request for memory was refused.
-    pub fn rename(&mut self, alloc: Global, key: &KeyNames) -> Result<(), Reason> {
+    pub fn rename(&mut self, alloc: Global, key: &KeyNames) -> Result<(), Reason>
+        ensures { OnOk result (self.new.names ≡ map (renamed key.now.first key.now.others) self.old.names) }
+    {
         self.check_key(alloc, &renamed_of(alloc, key)?)?;
         let mut found = Names::new(alloc);
         for name in &self.names {
-            let name = key.other_of(name).unwrap_or(name);
+            let name = key.renamed(name);
             if !found.add(alloc, name)? {
                 return Err(Reason::NamedTwice {
                     line: self.line,

@@ -1,4 +1,6 @@
 //! The names of the columns that are the key, as they are given.
+ghost use Rattle.std.specs.Prelude.{◌≡◌, option_and_then, option_map, slice_get};
+ghost use Rattle.keyed_files.specs.Names.{place_in, renamed};
 
 use crate::columns::place_of;
 use crate::fault::Reason;
@@ -36,8 +38,21 @@ impl KeyNames {
     }
 
     /// The name in the other tables of the column that has this one in the first, if it is a column of the key.
-    pub fn other_of(&self, name: &[u8]) -> Option<&[u8]> {
+    pub fn other_of(&self, name: &[u8]) -> Option<&[u8]>
+        ensures { option_map (λ other. other.now) result
+            ≡ option_and_then (λ place. slice_get self.now.others place) (place_in self.now.first name.now) }
+    {
         self.others.get(place_of(&self.first, name)?)
+    }
+
+    /// The name in the other tables of the column that has this one in the first: the same, unless a column of the key has two names.
+    pub fn renamed<'a>(&'a self, name: &'a [u8]) -> &'a [u8]
+        ensures { result.now ≡ renamed self.now.first self.now.others name.now }
+    {
+        match self.other_of(name) {
+            Some(other) => other,
+            None => name,
+        }
     }
 }
 

@@ -33,14 +33,17 @@ mod source;
 mod written;
 
 pub use asked::{Asked, GitDiff, GitMerge};
-pub use column_changes::ColumnChanges;
-pub use columns::{Columns, JoinColumns, Place, columns_of, join_columns};
+pub use column_changes::{ColumnChanges, LoneColumns};
+pub use columns::{
+    Columns, JoinColumns, Place, columns_of, join_columns, names_among, picked_columns,
+};
 pub use encoding::Encoding;
 pub use fate::Fate;
 pub use fault::{Fault, Reason};
 pub use first_cell::quote_first;
 pub use joined_rows::{Sides, join_header};
 pub use key_record::{KeyNames, key_names};
+pub use keyed_numbers::{Decimal, is_same_cell};
 pub use lined_up::{
     Colour, Grid, Line, Shown, ShownCell, ShownName, heading, line_under, line_up, put_both,
     put_shown, put_version,
@@ -52,8 +55,9 @@ pub use opened::{Opened, Stream, Two, at};
 pub use overlays::{Layer, NamedFile, Overlay};
 pub use parts::Parts;
 pub use request::{
-    Colours, Command, Comment, Delimiter, Form, Format, JoinNames, Joining, Kind, Layout, Lengths,
-    Quotes, Reading, Request, Settings, SortedRequest, Wanted,
+    Colours, Command, Comment, Comparing, Delimiter, Form, Format, JoinNames, Joining, Kind,
+    Layout, Lengths, Look, Picked, Quotes, Reading, Request, RowsShown, Settings, SortedRequest,
+    View, Wanted,
 };
 pub use sign::{Sign, SignedRow};
 pub use source::{Content, Places, Source};

@@ -1,6 +1,7 @@
 //! Text as a person reads it in a terminal: a cell on one line, and cells lined up in columns.
 
 use crate::columns::Columns;
+use keyed_numbers::{Decimal, is_same_cell};
 use keyed_rows::{Cells, Group, Iter, Key};
 use std::alloc::{AllocError, Global};
 use std::fmt;
@@ -216,7 +217,8 @@ fn line_of_word(alloc: Global, word: &str) -> Result<Line, AllocError> {
     })
 }
 
-/// Puts the cells of both versions of a row behind those of a line, each pair as one cell.
+/// Puts the cells of both versions of a row behind those of a line, each pair as one cell. Where numbers are compared by value, two that are
+/// as near as may be count as the same, and the new one is put.
 ///
 /// # Errors
 ///
@@ -224,22 +226,24 @@ fn line_of_word(alloc: Global, word: &str) -> Result<Line, AllocError> {
 pub fn put_both(
     alloc: Global,
     line: &mut Line,
+    tolerance: Option<Decimal<'_>>,
     old: &Cells,
     new: &Cells,
 ) -> Result<(), AllocError> {
     for (cell, next) in old.iter().zip(new.iter()) {
-        line.cells.push(both_cells(alloc, cell, next)?)?;
+        let shown = if is_same_cell(tolerance, cell, next) {
+            show_cell(alloc, next)?
+        } else {
+            both_cells(alloc, cell, next)?
+        };
+        line.cells.push(shown)?;
     }
     Ok(())
 }
 
-// A cell of both versions: once where they agree, and else both, of which an empty one is `""`.
+// Two cells that differ, of which an empty one is `""`.
 fn both_cells(alloc: Global, old: &[u8], new: &[u8]) -> Result<String, AllocError> {
-    if old == new {
-        show_cell(alloc, old)
-    } else {
-        format!(in alloc; "{} -> {}", ShownName(old), ShownName(new))
-    }
+    format!(in alloc; "{} -> {}", ShownName(old), ShownName(new))
 }
 
 /// Puts a version of the rows under a key, a line each.

@@ -1,5 +1,7 @@
 //! How two versions of a table are merged, and what is written where rows are in conflict.
 
+use keyed_numbers::Decimal;
+
 /// What is merged as one: where both sides changed it, and not alike, it is in conflict.
 #[derive(Clone, Copy, Debug)]
 pub enum Unit {
@@ -20,21 +22,25 @@ pub enum Conflicts {
 
 /// How two versions of a table are merged over their base.
 #[derive(Clone, Copy, Debug)]
-pub struct Merging {
+pub struct Merging<'a> {
     pub unit: Unit,
     pub conflicts: Conflicts,
+    /// How far apart numbers may be that count as the same, where cells that are numbers are compared by value.
+    pub tolerance: Option<Decimal<'a>>,
 }
 
-impl Merging {
+impl Merging<'static> {
     /// Row by row, with a report of conflicts.
-    pub const PLAIN: Merging = Merging {
+    pub const PLAIN: Merging<'static> = Merging {
         unit: Unit::Row,
         conflicts: Conflicts::Report,
+        tolerance: None,
     };
 
     /// Cell by cell, with marks, as git has texts merged.
-    pub const AS_GIT: Merging = Merging {
+    pub const AS_GIT: Merging<'static> = Merging {
         unit: Unit::Cell,
         conflicts: Conflicts::Marks,
+        tolerance: None,
     };
 }

@@ -1,5 +1,5 @@
 //! Names of columns, each found in one step however many there are.
-ghost use Rattle.std.specs.Prelude.{◌≡◌, ◌^◌, ◌<◌, [], IfOk, IfSome, OnOk, nat_eq, not};
+ghost use Rattle.std.specs.Prelude.{◌≡◌, ◌++◌, ◌∷◌, ◌^◌, ◌<◌, [], IfOk, IfSome, OnOk, nat_eq, not, true};
 ghost use Rattle.std.specs.Cmp.Lexicographic.{pointwise};
 ghost use Rattle.std.specs.List.{list_any};
 ghost use Rattle.indexmap.specs.IndexSet.{insert_all, insert_key};
@@ -50,6 +50,8 @@ impl Names {
             (names_in self.new ≡ insert_key (pointwise nat_eq) (names_in self.old) name.now) }
         ensures is_new { IfOk result
             (λ is_new. is_new ≡ not (list_any (pointwise nat_eq name.now) (names_in self.old))) }
+        ensures behind { IfOk result
+            (λ is_new. is_new ≡ true → names_in self.new ≡ names_in self.old ++ name.now ∷ []) }
     {
         let is_new = self.names.insert(Vec::from_slice(alloc, name)?)?;
         Ok(is_new)

@@ -1,11 +1,15 @@
 //! Files whose headers are read, and what is wrong with them.
+ghost use Rattle.std.specs.Prelude.{◌≡◌, IfOk, Ok, OnOk};
+ghost use Rattle.keyed_files.specs.Names.{compared};
+ghost use Rattle.keyed_files.specs.Opening.{IsNamedAnew, IsOpened, IsRenamed};
+ghost use Rattle.keyed_files.specs.declared.source.Content.TheVariants.{Rows};
 
 use crate::column_changes::ColumnChanges;
 use crate::columns::{Columns, JoinColumns, columns_of, join_columns};
 use crate::fault::{Fault, Reason};
 use crate::key_record::key_names;
 use crate::new_columns::{changed_columns, marked_names};
-use crate::request::{Delimiter, Form};
+use crate::request::{Delimiter, Form, Settings};
 use crate::source::{Content, Source};
 use keyed_rows::Cells;
 use std::alloc::Global;
@@ -35,6 +39,7 @@ pub struct Opened<'a, R> {
 pub fn at<'a, T: Drop, E: Drop>(file: &'a str, outcome: Result<T, E>) -> Result<T, Fault<'a>>
 where
     Reason: From<E>,
+    ensures { IfOk result (λ value. outcome ≡ Ok value) }
 {
     match outcome {
         Ok(value) => Ok(value),
@@ -47,17 +52,34 @@ where
 
 impl<'a, R> Opened<'a, R> {
     /// The names of the columns.
-    pub fn header(&self) -> &Cells {
+    pub fn header(&self) -> &Cells
+        ensures { result.now ≡ self.now.source.value.header.names }
+    {
         self.source.names()
     }
 
-    /// Gives the columns of a first table that are the key the names which they have in the other tables.
+    /// Gives the columns of a first table the names which they have in the other tables: those of the key, and then those that are renamed.
+    ///
+    /// # Errors
+    ///
+    /// Returns as a fault of the file the errors of `rename_key`.
+    pub fn rename(&mut self, alloc: Global, settings: Settings<'_>) -> Result<(), Fault<'a>>
+        ensures { OnOk result (IsNamedAnew settings.entry self.old.source.value self.new.source.value) }
+    {
+        self.rename_key(alloc, settings.key)?;
+        self.rename_key(alloc, settings.renames)?;
+        Ok(())
+    }
+
+    /// Gives the columns of a first table that are named, as those of a key are, the names which they have in the other tables.
     ///
     /// # Errors
     ///
     /// Returns as a fault of the file the errors of `key_names`; `NoColumn` if the header lacks a column that gets another name,
     /// `RepeatedColumn` if it has one more than once, and `NamedTwice` if another column has the name.
-    pub fn rename_key(&mut self, alloc: Global, key: Option<&str>) -> Result<(), Fault<'a>> {
+    pub fn rename_key(&mut self, alloc: Global, key: Option<&str>) -> Result<(), Fault<'a>>
+        ensures { OnOk result (IsRenamed key.entry self.old.source.value self.new.source.value) }
+    {
         match key {
             Some(text) => {
                 let names = at(self.file, key_names(alloc, text))?;
@@ -79,7 +101,9 @@ impl<'a, R: Read + Drop> Opened<'a, R> {
         form: Form,
         content: Content,
         stream: Stream<'a, R>,
-    ) -> Result<Self, Fault<'a>> {
+    ) -> Result<Self, Fault<'a>>
+        ensures { IfOk result (IsOpened R.remaining form content stream.entry) }
+    {
         let file = stream.file;
         let form = Form {
             delimiter: stream.delimiter.unwrap_or(form.delimiter),
@@ -153,7 +177,10 @@ impl<'a, R> Two<'a, R> {
     }
 
     /// What became of the columns from the first to the next one.
-    pub fn column_changes(&self) -> ColumnChanges<'_> {
+    pub fn column_changes(&self) -> ColumnChanges<'_>
+        ensures { (result.before.now, result.after.now)
+            ≡ compared self.now.first.source.value.header.names self.now.next.source.value.header.names }
+    {
         ColumnChanges::new(self.first.header(), self.next.header())
     }
 }
@@ -170,7 +197,10 @@ impl<'a, R: Read + Drop> Two<'a, R> {
         content: Content,
         first: Stream<'a, R>,
         next: Stream<'a, R>,
-    ) -> Result<Self, Fault<'a>> {
+    ) -> Result<Self, Fault<'a>>
+        ensures first { IfOk result (λ two. IsOpened R.remaining form Rows first.entry two.first) }
+        ensures next { IfOk result (λ two. IsOpened R.remaining form content next.entry two.next) }
+    {
         let first = Opened::new(alloc, form, Content::Rows, first)?;
         let next = Opened::new(alloc, form, content, next)?;
         Ok(Two { first, next })

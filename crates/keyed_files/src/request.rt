@@ -7,6 +7,7 @@ use crate::fault::{Fault, Reason};
 use crate::lookups::Lookup;
 use crate::merging::Merging;
 use crate::overlays::Overlay;
+use keyed_numbers::Decimal;
 
 /// A byte that may stand between cells: an ASCII character that neither ends rows nor quotes cells.
 #[derive(Clone, Copy, Debug)]
@@ -134,13 +135,16 @@ pub struct Layout<'a> {
 }
 
 /// What a command may set that reads whole tables: their layout, whether rows come out in the order of the files and not in that of their
-/// keys, and whether rows with the same key are a group.
+/// keys, whether rows with the same key are a group, and how rows are told for which there is no table, as rows in conflict. The names of
+/// columns of the first table that are other ones in the others are given as those of a key are.
 #[derive(Clone, Copy, Debug)]
 pub struct Settings<'a> {
     pub form: Form,
     pub key: Option<&'a str>,
+    pub renames: Option<&'a str>,
     pub keeps_order: bool,
     pub groups: bool,
+    pub look: Look,
 }
 
 impl<'a> Settings<'a> {
@@ -208,13 +212,86 @@ pub enum Colours {
     Off,
 }
 
+/// How rows are told to a person or to a program.
+#[derive(Clone, Copy, Debug)]
+pub enum Look {
+    /// As a table on a terminal, each row in the colour of its change where there are colours.
+    Table { colours: Colours },
+    /// As JSON, a line a row.
+    Json,
+    /// As a table of Markdown.
+    Markdown,
+    /// As a page of HTML that needs nothing from elsewhere.
+    Html,
+}
+
+impl Look {
+    /// A table on a terminal with no colour.
+    pub const PLAIN: Look = Look::Table {
+        colours: Colours::Off,
+    };
+}
+
 /// How `diff` writes what changed.
 #[derive(Clone, Copy, Debug)]
 pub enum Format {
     /// As CSV that `Request::Apply` takes.
     Csv,
-    /// As a table that a person reads, each row in the colour of its change where there are colours.
-    Table { colours: Colours },
+    /// As a report.
+    Report(Look),
+}
+
+/// Which columns are compared and shown, beside those of the key, by names that are given as one record of CSV.
+#[derive(Clone, Copy, Debug)]
+pub enum Picked<'a> {
+    All,
+    Only(&'a str),
+    AllBut(&'a str),
+}
+
+/// Which of the rows that changed a report shows.
+#[derive(Clone, Copy, Debug)]
+pub enum RowsShown {
+    All,
+    /// So many at most, the first ones.
+    First(usize),
+    Nothing,
+}
+
+/// What of the changes a report shows. Its counts are of all rows.
+#[derive(Clone, Copy, Debug)]
+pub struct View<'a> {
+    pub columns: Picked<'a>,
+    pub rows: RowsShown,
+}
+
+impl View<'static> {
+    /// All columns, and all rows.
+    pub const WHOLE: View<'static> = View {
+        columns: Picked::All,
+        rows: RowsShown::All,
+    };
+}
+
+/// How two tables are compared: how what changed is written, and what of it. Changes as CSV are whole, whatever a report would show.
+#[derive(Clone, Copy, Debug)]
+pub struct Comparing<'a> {
+    pub format: Format,
+    pub view: View<'a>,
+    /// How far apart numbers may be that count as the same, where cells that are numbers are compared by value. Changes as CSV are of cells
+    /// as they stand.
+    pub tolerance: Option<Decimal<'a>>,
+}
+
+impl Comparing<'static> {
+    /// All that changed, in this form.
+    pub fn whole(format: Format) -> Self {
+        Comparing {
+            format,
+            view: View::WHOLE,
+            tolerance: None,
+        }
+    }
 }
 
 /// What is asked for of whole tables, in files by name, of which `-` is the standard input.
@@ -224,7 +301,7 @@ pub enum Request<'a> {
     Diff {
         old: &'a str,
         new: &'a str,
-        format: Format,
+        how: Comparing<'a>,
     },
     /// A table with changes made to it.
     Apply {
@@ -236,7 +313,7 @@ pub enum Request<'a> {
         base: &'a str,
         ours: &'a str,
         theirs: &'a str,
-        how: Merging,
+        how: Merging<'a>,
     },
     /// Two tables joined by key.
     Join {

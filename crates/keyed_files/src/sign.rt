@@ -1,5 +1,5 @@
 //! The sign of a row in a table of changes.
-ghost use Rattle.std.specs.Prelude.{◌≡◌};
+ghost use Rattle.std.specs.Prelude.{◌≡◌, IfSome};
 ghost use Rattle.keyed_files.specs.Rows.{shown_sign};
 
 use keyed_rows::ReadRow;
@@ -25,7 +25,9 @@ impl Sign {
     }
 
     /// The sign that a cell is, if it is one.
-    pub fn of_cell(cell: &[u8]) -> Option<Self> {
+    pub fn of_cell(cell: &[u8]) -> Option<Self>
+        ensures { IfSome result (λ sign. cell.now ≡ shown_sign sign) }
+    {
         match cell {
             b"-" => Some(Sign::Minus),
             b"+" => Some(Sign::Plus),

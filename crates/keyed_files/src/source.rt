@@ -1,12 +1,14 @@
 //! A file read row by row: the header first, and then the rows under the columns that are asked for.
-ghost use Rattle.std.specs.Prelude.{◌≡◌, ◌≤◌, [], IfOk, IfSome, OnOk, is_some, map};
+ghost use Rattle.std.specs.Prelude.{◌≡◌, ◌≤◌, [], IfOk, IfSome, OnOk, Some, is_some, map};
 ghost use Rattle.std.specs.Io.KnownBytes.{Keeps};
-ghost use Rattle.csv.specs.Records.{fields_of};
+ghost use Rattle.csv.specs.Records.{field_at, fields_of};
 ghost use Rattle.keyed_text.specs.Streams.{GivesRow, HasRead};
 ghost use Rattle.keyed_files.specs.Headers.{ArePlaces, HeaderOf, cells_before, place_under};
 ghost use Rattle.keyed_files.specs.Lines.{checked_left, lines_left};
+ghost use Rattle.keyed_files.specs.Names.{renamed};
 ghost use Rattle.keyed_files.specs.Picked.{cell_at};
-ghost use Rattle.keyed_files.specs.Reading.{GivesRecord, IsOpen, IsPicked, PlacesOf, last_record, next_of, text_read};
+ghost use Rattle.keyed_files.specs.Reading.{GivesRecord, IsOpen, IsPicked, IsSigned, PlacesOf, last_record, next_of, text_read};
+ghost use Rattle.keyed_files.specs.Rows.{shown_sign};
 ghost use Rattle.keyed_files.specs.Writing.{comment_of, delimiter_of};
 ghost use Rattle.keyed_files.specs.declared.source.Next.TheVariants.{Read};
 
@@ -81,7 +83,9 @@ impl<R> Source<R> {
     ///
     /// Returns the errors of `Header::rename`.
     pub(crate) fn rename(&mut self, key: &KeyNames) -> Result<(), Reason>
-        ensures { self.new ≡ record self.old { header = self.new.header } }
+        ensures same { self.new ≡ record self.old { header = self.new.header } }
+        ensures names { OnOk result
+            (self.new.header.names ≡ map (renamed key.now.first key.now.others) self.old.header.names) }
     {
         self.header.rename(self.alloc, key)
     }
@@ -97,7 +101,7 @@ impl<R: Read + Drop> Source<R> {
     /// reader fails, and `NoMemory` if a request for memory was refused. The first two are let pass where quotes are.
     pub fn open(alloc: Global, reader: R, form: Form, content: Content) -> Result<Box<Self>, Reason>
         ensures { IfOk result (λ source. IfSome (text_read form (R.remaining reader))
-            (λ text. IsOpen form content R.remaining text source.value)) }
+            (λ text. IsOpen form content R.remaining text source.value.header.names source.value)) }
     {
         let mut reader = begin_rows(alloc, reader, form)?;
         let mut record = ByteRecord::new(alloc);
@@ -139,6 +143,7 @@ impl<R: Read + Drop> Source<R> {
     /// reader fails, and `NoMemory` if a request for memory was refused.
     pub fn read_row(&mut self, places: &Places) -> Result<Option<ReadRow>, Reason>
         ensures gives { IfOk result (λ row. GivesRecord R.remaining self.old self.new (is_some row)) }
+        ensures header { self.new.header ≡ self.old.header }
         ensures picked { IfOk result (λ row. IfSome row (IsPicked places.now (last_record self.new))) }
     {
         if self.read_record()? {
@@ -155,14 +160,24 @@ impl<R: Read + Drop> Source<R> {
     /// # Errors
     ///
     /// Returns the errors of `read_row`, and `NoSign` if the first cell is no sign.
-    pub fn read_signed(&mut self, places: &Places) -> Result<Option<SignedRow>, Reason> {
-        if !self.read_record()? {
-            return Ok(None);
+    pub fn read_signed(&mut self, places: &Places) -> Result<Option<SignedRow>, Reason>
+        ensures gives { IfOk result (λ row. GivesRecord R.remaining self.old self.new (is_some row)) }
+        ensures header { self.new.header ≡ self.old.header }
+        ensures picked { IfOk result (λ row. IfSome row (IsSigned places.now (last_record self.new))) }
+    {
+        if self.read_record()? {
+            let line = self.row_line();
+            let sign = sign_of(line, &self.last)?;
+            let row = places.pick_row(&mut self.picked, line, &self.last)?;
+            Ok(Some(SignedRow { sign, row }))
+        } else {
+            Ok(None)
         }
-        let line = self.row_line();
-        let sign = sign_of(line, &self.last)?;
-        let row = places.pick_row(&mut self.picked, line, &self.last)?;
-        Ok(Some(SignedRow { sign, row }))
+    }
+
+    /// The reader of the file, which may have given more than the rows that were read.
+    pub fn get_ref(&self) -> &R {
+        self.reader.get_ref().lines().get_ref()
     }
 
     // The line on which the row that was read last begins.
@@ -172,7 +187,8 @@ impl<R: Read + Drop> Source<R> {
 
     // Takes the next record, or says that there is none.
     fn read_record(&mut self) -> Result<bool, Reason>
-        ensures { IfOk result (GivesRecord R.remaining self.old self.new) }
+        ensures gives { IfOk result (GivesRecord R.remaining self.old self.new) }
+        ensures header { self.new.header ≡ self.old.header }
     {
         match self.next {
             Next::Kept => {
@@ -186,7 +202,8 @@ impl<R: Read + Drop> Source<R> {
 
     // Reads the next record, or says that there is none.
     fn read_next(&mut self) -> Result<bool, Reason>
-        ensures { IfOk result (λ found. self.old.next ≡ Read → GivesRecord R.remaining self.old self.new found) }
+        ensures gives { IfOk result (λ found. self.old.next ≡ Read → GivesRecord R.remaining self.old self.new found) }
+        ensures header { self.new.header ≡ self.old.header }
     {
         self.reader.get_ref().lines().begin_row();
         let found = read_record(&mut self.reader, &mut self.last)?;
@@ -321,9 +338,14 @@ fn read_record<R: Read>(
 }
 
 // The sign that the first cell of a record on this line is.
-fn sign_of(line: u64, row: &ByteRecord) -> Result<Sign, Reason> {
-    match row.get(0).and_then(Sign::of_cell) {
-        Some(sign) => Ok(sign),
+fn sign_of(line: u64, row: &ByteRecord) -> Result<Sign, Reason>
+    ensures { IfOk result (λ sign. field_at (fields_of row.now) 0 ≡ Some (shown_sign sign)) }
+{
+    match row.get(0) {
+        Some(cell) => match Sign::of_cell(cell) {
+            Some(sign) => Ok(sign),
+            None => Err(Reason::NoSign(line)),
+        },
         None => Err(Reason::NoSign(line)),
     }
 }

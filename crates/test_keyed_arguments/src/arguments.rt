@@ -3,8 +3,8 @@
 use keyed_arguments::{Line, ParseError, parse};
 use keyed_files::Colours::{Off, On};
 use keyed_files::{
-    Asked as Parsed, Colours, Command, Finding, Form, JoinNames, Layout, Lookup, Overlay, Settings,
-    Wanted,
+    Asked as Parsed, Colours, Command, Finding, Form, JoinNames, Layout, Look, Lookup, Overlay,
+    Request, Settings, View, Wanted,
 };
 use std::alloc::{AllocError, Global};
 use std::fmt::Write;
@@ -70,11 +70,13 @@ fn show_command(alloc: Global, command: Command<'_>) -> Result<String, AllocErro
             request,
             wanted,
         } => {
+            let look = show_look(alloc, settings.look, request)?;
+            let renames = show_renames(alloc, settings)?;
             let settings = show_settings(alloc, settings)?;
             let text = format!(in alloc; "{request:?}")?;
             let request = without_names(alloc, &text)?;
             let only = show_wanted(wanted);
-            format!(in alloc; "{settings} {request}{only}")
+            format!(in alloc; "{settings} {request}{look}{renames}{only}")
         }
         Command::Sorted {
             layout,
@@ -118,6 +120,22 @@ fn show_overlay(
     Ok(text)
 }
 
+// What stands behind a request of tables of which the first has columns with other names.
+fn show_renames(alloc: Global, settings: Settings<'_>) -> Result<String, AllocError> {
+    match settings.renames {
+        Some(names) => format!(in alloc; " renaming {names}"),
+        None => Ok(String::new(alloc)),
+    }
+}
+
+// What stands behind a request whose report is to have another form than the plain one. That of changes stands in the request.
+fn show_look(alloc: Global, look: Look, request: Request<'_>) -> Result<String, AllocError> {
+    match (look, request) {
+        (Look::Table { colours: Off }, _) | (_, Request::Diff { .. }) => Ok(String::new(alloc)),
+        _ => format!(in alloc; " as {look:?}"),
+    }
+}
+
 // What stands behind a request of which the status alone is wanted.
 fn show_wanted(wanted: Wanted) -> &'static str {
     match wanted {
@@ -140,8 +158,15 @@ fn show_error(alloc: Global, error: &ParseError) -> Result<String, AllocError> {
     }
 }
 
-// A request with the kind of its join in place of all that says how tables are joined, where its names are plain.
+// A request with the kind of its join in place of all that says how tables are joined, where its names are plain, and with the form of its
+// changes in place of all that says how tables are compared, where all is shown.
 fn without_names(alloc: Global, request: &str) -> Result<String, AllocError> {
+    let whole = format!(in alloc; ", view: {:?}, tolerance: None }}", View::WHOLE)?;
+    if let Some((before, behind)) = request.split_once(whole.as_str()) {
+        if let Some((start, form)) = before.split_once("how: Comparing { ") {
+            return format!(in alloc; "{start}{form}{behind}");
+        }
+    }
     let plain = format!(in alloc; ", names: {:?} }}", JoinNames::PLAIN)?;
     match request.split_once(plain.as_str()) {
         Some((before, behind)) => match before.split_once("how: Joining { kind: ") {
@@ -175,24 +200,31 @@ fn expect<R: AllocGlobal>(rt: &R, lines: &[Asked]) -> Result<(), Fail> {
 }
 
 #[rattlefmt::skip]
-static REQUESTS: [Asked; 20] = [
-    ("diff a b",                On,  r#"',' None [1, 0, 0, 0] Diff { old: "a", new: "b", format: Table { colours: On } }"#),
-    ("diff a b --color auto",   Off, r#"',' None [1, 0, 0, 0] Diff { old: "a", new: "b", format: Table { colours: Off } }"#),
-    ("diff a b --color never",  On,  r#"',' None [1, 0, 0, 0] Diff { old: "a", new: "b", format: Table { colours: Off } }"#),
-    ("diff --color always a b", Off, r#"',' None [1, 0, 0, 0] Diff { old: "a", new: "b", format: Table { colours: On } }"#),
-    ("diff a - --format table", Off, r#"',' None [1, 0, 0, 0] Diff { old: "a", new: "-", format: Table { colours: Off } }"#),
+static REQUESTS: [Asked; 27] = [
+    ("diff a b",                On,  r#"',' None [1, 0, 0, 0] Diff { old: "a", new: "b", format: Report(Table { colours: On }) }"#),
+    ("diff a b --color auto",   Off, r#"',' None [1, 0, 0, 0] Diff { old: "a", new: "b", format: Report(Table { colours: Off }) }"#),
+    ("diff a b --color never",  On,  r#"',' None [1, 0, 0, 0] Diff { old: "a", new: "b", format: Report(Table { colours: Off }) }"#),
+    ("diff --color always a b", Off, r#"',' None [1, 0, 0, 0] Diff { old: "a", new: "b", format: Report(Table { colours: On }) }"#),
+    ("diff a - --format table", Off, r#"',' None [1, 0, 0, 0] Diff { old: "a", new: "-", format: Report(Table { colours: Off }) }"#),
+    ("diff a b --format html",  On,  r#"',' None [1, 0, 0, 0] Diff { old: "a", new: "b", format: Report(Html) }"#),
+    ("diff a b --format=markdown", On, r#"',' None [1, 0, 0, 0] Diff { old: "a", new: "b", format: Report(Markdown) }"#),
+    ("diff a b --format json",  On,  r#"',' None [1, 0, 0, 0] Diff { old: "a", new: "b", format: Report(Json) }"#),
     ("diff - b --format csv",   On,  r#"',' None [1, 0, 0, 0] Diff { old: "-", new: "b", format: Csv }"#),
     ("apply a b",               On,  r#"',' None [1, 0, 0, 0] Apply { old: "a", changes: "b" }"#),
-    ("merge a b c",             On,  r#"',' None [1, 0, 0, 0] Merge { base: "a", ours: "b", theirs: "c", how: Merging { unit: Row, conflicts: Report } }"#),
-    ("merge a b c --by-cell",   On,  r#"',' None [1, 0, 0, 0] Merge { base: "a", ours: "b", theirs: "c", how: Merging { unit: Cell, conflicts: Report } }"#),
+    ("merge a b c",             On,  r#"',' None [1, 0, 0, 0] Merge { base: "a", ours: "b", theirs: "c", how: Merging { unit: Row, conflicts: Report, tolerance: None } }"#),
+    ("merge a b c --by-cell",   On,  r#"',' None [1, 0, 0, 0] Merge { base: "a", ours: "b", theirs: "c", how: Merging { unit: Cell, conflicts: Report, tolerance: None } }"#),
     ("join a b",                On,  r#"',' None [1, 0, 0, 0] Join { left: "a", right: "b", Outer }"#),
     ("join a b --kind inner",   On,  r#"',' None [1, 0, 0, 0] Join { left: "a", right: "b", Inner }"#),
     ("join a b --kind left",    On,  r#"',' None [1, 0, 0, 0] Join { left: "a", right: "b", Left }"#),
     ("join a b --kind right",   On,  r#"',' None [1, 0, 0, 0] Join { left: "a", right: "b", Right }"#),
     ("join a b --kind semi",    On,  r#"',' None [1, 0, 0, 0] Join { left: "a", right: "b", Semi }"#),
     ("join --kind=anti a b",    On,  r#"',' None [1, 0, 0, 0] Join { left: "a", right: "b", Anti }"#),
-    ("merge a b c --conflicts marks", On, r#"',' None [1, 0, 0, 0] Merge { base: "a", ours: "b", theirs: "c", how: Merging { unit: Row, conflicts: Marks } }"#),
-    ("diff a b -o c",           On,  r#"',' None [1, 0, 0, 0] Diff { old: "a", new: "b", format: Table { colours: On } } into "c""#),
+    ("merge a b c --conflicts marks", On, r#"',' None [1, 0, 0, 0] Merge { base: "a", ours: "b", theirs: "c", how: Merging { unit: Row, conflicts: Marks, tolerance: None } }"#),
+    ("diff a b -o c",           On,  r#"',' None [1, 0, 0, 0] Diff { old: "a", new: "b", format: Report(Table { colours: On }) } into "c""#),
+    ("apply a b --format json", On,  r#"',' None [1, 0, 0, 0] Apply { old: "a", changes: "b" } as Json"#),
+    ("apply a b --format=html -q", On, r#"',' None [1, 0, 0, 0] Apply { old: "a", changes: "b" } as Html, status"#),
+    ("merge a b c --format markdown", On, r#"',' None [1, 0, 0, 0] Merge { base: "a", ours: "b", theirs: "c", how: Merging { unit: Row, conflicts: Report, tolerance: None } } as Markdown"#),
+    ("merge a b c --format table", On, r#"',' None [1, 0, 0, 0] Merge { base: "a", ours: "b", theirs: "c", how: Merging { unit: Row, conflicts: Report, tolerance: None } }"#),
     ("apply a b --output=a",    On,  r#"',' None [1, 0, 0, 0] Apply { old: "a", changes: "b" } into "a""#),
     ("apply a b --output -",    On,  r#"',' None [1, 0, 0, 0] Apply { old: "a", changes: "b" }"#),
     ("join a b --sorted -oc",   On,  r#"',' None [1, 0, 0, 1] Join { left: "a", right: "b", Outer } into "c""#),
@@ -209,8 +241,8 @@ static SETTINGS: [Asked; 11] = [
     ("diff a b --format csv --key id",  On,  r#"',' Some("id") [1, 0, 0, 0] Diff { old: "a", new: "b", format: Csv }"#),
     ("apply a b --key id,day",          On,  r#"',' Some("id,day") [1, 0, 0, 0] Apply { old: "a", changes: "b" }"#),
     ("apply a b --delimiter ;",         On,  r#"';' None [1, 0, 0, 0] Apply { old: "a", changes: "b" }"#),
-    ("merge a b c --no-header",         On,  r#"',' None [0, 0, 0, 0] Merge { base: "a", ours: "b", theirs: "c", how: Merging { unit: Row, conflicts: Report } }"#),
-    ("merge a b c --keep-order",        On,  r#"',' None [1, 1, 0, 0] Merge { base: "a", ours: "b", theirs: "c", how: Merging { unit: Row, conflicts: Report } }"#),
+    ("merge a b c --no-header",         On,  r#"',' None [0, 0, 0, 0] Merge { base: "a", ours: "b", theirs: "c", how: Merging { unit: Row, conflicts: Report, tolerance: None } }"#),
+    ("merge a b c --keep-order",        On,  r#"',' None [1, 1, 0, 0] Merge { base: "a", ours: "b", theirs: "c", how: Merging { unit: Row, conflicts: Report, tolerance: None } }"#),
     ("join a b --group",                On,  r#"',' None [1, 0, 1, 0] Join { left: "a", right: "b", Outer }"#),
     ("join a b --sorted",               On,  r#"',' None [1, 0, 0, 1] Join { left: "a", right: "b", Outer }"#),
     ("diff a b --format csv --sorted",  On,  r#"',' None [1, 0, 0, 1] Diff { old: "a", new: "b" }"#),
@@ -228,9 +260,9 @@ fn option_sets_what_it_says(rt: HostRuntime) -> Result<(), Fail> {
 
 #[rattlefmt::skip]
 static LETTERS: [Asked; 15] = [
-    ("diff a b -k id -d ; -g -H",   On,  r#"';' Some("id") [0, 0, 1, 0] Diff { old: "a", new: "b", format: Table { colours: On } }"#),
+    ("diff a b -k id -d ; -g -H",   On,  r#"';' Some("id") [0, 0, 1, 0] Diff { old: "a", new: "b", format: Report(Table { colours: On }) }"#),
     ("apply -gHk 2 a b -d|",        On,  r#"'|' Some("2") [0, 0, 1, 0] Apply { old: "a", changes: "b" }"#),
-    ("merge a b -d tab c -k id,x",  On,  r#"'\t' Some("id,x") [1, 0, 0, 0] Merge { base: "a", ours: "b", theirs: "c", how: Merging { unit: Row, conflicts: Report } }"#),
+    ("merge a b -d tab c -k id,x",  On,  r#"'\t' Some("id,x") [1, 0, 0, 0] Merge { base: "a", ours: "b", theirs: "c", how: Merging { unit: Row, conflicts: Report, tolerance: None } }"#),
     ("join -kid a b -g",            On,  r#"',' Some("id") [1, 0, 1, 0] Join { left: "a", right: "b", Outer }"#),
     ("diff a b -q -o out",          On,  "wrong"),
     ("diff a b -q",                 On,  r#"',' None [1, 0, 0, 0] Diff { old: "a", new: "b", format: Csv }, status"#),
@@ -238,7 +270,7 @@ static LETTERS: [Asked; 15] = [
                                     On,  r#"',' None [1, 0, 0, 0] Diff { old: "a", new: "b", format: Csv }, status"#),
     ("diff a b -q --sorted",        On,  r#"',' None [1, 0, 0, 1] Diff { old: "a", new: "b" }, status"#),
     ("apply a b -q",                On,  r#"',' None [1, 0, 0, 0] Apply { old: "a", changes: "b" }, status"#),
-    ("merge a b c --quiet",         On,  r#"',' None [1, 0, 0, 0] Merge { base: "a", ours: "b", theirs: "c", how: Merging { unit: Row, conflicts: Report } }, status"#),
+    ("merge a b c --quiet",         On,  r#"',' None [1, 0, 0, 0] Merge { base: "a", ours: "b", theirs: "c", how: Merging { unit: Row, conflicts: Report, tolerance: None } }, status"#),
     ("join a b -q",                 On,  "wrong"),
     ("join a b -gs --sorted",       On,  "wrong"),
     ("join a b -g --sorted",        On,  "wrong"),
@@ -251,6 +283,71 @@ static LETTERS: [Asked; 15] = [
 #[test]
 fn letter_stands_for_its_option(rt: HostRuntime) -> Result<(), Fail> {
     expect(&rt, &LETTERS)
+}
+
+const NO_ONLY: &str =
+    "keyed: --only: not with --format csv or --sorted: a part of the changes is no patch that apply takes\n";
+
+#[rattlefmt::skip]
+static VIEWS: [Asked; 52] = [
+    ("diff a b --only x,y"             , Off, r#"',' None [1, 0, 0, 0] Diff { old: "a", new: "b", how: Comparing { format: Report(Table { colours: Off }), view: View { columns: Only("x,y"), rows: All }, tolerance: None } }"#),
+    ("diff a b --ignore x --limit 3"   , On, r#"',' None [1, 0, 0, 0] Diff { old: "a", new: "b", how: Comparing { format: Report(Table { colours: On }), view: View { columns: AllBut("x"), rows: First(3) }, tolerance: None } }"#),
+    ("diff a b --summary"              , On, r#"',' None [1, 0, 0, 0] Diff { old: "a", new: "b", how: Comparing { format: Report(Table { colours: On }), view: View { columns: All, rows: Nothing }, tolerance: None } }"#),
+    ("diff a b --limit 0 --color never", On, r#"',' None [1, 0, 0, 0] Diff { old: "a", new: "b", how: Comparing { format: Report(Table { colours: Off }), view: View { columns: All, rows: First(0) }, tolerance: None } }"#),
+    ("diff a b -q --only x"            , On, r#"',' None [1, 0, 0, 0] Diff { old: "a", new: "b", how: Comparing { format: Report(Table { colours: On }), view: View { columns: Only("x"), rows: All }, tolerance: None } }, status"#),
+    ("diff a b -q --summary"           , On, r#"',' None [1, 0, 0, 0] Diff { old: "a", new: "b", how: Comparing { format: Csv, view: View { columns: All, rows: Nothing }, tolerance: None } }, status"#),
+    ("diff a b --only x --ignore y"    , On, "wrong"),
+    ("diff a b --summary --limit 2"    , On, "wrong"),
+    ("diff a b --limit x"              , On, "keyed: --limit: not a number of rows\n"),
+    ("diff a b --limit=-1"             , On, "keyed: --limit: not a number of rows\n"),
+    ("diff a b --format csv --only x"  , On, NO_ONLY),
+    ("diff a b --format csv --ignore x", On, "keyed: --ignore: not with --format csv or --sorted: a part of the changes is no patch that apply takes\n"),
+    ("diff a b --format csv --summary" , On, "keyed: --summary: not with --format csv or --sorted: a part of the changes is no patch that apply takes\n"),
+    ("diff a b --format csv --limit 2" , On, "keyed: --limit: not with --format csv or --sorted: a part of the changes is no patch that apply takes\n"),
+    ("diff a b --sorted --only x -q"   , On, NO_ONLY),
+    ("diff a b --format json --limit 2", On, "keyed: --limit: not with --format json, of which each line is a row: head takes the first ones\n"),
+    ("diff a b --format json --sorted", On, SORTED_TABLE),
+    ("diff a b --no-heading --format json", On, "keyed: diff --no-heading needs --format csv\n"),
+    ("diff a b --no-heading --only x"  , On, "keyed: diff --no-heading needs --format csv\n"),
+    ("diff a b --only x,x"             , On, "keyed: --only: the column x twice\n"),
+    ("diff a b --ignore \"x"           , On, "keyed: --ignore: not one record of CSV\n"),
+    ("diff a b --only x=y"             , On, "keyed: --only: two names of a column: an = of a name is ==\n"),
+    ("apply a b --format csv"          , On, "wrong"),
+    ("merge a b c --format csv"        , On, "wrong"),
+    ("join a b --format json"          , On, "wrong"),
+    ("diff a b --rename x=y,u=v"       , On, r#"',' None [1, 0, 0, 0] Diff { old: "a", new: "b", format: Report(Table { colours: On }) } renaming x=y,u=v"#),
+    ("apply a b --rename x=y"          , On, r#"',' None [1, 0, 0, 0] Apply { old: "a", changes: "b" } renaming x=y"#),
+    ("merge a b c --rename x=y"        , On, r#"',' None [1, 0, 0, 0] Merge { base: "a", ours: "b", theirs: "c", how: Merging { unit: Row, conflicts: Report, tolerance: None } } renaming x=y"#),
+    ("diff a b --rename x"             , On, "keyed: --rename: a column has one name: give OLD=NEW\n"),
+    ("diff a b --rename x=y,u"         , On, "keyed: --rename: a column has one name: give OLD=NEW\n"),
+    ("diff a b --rename x=y,x=z"       , On, "keyed: --rename: the column x twice\n"),
+    ("diff a b --rename x=y,z=y"       , On, "keyed: --rename: the column y twice\n"),
+    ("diff a b --rename x=y=z"         , On, "keyed: --rename: more than two names of a column: x=y=z\n"),
+    ("diff a b --sorted --format csv --rename x=y", On, "keyed: --rename: not with --sorted: give tables the same names, or leave out --sorted\n"),
+    ("join a b --rename x=y"           , On, "wrong"),
+    ("lookup a b --rename x=y"         , On, "wrong"),
+    ("diff a b --numbers"              , On, r#"',' None [1, 0, 0, 0] Diff { old: "a", new: "b", how: Comparing { format: Report(Table { colours: On }), view: View { columns: All, rows: All }, tolerance: Some(Decimal { is_negative: false, whole: [48], fraction: [], exponent: 0 }) } }"#),
+    ("diff a b -q --numbers --tolerance .5", On, r#"',' None [1, 0, 0, 0] Diff { old: "a", new: "b", how: Comparing { format: Report(Table { colours: On }), view: View { columns: All, rows: All }, tolerance: Some(Decimal { is_negative: false, whole: [], fraction: [53], exponent: 0 }) } }, status"#),
+    ("merge a b c --numbers --tolerance 1e-3", On, r#"',' None [1, 0, 0, 0] Merge { base: "a", ours: "b", theirs: "c", how: Merging { unit: Row, conflicts: Report, tolerance: Some(Decimal { is_negative: false, whole: [49], fraction: [], exponent: -3 }) } }"#),
+    ("diff a b --numbers --format csv" , On, "keyed: --numbers: not with --format csv or --sorted: the changes that apply takes are of cells as they stand\n"),
+    ("diff a b --numbers --sorted -q"  , On, "keyed: --numbers: not with --format csv or --sorted: the changes that apply takes are of cells as they stand\n"),
+    ("diff a b --numbers -g"           , On, "wrong"),
+    ("merge a b c --numbers -g"        , On, "wrong"),
+    ("diff a b --tolerance 1"          , On, "keyed: --tolerance: needs --numbers\n"),
+    ("diff a b --numbers --tolerance=-1", On, "keyed: --tolerance: not a number of 0 or more\n"),
+    ("merge a b c --numbers --tolerance 1%", On, "keyed: --tolerance: not a number of 0 or more\n"),
+    ("apply a b --numbers"             , On, "wrong"),
+    ("join a b --tolerance 1"          , On, "wrong"),
+    ("apply a b --only x"              , On, "wrong"),
+    ("merge a b c --summary"           , On, "wrong"),
+    ("join a b --ignore x"             , On, "wrong"),
+    ("lookup a b --limit 2"            , On, "wrong"),
+];
+
+/// What of the changes is shown is what the options of `diff` say, and all of them where they are to be applied.
+#[test]
+fn option_says_what_is_shown(rt: HostRuntime) -> Result<(), Fail> {
+    expect(&rt, &VIEWS)
 }
 
 #[rattlefmt::skip]
@@ -351,7 +448,7 @@ static REFUSED: [Asked; 16] = [
     ("diff a b c",                     On,  "wrong"),
     ("merge a b",                      On,  "wrong"),
     ("diff a b --color red",           On,  "wrong"),
-    ("diff a b --format json",         On,  "wrong"),
+    ("diff a b --format xml",          On,  "wrong"),
     ("join a b --kind cross",          On,  "wrong"),
     ("join a b --format csv",          On,  "wrong"),
     ("apply a b --sorted",             On,  "wrong"),
@@ -476,10 +573,10 @@ fn option_says_how_files_are_read(rt: HostRuntime) -> Result<(), Fail> {
 
 #[rattlefmt::skip]
 static OF_GIT: [Asked; 8] = [
-    ("git-diff p a b c d e f",     On,  r#"',' None [1, 1, 0, 0] Table { colours: On } GitDiff { path: "p", renamed: None, old: "a", new: "d" }"#),
-    ("git-diff p.tsv a 0 1 d 0 1", Off, r#"'\t' None [1, 1, 0, 0] Table { colours: Off } GitDiff { path: "p.tsv", renamed: None, old: "a", new: "d" }"#),
+    ("git-diff p a b c d e f",     On,  r#"',' None [1, 1, 0, 0] Report(Table { colours: On }) GitDiff { path: "p", renamed: None, old: "a", new: "d" }"#),
+    ("git-diff p.tsv a 0 1 d 0 1", Off, r#"'\t' None [1, 1, 0, 0] Report(Table { colours: Off }) GitDiff { path: "p.tsv", renamed: None, old: "a", new: "d" }"#),
     ("git-diff --key id p a b c d e f q r", Off,
-        r#"',' Some("id") [1, 1, 0, 0] Table { colours: Off } GitDiff { path: "p", renamed: Some("q"), old: "a", new: "d" }"#),
+        r#"',' Some("id") [1, 1, 0, 0] Report(Table { colours: Off }) GitDiff { path: "p", renamed: Some("q"), old: "a", new: "d" }"#),
     ("git-diff p",                 On,  r#"GitUnmerged { path: "p" }"#),
     ("git-merge a b c",            On,  r#"',' None [1, 1, 0, 0] GitMerge { base: "a", ours: "b", theirs: "c" }"#),
     ("git-merge --group a b c p.tsv", On, r#"'\t' None [1, 1, 1, 0] GitMerge { base: "a", ours: "b", theirs: "c" }"#),

@@ -1,10 +1,11 @@
 //! Each command on tables that are texts, and on readers and writers. What the tests know of the calls of `keyed_commands` stands here.
 
 use keyed_commands::{
-    Answer, Colours, Command as AnyCommand, Delimiter, Fault, Finding, Form, Format, JoinNames,
-    Joining, Kind, Layer, LookupKind, LookupRequest, Merging, NamedFile, Outcome, OverlayRequest,
-    Reading, Reason, Request, Settings, SortedRequest, Stream, apply, at, diff, diff_sorted, join,
-    join_sorted, lookup, merge, overlay, stream_request, write_command, write_request, write_whole,
+    Answer, Colours, Command as AnyCommand, Comparing, Delimiter, Fault, Finding, Form, Format,
+    JoinNames, Joining, Kind, Layer, Look, LookupKind, LookupRequest, Merging, NamedFile, Outcome,
+    OverlayRequest, Reading, Reason, Request, Settings, SortedRequest, Stream, apply, at, diff,
+    diff_sorted, join, join_sorted, lookup, merge, overlay, stream_request, write_command,
+    write_request, write_whole,
 };
 use std::alloc::{AllocError, Global};
 use std::io::{Read, Write};
@@ -20,8 +21,10 @@ pub const COMMAS: Form = Form {
 pub const PLAIN: Settings<'static> = Settings {
     form: COMMAS,
     key: None,
+    renames: None,
     keeps_order: false,
     groups: false,
+    look: Look::PLAIN,
 };
 
 /// Tables with no header.
@@ -46,9 +49,9 @@ pub const ORDERED: Settings<'static> = Settings {
 };
 
 /// A table that a person reads, with no colour.
-pub const TEXT: Format = Format::Table {
+pub const TEXT: Format = Format::Report(Look::Table {
     colours: Colours::Off,
-};
+});
 
 /// All kinds of joins.
 pub const KINDS: [Kind; 6] = [
@@ -132,7 +135,7 @@ impl Command {
             Command::Diff | Command::SortedDiff => Request::Diff {
                 old: first,
                 new: next,
-                format: Format::Csv,
+                how: Comparing::whole(Format::Csv),
             },
             Command::Apply => Request::Apply {
                 old: first,
@@ -175,7 +178,10 @@ pub fn write_answer<'a, R: Read + Drop, W: Write>(
     let (first, next, last) = inputs;
     let (old, new) = (stream("old", first), stream("new", next));
     match command {
-        Command::Diff => write_whole_answer(diff(alloc, settings, Format::Csv, old, new), output),
+        Command::Diff => {
+            let how = Comparing::whole(Format::Csv);
+            write_whole_answer(diff(alloc, settings, how, old, new), output)
+        }
         Command::SortedDiff => diff_sorted(alloc, settings.layout(), old, new, output),
         Command::Apply => {
             let changes = named("changes", new);
@@ -333,8 +339,8 @@ pub fn write_report_of_files<'a, R: Files + Input + AllocGlobal, W: Write>(
     output: &mut W,
 ) -> Result<u8, Fault<'a>> {
     let [old, new, _] = files;
-    let format = TEXT;
-    write_request(rt, settings, Request::Diff { old, new, format }, output)
+    let how = Comparing::whole(TEXT);
+    write_request(rt, settings, Request::Diff { old, new, how }, output)
 }
 
 /// The answer of a command on tables that are texts.
@@ -365,7 +371,7 @@ pub fn compared<'a>(
     diff(
         alloc,
         settings,
-        format,
+        Comparing::whole(format),
         stream("old", old),
         stream("new", new),
     )
@@ -406,7 +412,7 @@ pub fn merged<'a>(
 pub fn merged_by<'a>(
     alloc: Global,
     settings: Settings<'a>,
-    how: Merging,
+    how: Merging<'_>,
     base: &[u8],
     ours: &[u8],
     theirs: &[u8],

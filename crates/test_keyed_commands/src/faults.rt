@@ -1,7 +1,7 @@
 //! Tests: files that are none, and versions of which one is bad.
 
 use crate::commands::{COMMANDS, HEADLESS, PLAIN, TEXT, merged, said, write_answer_of_files};
-use keyed_commands::{Request, answer_request};
+use keyed_commands::{Comparing, Request, answer_request};
 use std::test::Fail;
 
 const TABLE: &[u8] = b"id,a\n1,\"x\ny\"\n2,z\n";
@@ -18,7 +18,7 @@ fn files_that_are_none_are_named(rt: HostRuntime) -> Result<(), Fail> {
         let request = Request::Diff {
             old: file,
             new: file,
-            format: TEXT,
+            how: Comparing::whole(TEXT),
         };
         let line = said(alloc, answer_request(&rt, PLAIN, request))?;
         assert!(rt; line.starts_with(wanted));

@@ -1,7 +1,7 @@
 //! Tests: how tables are written: with no header, by other programs, and with rows in the order of the files.
 
 use crate::commands::{COMMAS, PLAIN, answered, applied, compared, expect, joined, merged};
-use keyed_commands::{Delimiter, Form, Format, Kind, Settings};
+use keyed_commands::{Delimiter, Form, Format, Kind, Look, Settings};
 use std::alloc::{AllocError, Global};
 use std::test::Fail;
 
@@ -12,15 +12,19 @@ const NUMBERED: Settings<'static> = Settings {
         ..COMMAS
     },
     key: Some("2"),
+    renames: None,
     keeps_order: false,
     groups: false,
+    look: Look::PLAIN,
 };
 
 const IN_ORDER: Settings<'static> = Settings {
     form: COMMAS,
     key: None,
+    renames: None,
     keeps_order: true,
     groups: false,
+    look: Look::PLAIN,
 };
 
 // Two tables, the changes between them, and the first with the changes made to it.
@@ -107,7 +111,7 @@ const WRITTEN_ELSEWHERE: [&[u8]; 5] = [
     b"id,a\n1,p\n2,q",
 ];
 
-/// However another program wrote a table, it is the same table, and each of its rows is written with one line feed behind it.
+/// However another program wrote a table, it is the same table, and each of its rows is joined with one line feed behind it.
 #[test]
 fn tables_of_other_programs_are_the_same(rt: HostRuntime) -> Result<(), Fail> {
     let alloc = rt.alloc();
@@ -115,7 +119,7 @@ fn tables_of_other_programs_are_the_same(rt: HostRuntime) -> Result<(), Fail> {
     let none = b"change,id,a\n";
     for table in WRITTEN_ELSEWHERE {
         expect(compared(alloc, PLAIN, Format::Csv, table, plain), 0, none)?;
-        expect(applied(alloc, PLAIN, table, none), 0, plain)?;
+        expect(joined(alloc, PLAIN, Kind::Semi, table, table), 0, plain)?;
     }
     Ok(())
 }
@@ -129,9 +133,12 @@ const CHANGES: &[u8] = b"change,id,a\n-,5,p\n+,5,q\n-,1,p\n-,3,p\n+,3,q\n+,4,p\n
 
 const MADE: &[u8] = b"id,a\n5,q\n3,q\n4,p\n2,p\n";
 
+const MERGED: &[u8] = b"id,a\n4,p\n5,q\n3,q\n2,p\n";
+
 const JOINED: &[u8] = b"id,left.a,right.a\n5,p,q\n3,p,q\n4,,p\n2,,p\n";
 
-/// In the order of the files each command gives the rows of the first in its order, and then those of the next.
+/// In the order of the files each command gives the rows of the first in its order, and then those of the next; a merge each of those behind
+/// the row that it follows there.
 #[test]
 fn rows_keep_the_order_of_the_files(rt: HostRuntime) -> Result<(), Fail> {
     let alloc = rt.alloc();
@@ -143,7 +150,7 @@ fn rows_keep_the_order_of_the_files(rt: HostRuntime) -> Result<(), Fail> {
     )?;
     expect(applied(alloc, IN_ORDER, FIRST, CHANGES), 0, MADE)?;
     expect(joined(alloc, IN_ORDER, Kind::Right, FIRST, NEXT), 0, JOINED)?;
-    expect(merged(alloc, IN_ORDER, base, FIRST, NEXT), 0, MADE)
+    expect(merged(alloc, IN_ORDER, base, FIRST, NEXT), 0, MERGED)
 }
 
 // Keys in the order of their bytes, and the other way about: some share their first eight bytes, and some end before them.

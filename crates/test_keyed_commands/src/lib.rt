@@ -39,4 +39,6 @@ mod sizes;
 #[cfg(test)]
 mod sorted;
 #[cfg(test)]
+mod styles;
+#[cfg(test)]
 mod whole;

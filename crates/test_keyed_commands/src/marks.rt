@@ -6,16 +6,17 @@ use std::alloc::Global;
 use std::fmt::Write;
 use std::test::Fail;
 
-const BY_ROW: Merging = Merging {
+const BY_ROW: Merging<'static> = Merging {
     unit: Unit::Row,
     conflicts: Conflicts::Marks,
+    tolerance: None,
 };
 
 // Fails unless the merge of these versions has this status and this text.
 fn expect_marked(
     alloc: Global,
     settings: Settings<'_>,
-    how: Merging,
+    how: Merging<'_>,
     versions: [&'static str; 3],
     status: u8,
     wanted: &str,
@@ -70,7 +71,8 @@ fn rows_in_conflict_stand_between_marks(rt: HostRuntime) -> Result<(), Fail> {
     expect_marked(rt.alloc(), PLAIN, BY_ROW, VERSIONS, 1, &by_row)
 }
 
-/// Rows with marks stand in the order of ours, and then in that of theirs, where rows keep the order of the files.
+/// Rows with marks stand in the order of ours, and each that theirs adds behind the row that it follows there, where rows keep the order of
+/// the files.
 #[test]
 fn marks_stand_in_the_order_of_the_files(rt: HostRuntime) -> Result<(), Fail> {
     let versions = [
@@ -79,6 +81,7 @@ fn marks_stand_in_the_order_of_the_files(rt: HostRuntime) -> Result<(), Fail> {
         "id,a\n3,n\n2,x\n1,w\n9,z\n",
     ];
     let wanted = "id,a
+3,n
 <<<<<<< ours
 9,y
 ||||||| base
@@ -88,7 +91,6 @@ fn marks_stand_in_the_order_of_the_files(rt: HostRuntime) -> Result<(), Fail> {
 >>>>>>> theirs
 1,w
 2,x
-3,n
 ";
     expect_marked(rt.alloc(), ORDERED, Merging::AS_GIT, versions, 1, wanted)
 }

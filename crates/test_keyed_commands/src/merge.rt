@@ -80,9 +80,10 @@ theirs  5   (no row)
     )
 }
 
-const BY_CELL: Merging = Merging {
+const BY_CELL: Merging<'static> = Merging {
     unit: Unit::Cell,
     conflicts: Conflicts::Report,
+    tolerance: None,
 };
 
 // The three versions of a row with three cells, and the merged one: each cell that one side alone changed is as that side has it, also
@@ -182,4 +183,66 @@ theirs  2   x  z
         1,
         wanted.as_bytes(),
     )
+}
+
+// The keys of a base, of ours and of theirs, and those of the merged table, where rows keep the order of the files.
+#[rattlefmt::skip]
+const PLACES: [[&str; 4]; 14] = [
+    ["",    "",      "",      ""],
+    ["123", "123",   "123",   "123"],
+    ["123", "123",   "1243",  "1243"],
+    ["123", "123",   "4123",  "4123"],
+    ["123", "123",   "1234",  "1234"],
+    ["123", "1234",  "1235",  "12354"],
+    ["123", "4123",  "5123",  "54123"],
+    ["123", "1423",  "15263", "154263"],
+    ["123", "321",   "12435", "35241"],
+    ["123", "13",    "1243",  "143"],
+    ["123", "123",   "1345",  "1345"],
+    ["123", "1243",  "1235",  "12435"],
+    ["",    "12",    "34",    "3412"],
+    ["12",  "",      "6152",  "65"],
+];
+
+// A table of one row for each character.
+fn table_of(alloc: Global, keys: &str) -> Result<String, AllocError> {
+    let mut text = String::from_str(alloc, "key\n")?;
+    for key in keys.chars() {
+        writeln!(text, "{key}")?;
+    }
+    Ok(text)
+}
+
+/// A row that theirs adds stands behind the row that it follows there, or first where it is the first there, and ours keep their order.
+#[test]
+fn new_rows_stand_behind_those_that_they_follow(rt: HostRuntime) -> Result<(), Fail> {
+    let alloc = rt.alloc();
+    for [base, ours, theirs, wanted] in PLACES {
+        let merge = merged(
+            alloc,
+            ORDERED,
+            table_of(alloc, base)?.as_bytes(),
+            table_of(alloc, ours)?.as_bytes(),
+            table_of(alloc, theirs)?.as_bytes(),
+        );
+        expect(merge, 0, table_of(alloc, wanted)?.as_bytes())?;
+    }
+    Ok(())
+}
+
+/// So do thousands of them, of which every other one is new.
+#[test]
+fn many_new_rows_stand_behind_those_that_they_follow(rt: HostRuntime) -> Result<(), Fail> {
+    let alloc = rt.alloc();
+    let mut ours = String::from_str(alloc, "key\n")?;
+    let mut theirs = String::from_str(alloc, "key\n")?;
+    for number in 0..3000usize {
+        let key = (number * 7) % 3000;
+        if number % 2 == 0 {
+            writeln!(ours, "{key}")?;
+        }
+        writeln!(theirs, "{key}")?;
+    }
+    let merge = merged(alloc, ORDERED, b"key\n", ours.as_bytes(), theirs.as_bytes());
+    expect(merge, 0, theirs.as_bytes())
 }

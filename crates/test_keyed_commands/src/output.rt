@@ -3,8 +3,8 @@
 use crate::commands::{ORDERED, PLAIN};
 use crate::disk::{Disk, Made};
 use keyed_commands::{
-    Command, Conflicts, Fault, Format, GitMerge, Joining, Kind, Merging, Request, SortedRequest,
-    Unit, Wanted, write_git_merge, write_into_file,
+    Command, Comparing, Conflicts, Fault, Format, GitMerge, Joining, Kind, Merging, Request,
+    SortedRequest, Unit, Wanted, write_git_merge, write_into_file,
 };
 use std::alloc::{AllocError, Global};
 use std::test::Fail;
@@ -66,7 +66,7 @@ fn diff(old: &'static str, new: &'static str) -> Command<'static> {
     whole(Request::Diff {
         old,
         new,
-        format: Format::Csv,
+        how: Comparing::whole(Format::Csv),
     })
 }
 
@@ -79,6 +79,7 @@ fn merge(theirs: &'static str, conflicts: Conflicts) -> Command<'static> {
         how: Merging {
             unit: Unit::Row,
             conflicts,
+            tolerance: None,
         },
     })
 }

@@ -1,7 +1,7 @@
 //! Tests: tables of hundreds of rows made by a rule, changes made again, and what is said of inputs that are bad.
 
 use crate::commands::{PLAIN, TEXT, answered, applied, compared, expect, joined, said};
-use keyed_commands::{Colours, Format, Kind};
+use keyed_commands::{Colours, Format, Kind, Look};
 use std::alloc::{AllocError, Global};
 use std::fmt::Write;
 use std::test::Fail;
@@ -127,7 +127,7 @@ const COLOURED: &[u8] = b"columns in another order
 fn rows_have_the_colour_of_their_change(rt: HostRuntime) -> Result<(), Fail> {
     let alloc = rt.alloc();
     for (colours, wanted) in [(Colours::Off, SHOWN), (Colours::On, COLOURED)] {
-        let format = Format::Table { colours };
+        let format = Format::Report(Look::Table { colours });
         expect(
             compared(alloc, PLAIN, format, THREE, OTHER_THREE),
             1,

@@ -131,6 +131,8 @@ Arguments:
   <CHANGES>  What diff --format csv printed; - is the standard input
 
 Options:
+      --format <FORM>            How rows are told for which there is no table, as rows in conflict [default: table] [possible values: table, json, markdown, html]
+      --rename <OLD=NEW>         The columns of the first file that have other names in the others; a list is a record of CSV
   -q, --quiet                    Nothing is printed: the status alone tells what came out
   -k, --key <COLUMN[,COLUMN..]>  The columns that are the key, as a record of CSV; the first column else; LEFT=RIGHT where a column has two names
   -d, --delimiter <BYTE>         The byte between cells, or tab; a tab else in files named .tsv or .tab, and a comma in others

@@ -43,7 +43,7 @@ static PLACES: [Case<'static>; 28] = [
     ("diff|old|new|--key|\"n@\",\"n@\"", 2, "", "keyed: --key: the column ~n@~ twice\n"),
     ("diff|old|new|--key|\"a=b=@\"", 2, "", "keyed: --key: more than two names of a column: ~a=b=@~\n"),
     ("diff|named|named later|--key|\"id=n@\"", 2, "",
-        "keyed: named: line 1: a column of the key is to have the name ~n@~, which another has\n"),
+        "keyed: named: line 1: a column is to have the name ~n@~, which another has\n"),
     ("join|bare|bare and named|--side|n@", 2, "",
         "keyed: bare and named: the join has two columns ~n@~: give another by --side\n"),
     ("apply|named|goes", 1,

@@ -11,12 +11,23 @@ static FILES: World = World {
         ("tabs", "id\tname\n2\tplum\n7\tfig\n"),
         ("/dev/null", ""),
         ("bad", "id,name\n2,\"pear\n"),
+        ("cut", "id,name\n2,\"pear"),
+        ("nul", "id,name\n2,\"\0\n"),
+        ("escape", "id,name\n2,\"\u{1b}[0m\n"),
+        (
+            "long",
+            "id,v\n1,a\n1,b\n2,c\n3,c\n4,c\n5,c\n6,c\n7,c\n8,c\n9,c\n10,c\n11,c\n12,c\n13,c\n",
+        ),
+        (
+            "later",
+            "id,v\n1,z\n1,b\n2,c\n3,c\n4,c\n5,c\n6,c\n7,c\n8,c\n9,c\n10,c\n11,c\n13,e\n",
+        ),
     ],
     ..PLAIN
 };
 
 #[rattlefmt::skip]
-static ANSWERS: [Case<'static>; 12] = [
+static ANSWERS: [Case<'static>; 11] = [
     ("git-diff|t.csv|old|1|2|new|3|4", 0,
         "keyed diff t.csv\n         id  name\nchanged  2   pear -> quince\nremoved  7   fig\nadded    13  medlar\n\
          1 added, 1 removed, 1 changed, 0 the same\n", ""),
@@ -25,8 +36,6 @@ static ANSWERS: [Case<'static>; 12] = [
     ("git-diff|a|old|1|2|old|3|4|b\u{7}|same", 0, "keyed diff a -> b\\u{7}\n0 added, 0 removed, 0 changed, 2 the same\n", ""),
     ("git-diff|t.csv", 0, "* Unmerged path t.csv\n", ""),
     ("git-diff|t.csv|none|1|2|old|3|4", 2, "", "keyed: none: No such file or directory (os error 2)\n"),
-    ("git-diff|t.csv|old|1|2|bad|3|4", 2, "",
-        "keyed: bad: line 2: a quote is opened and never closed (--lenient takes it as it is)\n"),
     ("git-merge|old|bad|old|t.csv", 129, "",
         "keyed: bad: line 2: a quote is opened and never closed (--lenient takes it as it is)\n"),
     ("git-merge|none|old|old", 129, "", "keyed: none: No such file or directory (os error 2)\n"),
@@ -45,4 +54,40 @@ static ANSWERS: [Case<'static>; 12] = [
 #[test]
 fn commands_for_git_answer_git(rt: HostRuntime) -> Result<(), Fail> {
     expect(rt.alloc(), FILES, &ANSWERS)
+}
+
+#[rattlefmt::skip]
+static NO_TABLES: [Case<'static>; 10] = [
+    ("git-diff|t.csv|old|1|2|bad|3|4", 0,
+        "keyed diff t.csv\nno table: bad: line 2: a quote is opened and never closed (--lenient takes it as it is)\n\
+         --- a/t.csv\n+++ b/t.csv\n@@ -1,3 +1,2 @@\n id,name\n-2,pear\n-7,fig\n+2,\"pear\n", ""),
+    ("git-diff|t.csv|bad|1|2|/dev/null|3|4", 0,
+        "keyed diff t.csv\nno table: bad: line 2: a quote is opened and never closed (--lenient takes it as it is)\n\
+         --- a/t.csv\n+++ /dev/null\n@@ -1,2 +0,0 @@\n-id,name\n-2,\"pear\n", ""),
+    ("git-diff|t.csv|/dev/null|1|2|bad|3|4", 0,
+        "keyed diff t.csv\nno table: bad: line 2: a quote is opened and never closed (--lenient takes it as it is)\n\
+         --- /dev/null\n+++ b/t.csv\n@@ -0,0 +1,2 @@\n+id,name\n+2,\"pear\n", ""),
+    ("git-diff|a|bad|1|2|cut|3|4|b\u{7}|same", 0,
+        "keyed diff a -> b\\u{7}\nno table: bad: line 2: a quote is opened and never closed (--lenient takes it as it is)\n\
+         --- a/a\n+++ b/b\\u{7}\n@@ -1,2 +1,2 @@\n id,name\n-2,\"pear\n+2,\"pear\n\\ No newline at end of file\n", ""),
+    ("git-diff|t.csv|bad|1|2|bad|3|4", 0,
+        "keyed diff t.csv\nno table: bad: line 2: a quote is opened and never closed (--lenient takes it as it is)\n", ""),
+    ("git-diff|t.csv|old|1|2|nul|3|4", 0,
+        "keyed diff t.csv\nno table: nul: line 2: a quote is opened and never closed (--lenient takes it as it is)\nBinary files differ\n", ""),
+    ("git-diff|t.csv|old|1|2|escape|3|4", 0,
+        "keyed diff t.csv\nno table: escape: line 2: a quote is opened and never closed (--lenient takes it as it is)\n\
+         --- a/t.csv\n+++ b/t.csv\n@@ -1,3 +1,2 @@\n id,name\n-2,pear\n-7,fig\n+2,\"\\u{1b}[0m\n", ""),
+    ("git-diff|t.csv|old|1|2|new|3|4|--key|size", 0,
+        "keyed diff t.csv\nno table: old: line 1: no column size; there are id, name\n\
+         --- a/t.csv\n+++ b/t.csv\n@@ -1,3 +1,3 @@\n id,name\n-2,pear\n-7,fig\n+13,medlar\n+2,quince\n", ""),
+    ("git-diff|t.csv|long|1|2|later|3|4", 0,
+        "keyed diff t.csv\nno table: long: line 3: duplicate key 1, first on line 2: give more columns by --key, or --group\n\
+         --- a/t.csv\n+++ b/t.csv\n@@ -1,5 +1,5 @@\n id,v\n-1,a\n+1,z\n 1,b\n 2,c\n 3,c\n@@ -11,5 +11,4 @@\n 9,c\n 10,c\n 11,c\n-12,c\n-13,c\n+13,e\n", ""),
+    ("git-diff|t.csv|old|1|2|new|3|4|--key|id,id", 2, "", "keyed: --key: the column id twice\n"),
+];
+
+/// Where a version is no table, the versions are shown line by line, as git shows texts.
+#[test]
+fn versions_that_are_no_tables_are_shown_line_by_line(rt: HostRuntime) -> Result<(), Fail> {
+    expect(rt.alloc(), FILES, &NO_TABLES)
 }

@@ -41,7 +41,7 @@ static ANSWERS: [Case<'static>; 31] = [
         "        id  name\ntable   13  medlar\nchange  13  (no row)\ntable   2   quince\nchange  2   pear\n\
          table   7   (no row)\nchange  7   fig\n", ""),
     ("merge|base|new|old", 0, "id,name\n13,medlar\n2,quince\n", ""),
-    ("merge|base|old|new|--keep-order", 0, "id,name\n2,quince\n13,medlar\n", ""),
+    ("merge|base|old|new|--keep-order", 0, "id,name\n13,medlar\n2,quince\n", ""),
     ("merge|old|sized|coloured", 0, "id,size,name,colour\n2,3,pear,\n7,2,fig,\n9,,sloe,blue\n", ""),
     ("merge|sized|old|coloured", 0, "id,name,colour\n2,pear,\n7,fig,\n9,sloe,blue\n", ""),
     ("merge|old|coloured|sized|--keep-order", 0, "colour,id,name,size\n,7,fig,2\n,2,pear,3\nblue,9,sloe,\n", ""),

@@ -9,13 +9,19 @@ mod escaped;
 #[cfg(test)]
 mod faults;
 #[cfg(test)]
+mod formats;
+#[cfg(test)]
 mod git;
 #[cfg(test)]
 mod inputs;
 #[cfg(test)]
+mod json_lines;
+#[cfg(test)]
 mod keys_shown;
 #[cfg(test)]
 mod lookups;
+#[cfg(test)]
+mod numbers;
 #[cfg(test)]
 mod outputs;
 #[cfg(test)]
@@ -27,10 +33,16 @@ mod quiet;
 #[cfg(test)]
 mod reading;
 #[cfg(test)]
+mod renames;
+#[cfg(test)]
 mod runs;
 #[cfg(test)]
 mod shapes;
 #[cfg(test)]
+mod stopped;
+#[cfg(test)]
 mod tables;
 #[cfg(test)]
 mod two_names;
+#[cfg(test)]
+mod views;

@@ -61,7 +61,7 @@ static FAULTS: [Case<'static>; 7] = [
     ("overlay|site|user|absent", 2, "", "keyed: absent: No such file or directory (os error 2)\n"),
     ("overlay|site|-|user|-", 2, "", "keyed: - may name only one file\n"),
     ("overlay|site|by id|-k|key=value", 2, "",
-        "keyed: site: line 1: a column of the key is to have the name value, which another has\n"),
+        "keyed: site: line 1: a column is to have the name value, which another has\n"),
     ("overlay|site|by id|-k|none=id", 2, "", "keyed: site: line 1: no column none; there are key, value, note\n"),
 ];
 

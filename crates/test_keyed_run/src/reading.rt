@@ -213,7 +213,7 @@ fn each_file_has_its_own_delimiter(rt: HostRuntime) -> Result<(), Fail> {
 #[rattlefmt::skip]
 static MARKS: [Case<'static>; 6] = [
     ("join|marked twice|none|--kind|anti",       0, "\"\u{feff}id\",name\n\u{feff}1,x\n", ""),
-    ("merge|marked twice|marked twice|marked twice", 0, "\"\u{feff}id\",name\n\u{feff}1,x\n", ""),
+    ("merge|marked twice|marked twice|marked twice", 0, "\u{feff}\"\u{feff}id\",name\n\u{feff}1,x\n", ""),
     ("join|marked cell|none|--kind|anti",        0, "\"\u{feff}id\"\n1\n", ""),
     ("join|marked rows|marked rows|--kind|inner|--no-header", 0, "2,y,y\n\u{feff}1,x,x\n", ""),
     ("join|marked rows|none|--kind|left|--no-header|--keep-order", 0, "\"\u{feff}1\",x,\n2,y,\n", ""),

@@ -151,6 +151,9 @@ static CONFLICTS: [Case<'static>; 2] = [
          theirs  4   c\n", ""),
     ("merge|base|ours|theirs|--keep-order", 1,
         "        id  v\n\
+         base    4   a\n\
+         ours    4   (no row)\n\
+         theirs  4   c\n\
          base    3   a\n\
          ours    3   b\n\
          theirs  3   c\n\
@@ -159,13 +162,10 @@ static CONFLICTS: [Case<'static>; 2] = [
          theirs  1   c\n\
          base    2   a\n\
          ours    2   b\n\
-         theirs  2   c\n\
-         base    4   a\n\
-         ours    4   (no row)\n\
-         theirs  4   c\n", ""),
+         theirs  2   c\n", ""),
 ];
 
-/// Conflicts stand in the order of the keys, or in that of our rows and then of theirs.
+/// Conflicts stand in the order of the keys, or in that of our rows, with each that theirs alone has behind the one that it follows there.
 #[test]
 fn conflicts_stand_in_order(rt: HostRuntime) -> Result<(), Fail> {
     expect(rt.alloc(), FILES, &CONFLICTS)

@@ -78,13 +78,13 @@ fn columns_of_two_names_are_changed(rt: HostRuntime) -> Result<(), Fail> {
 #[rattlefmt::skip]
 static REFUSED: [Case<'static>; 9] = [
     ("diff|both|new|-k|code=id", 2, "",
-        "keyed: both: line 1: a column of the key is to have the name id, which another has\n"),
+        "keyed: both: line 1: a column is to have the name id, which another has\n"),
     ("diff|twice|new|-k|code=id", 2, "",
         "keyed: twice: line 1: two columns code, of which the key is to be one: give others by --key\n"),
     ("apply|new|changes|-k|code=id", 2, "", "keyed: new: line 1: no column code; there are name, id, price\n"),
     ("diff|old|old|-k|code=id", 2, "", "keyed: old: line 1: no column id; there are code, name, price\n"),
     ("diff|rows|rows too|-H|-k|2=1", 2, "",
-        "keyed: rows: line 1: a column of the key is to have the name 1, which another has\n"),
+        "keyed: rows: line 1: a column is to have the name 1, which another has\n"),
     ("join|sides|sides too|-k|a=b=c", 2, "", "keyed: --key: more than two names of a column: a=b=c\n"),
     ("join|sides|sides too|-k|a=c,b=c", 2, "", "keyed: --key: the column c twice\n"),
     ("join|sides|sides too|-k|a=x,b", 2, "", "keyed: sides too: line 1: no column x; there are c, b, w\n"),

@@ -3,7 +3,8 @@ use Rattle.std.specs.Prelude.{not}
 use Rattle.std.specs.List.{list_any}
 use Rattle.std.specs.Cmp.Lexicographic.{pointwise}
 use Rattle.indexmap.specs.IndexSet.{insert_key}
-use Rattle.keyed_files.proofs.NameLemmas.{insert-map, list_any-map}
+use Rattle.keyed_files.proofs.NameLemmas.{insert-map, insert-new, list_any-map}
+use Rattle.keyed_files.specs.Names.{names_in}
 use Rattle.keyed_files.proofs.names.Names.add.Goals as goal
 
 pub returns-clause-names : goal.returns-clause-names
@@ -19,3 +20,7 @@ returns-clause-is_new c =
     let made = c.in_ok-from_slice.field-0 in
     c.in_ok-is_new.ensures.added ∙ ap not (sym (list_any-map (λ name. name.items) (pointwise nat_eq made.items) names))
     ∙ ap (λ name. not (list_any (pointwise nat_eq name) (map (λ n. n.items) names))) c.in_ok-from_slice.ensures.items
+
+pub returns-clause-behind : goal.returns-clause-behind
+returns-clause-behind c = λ new.
+    returns-clause-names c ∙ insert-new (pointwise nat_eq) (names_in c.args.self.now) c.args.name.now (sym (returns-clause-is_new c) ∙ new)

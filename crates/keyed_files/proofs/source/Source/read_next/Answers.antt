@@ -4,8 +4,8 @@ use Rattle.keyed_files.proofs.ReadingLemmas.{gives-next}
 use Rattle.keyed_files.proofs.source.Source.read_next.Goals.{then-found+in_ok-check_count, else-found}
 use Rattle.keyed_files.proofs.source.Source.read_next.Goals as goal
 
-pub returns : goal.returns
-returns g c = λ was. elim c.if-found.branch [
+pub returns-clause-gives : goal.returns-clause-gives
+returns-clause-gives g c = λ was. elim c.if-found.branch [
   | then-found+in_ok-check_count w ↦
       gives-next g.R.Read.remaining c.args.self.now c.if-found.self c.in_ok-found.found was (λ _. rw w.self-is was) (rw w.self-is c.in_ok-found.ensures)
   | else-found w ↦

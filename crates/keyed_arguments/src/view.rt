@@ -1,0 +1,192 @@
+//! How two tables are compared, and what a report shows of the changes.
+
+use crate::numbers::tolerance_of;
+use crate::{ParseError, flag, put, text};
+use clap::{Arg, ArgMatches};
+use keyed_files::{Colours, Comparing, Decimal, Format, Look, Picked, RowsShown, View, key_names};
+use std::alloc::{AllocError, Global};
+
+// The options that leave something out and take a text: the name of each, what stands for the text in the help, and its help.
+static PARTS: [(&str, &str, &str); 3] = [
+    (
+        "only",
+        "COLUMN[,COLUMN..]",
+        "The columns that are compared and shown, beside those of the key",
+    ),
+    (
+        "ignore",
+        "COLUMN[,COLUMN..]",
+        "The columns that are neither compared nor shown",
+    ),
+    (
+        "limit",
+        "N",
+        "So many rows at most, and how many more there are; counts are of all",
+    ),
+];
+
+/// Puts the options that say what a report shows behind others.
+///
+/// # Errors
+///
+/// Returns `AllocError` if a request for memory was refused.
+pub fn put_view(alloc: Global, args: &mut Vec<Arg<'_>>) -> Result<(), AllocError> {
+    for (name, value, help) in &PARTS {
+        let part = text(alloc, name, value, help);
+        match *name {
+            "only" => put(args, part.conflicts_with("ignore")?)?,
+            _ => put(args, part)?,
+        }
+    }
+    let help = "The counts alone, and what became of columns";
+    put(args, flag(alloc, "summary", help).conflicts_with("limit")?)
+}
+
+/// How two tables are compared. Where the colours are left open, they are those of the terminal.
+///
+/// # Errors
+///
+/// Returns a `ParseError::Value` if what is given for an option is none of its values, or if it leaves out a part of changes that are
+/// whole, and `ParseError::Names` if it is no names of columns.
+pub fn comparing_of<'a>(
+    alloc: Global,
+    matches: &ArgMatches<'a>,
+    terminal: Colours,
+) -> Result<Comparing<'a>, ParseError> {
+    if matches.get_str("format") == Some("csv") || matches.get_flag("sorted") {
+        check_whole(matches)?;
+    }
+    let view = View {
+        columns: picked_of(alloc, matches)?,
+        rows: rows_of(matches)?,
+    };
+    if matches.get_str("format") == Some("json") {
+        check_each_row(view.rows)?;
+    }
+    let tolerance = tolerance_of(matches)?;
+    Ok(Comparing {
+        format: format_of(matches, view.columns, tolerance, terminal),
+        view,
+        tolerance,
+    })
+}
+
+// Tells that nothing is left out of changes as CSV.
+fn check_whole(matches: &ArgMatches<'_>) -> Result<(), ParseError> {
+    if matches.get_flag("numbers") {
+        return Err(ParseError::Value {
+            option: "numbers",
+            wrong: "not with --format csv or --sorted: the changes that apply takes are of cells as they stand",
+        });
+    }
+    if matches.get_flag("summary") {
+        return Err(not_whole("summary"));
+    }
+    for (option, _, _) in &PARTS {
+        if matches.get_str(option).is_some() {
+            return Err(not_whole(option));
+        }
+    }
+    Ok(())
+}
+
+fn not_whole(option: &'static str) -> ParseError {
+    ParseError::Value {
+        option,
+        wrong: "not with --format csv or --sorted: a part of the changes is no patch that apply takes",
+    }
+}
+
+// Tells that all rows are to come out, or none.
+fn check_each_row(rows: RowsShown) -> Result<(), ParseError> {
+    match rows {
+        RowsShown::First(_) => Err(ParseError::Value {
+            option: "limit",
+            wrong: "not with --format json, of which each line is a row: head takes the first ones",
+        }),
+        RowsShown::All | RowsShown::Nothing => Ok(()),
+    }
+}
+
+// An answer of which the status alone is wanted, and of all columns as they stand, takes the form that is made with the least.
+fn format_of(
+    matches: &ArgMatches<'_>,
+    picked: Picked<'_>,
+    tolerance: Option<Decimal<'_>>,
+    terminal: Colours,
+) -> Format {
+    if matches.get_flag("quiet") && matches!(picked, Picked::All) && tolerance.is_none() {
+        return Format::Csv;
+    }
+    match matches.get_str("format") {
+        Some("csv") => Format::Csv,
+        _ => Format::Report(look_of(matches, colours_of(matches, terminal))),
+    }
+}
+
+/// The form of a report: a table with these colours, where no other is named.
+pub fn look_of(matches: &ArgMatches<'_>, colours: Colours) -> Look {
+    match matches.get_str("format") {
+        Some("json") => Look::Json,
+        Some("markdown") => Look::Markdown,
+        Some("html") => Look::Html,
+        _ => Look::Table { colours },
+    }
+}
+
+/// The colours of a table on a terminal: those of the terminal, where that is left open.
+pub fn colours_of(matches: &ArgMatches<'_>, terminal: Colours) -> Colours {
+    match matches.get_str("color").unwrap_or("auto") {
+        "always" => Colours::On,
+        "never" => Colours::Off,
+        _ => terminal,
+    }
+}
+
+// The columns that are compared.
+fn picked_of<'a>(alloc: Global, matches: &ArgMatches<'a>) -> Result<Picked<'a>, ParseError> {
+    if let Some(names) = matches.get_str("only") {
+        check_names(alloc, "only", names)?;
+        return Ok(Picked::Only(names));
+    }
+    match matches.get_str("ignore") {
+        Some(names) => {
+            check_names(alloc, "ignore", names)?;
+            Ok(Picked::AllBut(names))
+        }
+        None => Ok(Picked::All),
+    }
+}
+
+// Tells that a text gives names of columns, one of each.
+fn check_names(alloc: Global, option: &'static str, text: &str) -> Result<(), ParseError> {
+    let names = match key_names(alloc, text) {
+        Ok(names) => names,
+        Err(reason) => return Err(ParseError::Names { option, reason }),
+    };
+    if names.first == names.others {
+        Ok(())
+    } else {
+        Err(ParseError::Value {
+            option,
+            wrong: "two names of a column: an = of a name is ==",
+        })
+    }
+}
+
+// The rows that are shown.
+fn rows_of(matches: &ArgMatches<'_>) -> Result<RowsShown, ParseError> {
+    if matches.get_flag("summary") {
+        return Ok(RowsShown::Nothing);
+    }
+    match matches.get_str("limit") {
+        Some(text) => match text.parse::<usize>() {
+            Ok(count) => Ok(RowsShown::First(count)),
+            Err(_) => Err(ParseError::Value {
+                option: "limit",
+                wrong: "not a number of rows",
+            }),
+        },
+        None => Ok(RowsShown::All),
+    }
+}

@@ -1,0 +1,194 @@
+//! How a table is written, as far as it is read: what is noted of its bytes on their way to the reader of CSV.
+
+use crate::as_written::Style;
+use keyed_files::{Comment, Delimiter, Form, Stream};
+use keyed_text::{Marks, Place};
+use std::io;
+use std::io::Read;
+
+// What is noted of a table, up to the byte that was read last.
+#[derive(Clone, Copy, Debug)]
+struct Noted {
+    // The byte between cells of what is written.
+    delimiter: u8,
+    marks: Marks,
+    // How many lines are still to be passed over.
+    skipped: u64,
+    place: Place,
+    has_mark: bool,
+    end: LineEnd,
+    // Whether a cell of its first row is in quotes, whether one is in none, and whether the row is over.
+    has_quoted: bool,
+    has_bare: bool,
+    has_row: bool,
+    last: Option<u8>,
+}
+
+// How the first line ends: it does not yet, or by CR as far as one knows, by CR LF, or by one of the two alone.
+#[derive(Clone, Copy, Debug, PartialEq, Eq)]
+enum LineEnd {
+    Open,
+    Cr,
+    CrLf,
+    Lone,
+}
+
+impl Noted {
+    // Nothing yet, of a table in this form, with another byte between its cells if there is one.
+    fn new(form: Form, delimiter: Option<Delimiter>) -> Self {
+        Noted {
+            delimiter: form.delimiter.byte(),
+            marks: Marks {
+                delimiter: delimiter.unwrap_or(form.delimiter).byte(),
+                comment: form.reading.comment.map(Comment::byte),
+            },
+            skipped: form.reading.skipped,
+            place: Place::Top,
+            has_mark: false,
+            end: LineEnd::Open,
+            has_quoted: false,
+            has_bare: false,
+            has_row: false,
+            last: None,
+        }
+    }
+
+    // How the table is written.
+    fn style(&self) -> Style {
+        Style {
+            delimiter: self.delimiter,
+            has_mark: self.has_mark,
+            has_cr: self.end == LineEnd::CrLf,
+            has_quotes: self.has_quoted && !self.has_bare,
+            has_end: matches!(self.last, None | Some(b'\n' | b'\r')),
+        }
+    }
+
+    // Takes the next bytes.
+    fn take(&mut self, bytes: &[u8]) {
+        for byte in bytes {
+            if self.has_row && self.end != LineEnd::Cr {
+                break;
+            }
+            self.take_byte(*byte);
+        }
+        if let Some(last) = bytes.last() {
+            self.last = Some(*last);
+        }
+    }
+
+    fn take_byte(&mut self, byte: u8) {
+        self.end = self.next_end(byte);
+        if self.has_row {
+            return;
+        }
+        self.has_mark = self.has_mark || self.place == Place::SecondOfMark && byte == 0xBF;
+        let next = self.marks.after(self.place, byte).unwrap_or(Place::Bare);
+        if self.skipped > 0 {
+            self.pass_over(byte, next);
+        } else {
+            self.note_cell(next);
+            self.place = next;
+        }
+    }
+
+    // How the first line ends, with one more byte.
+    fn next_end(&self, byte: u8) -> LineEnd {
+        match self.end {
+            LineEnd::Open => match byte {
+                _ if self.place == Place::Quoted => LineEnd::Open,
+                b'\r' => LineEnd::Cr,
+                b'\n' => LineEnd::Lone,
+                _ => LineEnd::Open,
+            },
+            LineEnd::Cr => match byte {
+                b'\n' => LineEnd::CrLf,
+                _ => LineEnd::Lone,
+            },
+            LineEnd::CrLf => LineEnd::CrLf,
+            LineEnd::Lone => LineEnd::Lone,
+        }
+    }
+
+    // Takes a byte of a line that is passed over, where quotes are bytes like any other.
+    fn pass_over(&mut self, byte: u8, next: Place) {
+        if byte == b'\n' {
+            self.skipped = self.skipped.saturating_sub(1);
+            self.place = Place::Row;
+        } else {
+            self.place = match next {
+                Place::FirstOfMark | Place::SecondOfMark => next,
+                _ => Place::Bare,
+            };
+        }
+    }
+
+    // Notes whether the cell that a byte begins is in quotes, where the place behind the byte is this one, and whether the row is over.
+    fn note_cell(&mut self, next: Place) {
+        match self.place {
+            Place::Top | Place::Row => match next {
+                Place::Quoted => self.has_quoted = true,
+                Place::Row | Place::Comment | Place::FirstOfMark => {}
+                _ => self.has_bare = true,
+            },
+            Place::Cell => match next {
+                Place::Quoted => self.has_quoted = true,
+                _ => self.has_bare = true,
+            },
+            Place::FirstOfMark | Place::SecondOfMark => match next {
+                Place::SecondOfMark | Place::Row => {}
+                _ => self.has_bare = true,
+            },
+            _ => {}
+        }
+        self.has_row = next == Place::Row && (self.has_quoted || self.has_bare);
+    }
+}
+
+/// A reader of a table, which notes how it is written.
+#[derive(Drop)]
+pub struct Watched<R> {
+    reader: R,
+    noted: Noted,
+}
+
+impl<R> Watched<R> {
+    /// How the table is written, as far as it is read.
+    pub fn style(&self) -> Style {
+        self.noted.style()
+    }
+}
+
+impl<R: Read> Read for Watched<R> {
+    ghost remaining = { λ watched. R.remaining watched.reader };
+
+    fn read(&mut self, buf: &mut [u8]) -> io::Result<usize> {
+        let count = self.reader.read(buf)?;
+        self.noted.take(first(buf, count));
+        Ok(count)
+    }
+}
+
+// So many bytes, or all where there are fewer.
+fn first(bytes: &[u8], count: usize) -> &[u8] {
+    bytes.get(..count).unwrap_or(bytes)
+}
+
+/// A table in this form that is read so that one knows how it is written.
+pub fn watch<'a, R>(form: Form, stream: Stream<'a, R>) -> Stream<'a, Watched<R>> {
+    let Stream {
+        file,
+        delimiter,
+        reader,
+    } = stream;
+    let noted = Noted::new(form, delimiter);
+    let reader = match reader {
+        Ok(reader) => Ok(Watched { reader, noted }),
+        Err(reason) => Err(reason),
+    };
+    Stream {
+        file,
+        delimiter,
+        reader,
+    }
+}

@@ -1,0 +1,74 @@
+//! How many rows changed.
+ghost use Rattle.std.specs.Prelude.{◌≡◌, ◌-◌, ◌^◌, filter, is_none, is_some, length, map, min, sum};
+ghost use Rattle.either_or_both.specs.Prelude.{left_place, option_zip, right_place};
+
+use crate::changed_rows::RowChange;
+use keyed_rows::{Group, Key};
+use std::fmt;
+
+/// How many rows were added, removed, changed and left as they were. Prints as these four numbers, each with its word.
+#[derive(Clone, Copy)]
+pub struct Counts {
+    pub added: usize,
+    pub removed: usize,
+    pub changed: usize,
+    pub same: usize,
+}
+
+impl fmt::Display for Counts {
+    fn fmt<W: fmt::Write>(&self, f: &mut fmt::Formatter<W>) -> fmt::Result {
+        write!(
+            f,
+            "{} added, {} removed, {} changed, {} the same",
+            self.added, self.removed, self.changed, self.same
+        )
+    }
+}
+
+/// How many rows a table has, or the greatest number where they are more.
+pub fn count_rows(pairs: &[(Key, Group)]) -> usize
+    ensures { result ≡ min (sum (map (λ pair. length pair.1) pairs.now)) (2 ^ 64 - 1) }
+{
+    let mut count: usize = 0;
+    for pair in pairs {
+        count = count.saturating_add(pair.1.rows().len());
+    }
+    count
+}
+
+/// The counts of changes to a table that had this many rows.
+pub fn count(old_rows: usize, changes: &[RowChange<'_>]) -> Counts
+    ensures added { result.added ≡ length (filter (λ row. is_none (left_place row.1)) changes.now) }
+    ensures removed { result.removed ≡ length (filter (λ row. is_none (right_place row.1)) changes.now) }
+    ensures changed { result.changed
+        ≡ length (filter (λ row. is_some (option_zip (left_place row.1) (right_place row.1))) changes.now) }
+    ensures same { result.same ≡ old_rows - result.removed - result.changed }
+{
+    let removed = count_removed(changes);
+    let changed = count_changed(changes);
+    Counts {
+        added: count_added(changes),
+        removed,
+        changed,
+        same: old_rows.saturating_sub(removed).saturating_sub(changed),
+    }
+}
+
+fn count_added(changes: &[RowChange<'_>]) -> usize
+    ensures { result ≡ length (filter (λ row. is_none (left_place row.1)) changes.now) }
+{
+    changes.iter().filter(|row| row.1.is_right()).count()
+}
+
+fn count_removed(changes: &[RowChange<'_>]) -> usize
+    ensures { result ≡ length (filter (λ row. is_none (right_place row.1)) changes.now) }
+{
+    changes.iter().filter(|row| row.1.is_left()).count()
+}
+
+fn count_changed(changes: &[RowChange<'_>]) -> usize
+    ensures { result
+        ≡ length (filter (λ row. is_some (option_zip (left_place row.1) (right_place row.1))) changes.now) }
+{
+    changes.iter().filter(|row| row.1.is_both()).count()
+}

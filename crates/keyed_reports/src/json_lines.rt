@@ -1,0 +1,171 @@
+//! What changed between two tables, as JSON.
+//!
+//! Texts in JSON are UTF-8. A byte of a cell or a name that is no UTF-8 stands as the character U+10FF00 plus that byte, and so do the four
+//! bytes of such a character itself: whoever turns each of these characters into its byte has the cell as it is in the file. Objects are
+//! written by the writer of `json`, on which `serde_json` stands, since an object of that has its names sorted, and columns have an order.
+
+use crate::changed_rows::{RowChange, word_of};
+use crate::report::Report;
+use either_or_both::EitherOrBoth;
+use json::Writer;
+use keyed_files::Columns;
+use keyed_rows::{Cells, Iter};
+use std::alloc::{AllocError, Global};
+use std::fmt;
+
+/// The rows, an object each, on a line each: what became of the row, its key, and its other cells in the old table and in the new one, as
+/// far as it is there.
+///
+/// # Errors
+///
+/// Returns `AllocError` if a request for memory was refused.
+pub fn json_rows(alloc: Global, report: &Report<'_>) -> Result<Vec<u8>, AllocError> {
+    let mut text = Vec::new(alloc);
+    for row in report.rows {
+        let object = row_object(alloc, report.columns, row)?;
+        text.extend_from_slice(&object)?;
+        text.push(b'\n')?;
+    }
+    Ok(text)
+}
+
+// The object of a row.
+fn row_object(
+    alloc: Global,
+    columns: &Columns,
+    row: &RowChange<'_>,
+) -> Result<Vec<u8>, AllocError> {
+    let (key, change) = *row;
+    let mut writer = Writer::new(Vec::new(alloc));
+    writer.begin_object()?;
+    writer.key("change")?;
+    writer.string(word_of(change))?;
+    writer.key("key")?;
+    put_cells(alloc, &mut writer, &columns.key, key.iter())?;
+    match change {
+        EitherOrBoth::Left(old) => put_side(alloc, &mut writer, "old", columns, old)?,
+        EitherOrBoth::Right(new) => put_side(alloc, &mut writer, "new", columns, new)?,
+        EitherOrBoth::Both(old, new) => {
+            put_side(alloc, &mut writer, "old", columns, old)?;
+            put_side(alloc, &mut writer, "new", columns, new)?;
+        }
+    }
+    writer.end_object()?;
+    Ok(writer.into_inner())
+}
+
+// Puts the cells of one version of a row under a name.
+fn put_side(
+    alloc: Global,
+    writer: &mut Writer,
+    side: &str,
+    columns: &Columns,
+    cells: &Cells,
+) -> Result<(), AllocError> {
+    writer.key(side)?;
+    put_cells(alloc, writer, &columns.rest, cells.iter())
+}
+
+/// Puts cells as an object, by the names of their columns.
+///
+/// # Errors
+///
+/// Returns `AllocError` if a request for memory was refused.
+pub fn put_cells(
+    alloc: Global,
+    writer: &mut Writer,
+    names: &Cells,
+    cells: Iter<'_>,
+) -> Result<(), AllocError> {
+    writer.begin_object()?;
+    for (name, cell) in names.iter().zip(cells) {
+        let name = format!(in alloc; "{}", JsonText(name))?;
+        writer.key(&name)?;
+        let cell = format!(in alloc; "{}", JsonText(cell))?;
+        writer.string(&cell)?;
+    }
+    writer.end_object()
+}
+
+/// The counts of rows, and the names of the columns that one of the tables alone has, as one object on a line.
+///
+/// # Errors
+///
+/// Returns `AllocError` if a request for memory was refused.
+pub fn json_counts(alloc: Global, report: &Report<'_>) -> Result<Vec<u8>, AllocError> {
+    let mut writer = Writer::new(Vec::new(alloc));
+    writer.begin_object()?;
+    put_count(&mut writer, "added", report.counts.added)?;
+    put_count(&mut writer, "removed", report.counts.removed)?;
+    put_count(&mut writer, "changed", report.counts.changed)?;
+    put_count(&mut writer, "same", report.counts.same)?;
+    let lone = report.column_changes.lone(alloc)?;
+    writer.key("columns")?;
+    writer.begin_object()?;
+    put_names(alloc, &mut writer, "added", &lone.added)?;
+    put_names(alloc, &mut writer, "removed", &lone.removed)?;
+    writer.end_object()?;
+    writer.end_object()?;
+    let mut text = writer.into_inner();
+    text.push(b'\n')?;
+    Ok(text)
+}
+
+// Puts a number under a name.
+fn put_count(writer: &mut Writer, name: &str, count: usize) -> Result<(), AllocError> {
+    writer.key(name)?;
+    writer.u64(count as u64)
+}
+
+// Puts names of columns as an array under a name.
+fn put_names(
+    alloc: Global,
+    writer: &mut Writer,
+    under: &str,
+    names: &Cells,
+) -> Result<(), AllocError> {
+    writer.key(under)?;
+    writer.begin_array()?;
+    for name in names {
+        let name = format!(in alloc; "{}", JsonText(name))?;
+        writer.string(&name)?;
+    }
+    writer.end_array()
+}
+
+// Bytes as characters: those of UTF-8 as they are, and each other byte as one of its own.
+#[derive(Clone, Copy)]
+struct JsonText<'a>(&'a [u8]);
+
+// The character that stands for the byte 0. Those for the others follow.
+const BYTES: u32 = 0x10ff00;
+
+impl fmt::Display for JsonText<'_> {
+    fn fmt<W: fmt::Write>(&self, f: &mut fmt::Formatter<W>) -> fmt::Result {
+        for chunk in self.0.utf8_chunks() {
+            for c in chunk.valid().chars() {
+                show_char(f, c)?;
+            }
+            for byte in chunk.invalid() {
+                show_byte(f, *byte)?;
+            }
+        }
+        Ok(())
+    }
+}
+
+// A character, or the bytes of one that stands for a byte.
+fn show_char<W: fmt::Write>(f: &mut fmt::Formatter<W>, c: char) -> fmt::Result {
+    if (c as u32) < BYTES {
+        return f.write_char(c);
+    }
+    for byte in c.encode_utf8(&mut [0; 4]).as_bytes() {
+        show_byte(f, *byte)?;
+    }
+    Ok(())
+}
+
+// The character that stands for a byte.
+fn show_byte<W: fmt::Write>(f: &mut fmt::Formatter<W>, byte: u8) -> fmt::Result {
+    f.write_char(char::from_u32(BYTES + byte as u32).unwrap_or('\u{fffd}'))
+}

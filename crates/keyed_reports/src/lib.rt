@@ -1,0 +1,22 @@
+//! What changed between two tables, and rows for which a command has no table, told to a person or to a program.
+//!
+//! `row_changes` finds the rows of changes by key, `Report` holds what there is to say of them, and `write_report` says it in one of the
+//! forms of `Look`: each has a module of its own. `write_stopped` does so with rows in conflict, changes that do not fit, and cells that
+//! would be lost. Which rows these are is found elsewhere, in `keyed_tables` and `keyed_commands`.
+#![tactic(auto)]
+
+mod changed_rows;
+mod counts;
+mod html;
+mod json_lines;
+mod laws;
+mod markdown;
+mod report;
+mod stopped;
+mod table;
+
+pub use changed_rows::{RowChange, row_changes};
+pub use counts::{Counts, count, count_rows};
+pub use laws::law_html_is_text;
+pub use report::{Report, write_report};
+pub use stopped::{Stopped, Version, write_stopped};

@@ -1,0 +1,96 @@
+//! What there is to say of two tables, and the form in which it is said.
+ghost use Rattle.std.specs.Prelude.{◌≡◌, ◌-◌, length};
+ghost use Rattle.keyed_reports.specs.Shown.{count_more, shown_rows};
+
+use crate::changed_rows::RowChange;
+use crate::counts::{Counts, count};
+use crate::html::html;
+use crate::json_lines::{json_counts, json_rows};
+use crate::markdown::markdown;
+use crate::table::table;
+use keyed_files::{ColumnChanges, Columns, Decimal, Look, RowsShown};
+use std::alloc::{AllocError, Global};
+
+/// What there is to say of two tables that were compared.
+#[derive(Drop)]
+pub struct Report<'r> {
+    /// The columns that were compared.
+    pub columns: &'r Columns,
+    /// What became of columns.
+    pub column_changes: ColumnChanges<'r>,
+    /// Which of the rows are shown.
+    pub which: RowsShown,
+    /// These rows.
+    pub rows: &'r [RowChange<'r>],
+    /// How many more rows changed, where that is to be said.
+    pub more: usize,
+    /// The counts of all rows.
+    pub counts: Counts,
+    /// How far apart numbers may be that count as the same, where cells that are numbers are compared by value.
+    pub tolerance: Option<Decimal<'r>>,
+}
+
+impl<'r> Report<'r> {
+    /// What there is to say of these changed rows, of which a part is shown. The old table had this many rows. With a tolerance, cells that
+    /// are numbers are compared by value.
+    pub fn new(
+        columns: &'r Columns,
+        column_changes: ColumnChanges<'r>,
+        which: RowsShown,
+        tolerance: Option<Decimal<'r>>,
+        old_rows: usize,
+        rows: &'r [RowChange<'r>],
+    ) -> Self
+        ensures rows { result.rows.now ≡ shown_rows which rows.now }
+        ensures more { result.more ≡ count_more which (length rows.now) }
+    {
+        Report {
+            columns,
+            column_changes,
+            which,
+            rows: shown_rows(which, rows),
+            more: count_more(which, rows.len()),
+            counts: count(old_rows, rows),
+            tolerance,
+        }
+    }
+}
+
+// Those of the rows that are shown.
+fn shown_rows<'r, 'a>(which: RowsShown, rows: &'r [RowChange<'a>]) -> &'r [RowChange<'a>]
+    ensures { result.now ≡ shown_rows which rows.now }
+{
+    match which {
+        RowsShown::All => rows,
+        RowsShown::First(most) => rows.get(..most).unwrap_or(rows),
+        RowsShown::Nothing => rows.get(..0).unwrap_or(rows),
+    }
+}
+
+// How many rows are not shown, where that is to be said.
+fn count_more(which: RowsShown, all: usize) -> usize
+    ensures { result ≡ count_more which all }
+{
+    match which {
+        RowsShown::First(most) => all.saturating_sub(most),
+        RowsShown::All | RowsShown::Nothing => 0,
+    }
+}
+
+/// The report as text of this form: what became of the columns, the rows, and the counts; of JSON the rows alone, or the counts and the
+/// columns where no row is to be shown.
+///
+/// # Errors
+///
+/// Returns `AllocError` if a request for memory was refused.
+pub fn write_report(alloc: Global, look: Look, report: &Report<'_>) -> Result<Vec<u8>, AllocError> {
+    match look {
+        Look::Table { colours } => Ok(table(alloc, colours, report)?.into_bytes()),
+        Look::Markdown => markdown(alloc, report),
+        Look::Html => html(alloc, report),
+        Look::Json => match report.which {
+            RowsShown::Nothing => json_counts(alloc, report),
+            RowsShown::All | RowsShown::First(_) => json_rows(alloc, report),
+        },
+    }
+}
