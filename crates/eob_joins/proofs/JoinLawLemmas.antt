@@ -34,17 +34,17 @@ module _ {X : Type 0} (P : X → Type 0) where
   all_right (x ∷ xs) ys h = all_right xs ys (All-tail P x (xs ++ ys) h)
 
 module _ {K : Type 0} (cmp : K → K → Ordering) where
-  value_append : {V : Type 0} (xs ys : List (K × V)) (k : K) → value_under cmp (xs ++ ys) k ≡ option_or (value_under cmp xs k) (value_under cmp ys k)
+  pub value_append : {V : Type 0} (xs ys : List (K × V)) (k : K) → value_under cmp (xs ++ ys) k ≡ option_or (value_under cmp xs k) (value_under cmp ys k)
   value_append [] ys k = refl
   value_append (x ∷ xs) ys k = by_test (is_eq (cmp k x.0)) (λ t. rw t refl) (λ f. rw f (value_append xs ys k))
 
-  up_append : {V : Type 0} (P : K → Type 0) (xs ys : List (K × V)) → Up cmp P xs → Up cmp P ys → All (λ x. Up cmp (λ k. cmp x.0 k ≡ Less) ys) xs → Up cmp P (xs ++ ys)
+  pub up_append : {V : Type 0} (P : K → Type 0) (xs ys : List (K × V)) → Up cmp P xs → Up cmp P ys → All (λ x. Up cmp (λ k. cmp x.0 k ≡ Less) ys) xs → Up cmp P (xs ++ ys)
   up_append P [] ys g h b = h
   up_append P (x ∷ xs) ys g h b =
       (g.0, up_append (λ k. cmp x.0 k ≡ Less) xs ys g.1 (All-head (λ y. Up cmp (λ k. cmp y.0 k ≡ Less) ys) x xs b) (All-tail (λ y. Up cmp (λ k. cmp y.0 k ≡ Less) ys) x xs b))
 
   -- a list whose keys are all greater than j rises from j on
-  up_from : {V : Type 0} (j : K) (ys : List (K × V)) → Up cmp (λ k. ⊤) ys → All (λ y. cmp j y.0 ≡ Less) ys → Up cmp (λ k. cmp j k ≡ Less) ys
+  pub up_from : {V : Type 0} (j : K) (ys : List (K × V)) → Up cmp (λ k. ⊤) ys → All (λ y. cmp j y.0 ≡ Less) ys → Up cmp (λ k. cmp j k ≡ Less) ys
   up_from j [] h a = tt
   up_from j (y ∷ ys) h a = (All-head (λ x. cmp j x.0 ≡ Less) y ys a, h.1)
 

@@ -98,7 +98,7 @@ module _ {K : Type 0} (cmp : K → K → Ordering) where
         (rw (greater j x.0 h.0) (All-head (λ y. value_under cmp whole y.0 ≡ Some y.1) x xs own))
         (own_after j v xs (up_weaker cmp (λ k. cmp x.0 k ≡ Less) (λ k. cmp j k ≡ Less) (λ k l. o.trans j x.0 k h.0 l) xs h.1) whole (All-tail (λ y. value_under cmp whole y.0 ≡ Some y.1) x xs own))
 
-    own : {V : Type 0} (P : K → Type 0) (xs : List (K × V)) → Up cmp P xs → All (λ x. value_under cmp xs x.0 ≡ Some x.1) xs
+    pub own : {V : Type 0} (P : K → Type 0) (xs : List (K × V)) → Up cmp P xs → All (λ x. value_under cmp xs x.0 ≡ Some x.1) xs
     own P [] h = All-nil (λ x. value_under cmp [] x.0 ≡ Some x.1)
     own P (x ∷ xs) h =
         All-cons (λ y. value_under cmp (x ∷ xs) y.0 ≡ Some y.1) x xs (rw (tied_itself o x.0) refl)

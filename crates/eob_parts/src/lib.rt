@@ -1,9 +1,10 @@
 //! Joins of tables that are cut into parts: the parts are joined apart, and one after the other they are the join of the whole.
 //!
-//! `law_cut_join` of `eob_joins` says it of two parts; here it is said of any number of them, of joins and of what is kept of joins.
+//! `law_cut_join` of `eob_joins` says it of two parts; here it is said of any number of them, of joins and of what is kept of joins. A merge
+//! of three versions whose parts are whole is the merge of the wholes.
 #![tactic(auto)]
 
-ghost use Rattle.eob_parts.specs.Parts.{CutJoinsLaw, CutKeptLaw};
+ghost use Rattle.eob_parts.specs.Parts.{CutJoinsLaw, CutKeptLaw, CutMadeLaw};
 
 /// Two tables that are cut into as many parts: where each key of a part of either table is less than each key of a later part of either
 /// (`AreCut`), and each list is the join of the parts at its place, these lists, one after the other, are the join of the two tables.
@@ -44,4 +45,23 @@ pub fn law_cut_joins<K: Ord, A, B>()
 /// ```
 pub fn law_cut_kept<K: Ord, A, B, W>()
     ensures { CutKeptLaw K.cmp A B W }
+{}
+
+/// The same of three tables, and of what a function makes of what they have under each key: `merge_versions` is such, by `merged_place`. The
+/// function makes nothing of nothing.
+///
+/// Where all parts of a merge are whole, they are, one after the other, the merge of the wholes. Call the law where they are put together.
+///
+/// # Examples
+///
+/// ```
+/// law_cut_made::<u32, char, char, char, char>();
+/// let (base, ours) = (vec![in alloc; (1, 'a')]?, vec![in alloc; (1, 'b')]?);
+/// let theirs = vec![in alloc; (1, 'a')]?;
+/// assert!(rt; is_rising(&base) && is_rising(&ours) && is_rising(&theirs));
+/// let whole = Merged::Whole(vec![in alloc; (1, 'b')]?);
+/// assert_eq!(rt; merge_versions(alloc, base, ours, theirs)?, whole);
+/// ```
+pub fn law_cut_made<K: Ord, A, B, C, W>()
+    ensures { CutMadeLaw K.cmp A B C W }
 {}
