@@ -1,11 +1,14 @@
 -- The names of a header, one after the other.
-use Rattle.std.proofs.Common.{◌≡◌, ◌∙◌, ◌+◌, ◌<◌, ℕ, List, [], ◌∷◌, ◌++◌, Bool, true, false, drop, take, length, get_or, nat_eq, refl, sym, ap, zero, suc}
+use Rattle.std.proofs.Common.{◌≡◌, ◌∙◌, ◌+◌, ◌-◌, ◌<◌, ◌≤◌, ℕ, List, [], ◌∷◌, ◌++◌, Bool, true, false, arith, drop, take, length, length-drop, get_or, map, nat_eq, refl, sym, ap, zero, suc}
 use Rattle.std.specs.Prelude.{◌||◌, unwrap_or}
 use Rattle.std.specs.Cmp.Lexicographic.{pointwise}
 use Rattle.std.specs.List.{list_any}
-use Rattle.std.proofs.lemmas.List.{drop_more, take_more}
+use Rattle.std.proofs.lemmas.List.{drop_more, get_or-drop, get_or-map, length-map, take_more}
 use Rattle.csv.specs.Records.{field_at}
+use Rattle.keyed_files.specs.Headers.{HeaderOf, NamesOf, cells_before, name_in, names_behind}
 use Rattle.keyed_files.specs.Names.{repeats}
+use Rattle.keyed_files.specs.declared.source.Content.{Content}
+use Rattle.keyed_files.specs.declared.source.Content.TheVariants as content
 
 or-first : (a b : Bool) → (a || b) ≡ false → a ≡ false
 or-first true b e = e
@@ -32,11 +35,44 @@ field-is [] i = refl
 field-is (x ∷ xs) zero = refl
 field-is (x ∷ xs) (suc i) = field-is xs i
 
+-- the name at a place of a record that has so many cells before its names
+pub name-here : (before place : ℕ) (fields : List (List ℕ)) (name : List ℕ) → before ≤ place → place < length fields
+    → name ≡ name_in before (unwrap_or (field_at fields place) []) → name ≡ get_or (names_behind before fields) (place - before) []
+name-here before place fields name le lt is =
+    let inside : place - before < length (drop before fields) = omega (arith, length-drop before fields, le, lt) in
+    let whole : before + (place - before) ≡ place = omega (arith, le) in
+    is ∙ ap (name_in before) (field-is fields place ∙ ap (λ i. get_or fields i []) (sym whole) ∙ sym (get_or-drop before fields (place - before) []))
+    ∙ sym (get_or-map (name_in before) (drop before fields) (place - before) [] [] inside)
+
+pub place-behind : (before place : ℕ) (fields : List (List ℕ)) → before ≤ place → place < length fields → place - before < length (names_behind before fields)
+place-behind before place fields le lt = omega (arith, length-map (drop before fields) (name_in before), length-drop before fields, le, lt)
+
+-- no name is put yet
+pub names-none : (names : List (List ℕ)) (i : ℕ) (found : List (List ℕ)) → i ≡ 0 → found ≡ [] → repeats [] names ≡ false
+    → (found ≡ take i names) × (repeats (take i names) (drop i names) ≡ false)
+names-none names i found none is once = rw none (is, once)
+
 -- a name is put behind those before it
-pub one-more : (fields : List (List ℕ)) (i : ℕ) (old new : List (List ℕ)) (name : List ℕ) → i < length fields → name ≡ unwrap_or (field_at fields i) []
-    → (list_any (pointwise nat_eq name) old ≡ false → new ≡ old ++ (name ∷ [])) → old ≡ take i fields → repeats (take i fields) (drop i fields) ≡ false
-    → (new ≡ take (i + 1) fields) × (repeats (take (i + 1) fields) (drop (i + 1) fields) ≡ false)
-one-more fields i old new name lt is puts before h =
-    let same : name ≡ get_or fields i [] = is ∙ field-is fields i in
-    let fresh : list_any (pointwise nat_eq name) old ≡ false = rw (same, before) (name-is-new fields i lt h) in
-    (puts fresh ∙ rw (same, before) (sym (take_more fields i [] lt)), names-behind fields i lt h)
+pub one-more : (names : List (List ℕ)) (i j : ℕ) (old new : List (List ℕ)) (name : List ℕ) → i < length names → j ≡ i + 1 → name ≡ get_or names i []
+    → (list_any (pointwise nat_eq name) old ≡ false → new ≡ old ++ (name ∷ [])) → old ≡ take i names → repeats (take i names) (drop i names) ≡ false
+    → (new ≡ take j names) × (repeats (take j names) (drop j names) ≡ false)
+one-more names i j old new name lt next is puts before h =
+    let fresh : list_any (pointwise nat_eq name) old ≡ false = rw (is, before) (name-is-new names i lt h) in
+    rw next (puts fresh ∙ rw (is, before) (sym (take_more names i [] lt)), names-behind names i lt h)
+
+-- no name of a record is marked where no cell stands before the names
+pub names-plain : (fields : List (List ℕ)) → names_behind 0 fields ≡ fields
+names-plain [] = refl
+names-plain (name ∷ fields) = ap (λ names. name ∷ names) (names-plain fields)
+
+-- the names that are read of a record are those that it says
+pub names-said : (kind : Content) (before : ℕ) (fields names : List (List ℕ)) → before ≡ cells_before kind
+    → (repeats [] (names_behind before fields) ≡ false → names ≡ names_behind before fields) → NamesOf kind fields names
+names-said content.Rows before fields names is read = λ once. (read (rw (is, names-plain fields) once)) ∙ rw (is, names-plain fields) refl
+names-said content.Changes before fields names is read = λ once. (read (rw is once)) ∙ rw is refl
+
+pub header-read : (kind : Content) (has_header has_first : Bool) (fields names : List (List ℕ)) → has_first ≡ true → has_header ≡ true
+    → NamesOf kind fields names → HeaderOf has_header kind has_first fields names
+header-read kind has_header false fields names e h said = absurd (cc e)
+header-read kind false true fields names e h said = absurd (cc h)
+header-read kind true true fields names e h said = said

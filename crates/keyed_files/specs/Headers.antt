@@ -1,5 +1,5 @@
 -- The header of a table, and where the cells of its columns stand.
-use Rattle.std.specs.Prelude.{◌≡◌, ◌+◌, ℕ, List, [], Bool, true, false, Option, ⊤, map, option_map}
+use Rattle.std.specs.Prelude.{◌≡◌, ◌+◌, ◌==◌, ◌||◌, ℕ, List, [], ◌∷◌, Bool, true, false, Option, ⊤, drop, map, option_map, if◌then◌else◌}
 use Rattle.keyed_files.specs.Names.{place_in, repeats}
 use Rattle.keyed_files.specs.declared.columns.Columns.{Columns}
 use Rattle.keyed_files.specs.declared.source.Content.{Content}
@@ -11,10 +11,31 @@ abbrev pub cells_before : Content → ℕ
 cells_before content.Rows = 0
 cells_before content.Changes = 1
 
--- the names of columns are those of a record, if these are no names of changes and none stands there twice
+-- whether a byte before the name of a column in the header of changes says what becomes of the column: `-`, `+` or `=`
+abbrev pub is_mark : ℕ → Bool
+is_mark byte = (byte == 45) || (byte == 43) || (byte == 61)
+
+-- a name without its mark, if it has one
+abbrev pub unmarked : List ℕ → List ℕ
+unmarked [] = []
+unmarked (byte ∷ name) = if is_mark byte then name else byte ∷ name
+
+-- the name in a cell of a header behind so many cells: behind none, as in a table of rows, a name has no mark
+abbrev pub name_in : ℕ → List ℕ → List ℕ
+name_in before cell = if before == 0 then cell else unmarked cell
+
+-- the names that a record has behind so many cells
+abbrev pub names_behind : ℕ → List (List ℕ) → List (List ℕ)
+names_behind before fields = map (name_in before) (drop before fields)
+
+-- the names of columns that a record says: its cells, or those of changes behind the first one without their marks
+abbrev pub names_said : Content → List (List ℕ) → List (List ℕ)
+names_said content.Rows fields = fields
+names_said content.Changes fields = map unmarked (drop 1 fields)
+
+-- the names of columns are those that a record says, if it says none twice
 abbrev pub NamesOf : Content → List (List ℕ) → List (List ℕ) → Type 0
-NamesOf content.Rows fields names = repeats [] fields ≡ false → names ≡ fields
-NamesOf content.Changes fields names = ⊤
+NamesOf kind fields names = repeats [] (names_said kind fields) ≡ false → names ≡ names_said kind fields
 
 -- the names of columns of a file that has a header or none, and a first record or none
 abbrev pub HeaderOf : Bool → Content → Bool → List (List ℕ) → List (List ℕ) → Type 0

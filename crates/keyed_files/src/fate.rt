@@ -1,4 +1,6 @@
 //! What became of a column, as the header of a table of changes says it.
+ghost use Rattle.std.specs.Prelude.{◌≡◌};
+ghost use Rattle.keyed_files.specs.Headers.{unmarked};
 
 use std::alloc::{AllocError, Global};
 
@@ -48,7 +50,9 @@ impl Fate {
     /// assert!(rt; Fate::of_cell(b"-size") == (Fate::Goes, b"size"));
     /// assert!(rt; Fate::of_cell(b"=-size") == (Fate::Stays, b"-size"));
     /// ```
-    pub fn of_cell(cell: &[u8]) -> (Self, &[u8]) {
+    pub fn of_cell(cell: &[u8]) -> (Self, &[u8])
+        ensures name { result.1.now ≡ unmarked cell.now }
+    {
         match cell {
             [b'-', name @ ..] => (Fate::Goes, name),
             [b'+', name @ ..] => (Fate::Comes, name),

@@ -3,6 +3,7 @@ ghost use Rattle.std.specs.Prelude.{◌≡◌, ◌++◌, ◌∷◌, ◌^◌, ◌
 ghost use Rattle.std.specs.Cmp.Lexicographic.{pointwise};
 ghost use Rattle.std.specs.List.{list_any};
 ghost use Rattle.csv.specs.Records.{field_at, fields_of};
+ghost use Rattle.keyed_files.specs.Headers.{name_in, names_behind};
 ghost use Rattle.keyed_files.specs.Names.{names_in, place_in, renamed, repeats};
 
 use crate::columns::place_of;
@@ -55,8 +56,8 @@ impl Header {
         before: usize,
         line: u64,
     ) -> Result<Self, AllocError>
-        ensures { IfOk result (λ header. before ≡ 0 → repeats [] (fields_of row.now) ≡ false
-            → header.names ≡ fields_of row.now) }
+        ensures { IfOk result (λ header. repeats [] (names_behind before (fields_of row.now)) ≡ false
+            → header.names ≡ names_behind before (fields_of row.now)) }
     {
         let there = names_there(alloc, row, before)?;
         let mut told = Told::new(alloc);
@@ -267,7 +268,7 @@ fn renamed_of(alloc: Global, key: &KeyNames) -> Result<Cells, AllocError> {
 
 // The fate of a column and its name, behind as many cells: behind none, as in a table of rows, a name has no mark.
 fn fate_of(before: usize, cell: &[u8]) -> (Fate, &[u8])
-    ensures { before ≡ 0 → result.1.now ≡ cell.now }
+    ensures { result.1.now ≡ name_in before cell.now }
 {
     if before == 0 {
         (Fate::Stays, cell)
