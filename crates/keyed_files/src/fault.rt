@@ -1,4 +1,7 @@
 //! What can be wrong with an input, and the line that says so.
+ghost use Rattle.std.specs.Prelude.{◌≡◌};
+ghost use Rattle.keyed_files.specs.Explained.{IsOutside};
+ghost use Rattle.keyed_files.specs.declared.fault.Reason.TheVariants.{NoMemory};
 
 use crate::encoding::Encoding;
 use crate::lined_up::{Shown, ShownName};
@@ -77,12 +80,16 @@ pub enum Reason {
 }
 
 impl From<AllocError> for Reason {
+    ghost from_gives = { λ _ reason. reason ≡ NoMemory };
+
     fn from(_refused: AllocError) -> Self {
         Reason::NoMemory
     }
 }
 
 impl<T: Drop> From<AllocFailed<T>> for Reason {
+    ghost from_gives = { λ _ reason. reason ≡ NoMemory };
+
     fn from(_refused: AllocFailed<T>) -> Self {
         Reason::NoMemory
     }
@@ -119,6 +126,18 @@ impl From<csv::Error> for Reason {
                 expected: expected_len,
                 found: len,
             },
+            _ => Reason::NoMemory,
+        }
+    }
+}
+
+impl Reason {
+    /// Why a row is not read, by the error of the reader of CSV: an error of the file, or else want of memory. A row of any length is read.
+    pub(crate) fn of_reading(error: csv::Error) -> Self
+        ensures { IsOutside result }
+    {
+        match error.into_kind() {
+            csv::ErrorKind::Io(error) => Reason::Io(error),
             _ => Reason::NoMemory,
         }
     }

@@ -1,5 +1,5 @@
 //! The sign of a row in a table of changes.
-ghost use Rattle.std.specs.Prelude.{◌≡◌, IfSome};
+ghost use Rattle.std.specs.Prelude.{◌≡◌, ◌≢◌, ◌∷◌, [], IfSome, IsNone};
 ghost use Rattle.keyed_files.specs.Rows.{shown_sign};
 
 use keyed_rows::ReadRow;
@@ -26,7 +26,8 @@ impl Sign {
 
     /// The sign that a cell is, if it is one.
     pub fn of_cell(cell: &[u8]) -> Option<Self>
-        ensures { IfSome result (λ sign. cell.now ≡ shown_sign sign) }
+        ensures sign { IfSome result (λ sign. cell.now ≡ shown_sign sign) }
+        ensures none { IsNone result → (cell.now ≢ 45 ∷ []) × (cell.now ≢ 43 ∷ []) }
     {
         match cell {
             b"-" => Some(Sign::Minus),

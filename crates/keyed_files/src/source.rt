@@ -1,8 +1,10 @@
 //! A file read row by row: the header first, and then the rows under the columns that are asked for.
-ghost use Rattle.std.specs.Prelude.{◌≡◌, ◌≤◌, [], IfOk, IfSome, OnOk, Some, is_some, map};
+ghost use Rattle.std.specs.Prelude.{◌≡◌, ◌≢◌, ◌≤◌, ◌∷◌, [], ℕ, IfErr, IfOk, IfSome, IsNone, MatchBool, OnOk, Some, is_some, map};
 ghost use Rattle.std.specs.Io.KnownBytes.{Keeps};
 ghost use Rattle.csv.specs.Records.{field_at, fields_of};
 ghost use Rattle.keyed_text.specs.Streams.{GivesRow, HasRead};
+ghost use Rattle.keyed_files.specs.Explained.{BreaksCount, ExplainsRow, ExplainsSigned, FitsCount, IsOutside, IsWrongCount};
+ghost use Rattle.keyed_files.specs.declared.fault.Reason.TheVariants.{NoSign};
 ghost use Rattle.keyed_files.specs.Headers.{ArePlaces, HeaderOf, cells_before, place_under};
 ghost use Rattle.keyed_files.specs.Lines.{checked_left, lines_left};
 ghost use Rattle.keyed_files.specs.Names.{renamed};
@@ -145,6 +147,7 @@ impl<R: Read + Drop> Source<R> {
         ensures gives { IfOk result (λ row. GivesRecord R.remaining self.old self.new (is_some row)) }
         ensures header { self.new.header ≡ self.old.header }
         ensures picked { IfOk result (λ row. IfSome row (IsPicked places.now (last_record self.new))) }
+        ensures why { IfErr result (ExplainsRow self.new) }
     {
         if self.read_record()? {
             let line = self.row_line();
@@ -164,6 +167,7 @@ impl<R: Read + Drop> Source<R> {
         ensures gives { IfOk result (λ row. GivesRecord R.remaining self.old self.new (is_some row)) }
         ensures header { self.new.header ≡ self.old.header }
         ensures picked { IfOk result (λ row. IfSome row (IsSigned places.now (last_record self.new))) }
+        ensures why { IfErr result (ExplainsSigned self.new) }
     {
         if self.read_record()? {
             let line = self.row_line();
@@ -189,6 +193,7 @@ impl<R: Read + Drop> Source<R> {
     fn read_record(&mut self) -> Result<bool, Reason>
         ensures gives { IfOk result (GivesRecord R.remaining self.old self.new) }
         ensures header { self.new.header ≡ self.old.header }
+        ensures why { IfErr result (ExplainsRow self.new) }
     {
         match self.next {
             Next::Kept => {
@@ -204,6 +209,7 @@ impl<R: Read + Drop> Source<R> {
     fn read_next(&mut self) -> Result<bool, Reason>
         ensures gives { IfOk result (λ found. self.old.next ≡ Read → GivesRecord R.remaining self.old self.new found) }
         ensures header { self.new.header ≡ self.old.header }
+        ensures why { IfErr result (ExplainsRow self.new) }
     {
         self.reader.get_ref().lines().begin_row();
         let found = read_record(&mut self.reader, &mut self.last)?;
@@ -216,27 +222,47 @@ impl<R: Read + Drop> Source<R> {
     }
 
     // Tells that the row has as many cells as it may.
-    fn check_count(&self) -> Result<(), Reason> {
-        let found = self.last.len();
-        let may_have = match self.lengths {
-            Lengths::Equal => found == self.count,
-            Lengths::Ragged => found <= self.count || self.is_empty_from(self.count),
-        };
-        if may_have {
+    fn check_count(&self) -> Result<(), Reason>
+        ensures fits { OnOk result (FitsCount self.now.lengths self.now.count (last_record self.now)) }
+        ensures why { IfErr result (IsWrongCount self.now) }
+    {
+        if fits_count(self.lengths, self.count, &self.last) {
             Ok(())
         } else {
             Err(Reason::CellCount {
                 line: self.row_line(),
                 expected: self.count as u64,
-                found: found as u64,
+                found: self.last.len() as u64,
             })
         }
     }
+}
 
-    // Whether all cells of the row are empty from a place on.
-    fn is_empty_from(&self, place: usize) -> bool {
-        self.last.iter().skip(place).all(|cell| cell.is_empty())
+// Whether a row has as many cells as it may have, where the first one has so many.
+fn fits_count(lengths: Lengths, count: usize, row: &ByteRecord) -> bool
+    ensures { MatchBool result (FitsCount lengths count (fields_of row.now))
+        (BreaksCount lengths count (fields_of row.now)) }
+{
+    match lengths {
+        Lengths::Equal => row.len() == count,
+        Lengths::Ragged => match filled_from(row, count) {
+            Some(_) => false,
+            None => true,
+        },
     }
+}
+
+// The first place from this one on where a row has a cell that is not empty, if there is one.
+fn filled_from(row: &ByteRecord, place: usize) -> Option<usize>
+    ensures none { IsNone result → (at : ℕ) → place ≤ at → cell_at (fields_of row.now) (Some at) ≡ [] }
+    ensures some { IfSome result (λ at. (place ≤ at) × (cell_at (fields_of row.now) (Some at) ≢ [])) }
+{
+    for at in place..row.len() {
+        if !cell_of(row, Some(at)).is_empty() {
+            return Some(at);
+        }
+    }
+    None
 }
 
 // How many cells stand before those of the columns: one of changes, for the sign.
@@ -326,7 +352,8 @@ fn read_record<R: Read>(
     reader: &mut RowReader<Checked<R>>,
     row: &mut ByteRecord,
 ) -> Result<bool, Reason>
-    ensures { IfOk result (λ found. GivesRow (checked_left R.remaining) reader.old reader.new found (fields_of row.new)) }
+    ensures gives { IfOk result (λ found. GivesRow (checked_left R.remaining) reader.old reader.new found (fields_of row.new)) }
+    ensures why { IfErr result IsOutside }
 {
     let outcome = reader.read_row(row);
     let checked = reader.get_ref();
@@ -334,12 +361,17 @@ fn read_record<R: Read>(
         let line = checked.lines().row_line();
         return Err(Reason::Quotes { line, fault });
     }
-    Ok(outcome?)
+    match outcome {
+        Ok(found) => Ok(found),
+        Err(error) => Err(Reason::of_reading(error)),
+    }
 }
 
 // The sign that the first cell of a record on this line is.
 fn sign_of(line: u64, row: &ByteRecord) -> Result<Sign, Reason>
-    ensures { IfOk result (λ sign. field_at (fields_of row.now) 0 ≡ Some (shown_sign sign)) }
+    ensures sign { IfOk result (λ sign. field_at (fields_of row.now) 0 ≡ Some (shown_sign sign)) }
+    ensures why { IfErr result (λ reason. (reason ≡ NoSign line)
+        × (field_at (fields_of row.now) 0 ≢ Some (45 ∷ [])) × (field_at (fields_of row.now) 0 ≢ Some (43 ∷ []))) }
 {
     match row.get(0) {
         Some(cell) => match Sign::of_cell(cell) {

@@ -7,8 +7,8 @@ use Rattle.keyed_files.proofs.source.Source.read_next.Goals as goal
 pub returns-clause-gives : goal.returns-clause-gives
 returns-clause-gives g c = λ was. elim c.if-found.branch [
   | then-found+in_ok-check_count w ↦
-      gives-next g.R.Read.remaining c.args.self.now c.if-found.self c.in_ok-found.found was (λ _. rw w.self-is was) (rw w.self-is c.in_ok-found.ensures)
+      gives-next g.R.Read.remaining c.args.self.now c.if-found.self c.in_ok-found.found was (λ _. rw w.self-is was) (rw w.self-is c.in_ok-found.ensures.gives)
   | else-found w ↦
       let none : c.in_ok-found.found ≡ true → c.if-found.self.next ≡ next.Read = λ found. absurd (cc (sym w.if-found.false ∙ found)) in
-      gives-next g.R.Read.remaining c.args.self.now c.if-found.self c.in_ok-found.found was none (rw w.self-is c.in_ok-found.ensures)
+      gives-next g.R.Read.remaining c.args.self.now c.if-found.self c.in_ok-found.found was none (rw w.self-is c.in_ok-found.ensures.gives)
 ]
