@@ -1,4 +1,4 @@
-//! Pairs of containers that were collected: what a look-up, a walk or a count of one answers, by the list that was collected, and what a
+//! Pairs of containers that were collected: what a look-up, an iterator or a count of one returns, by the list that was collected, and what a
 //! pair that is collected again keeps.
 ghost use Rattle.std.specs.Prelude.{◌≡◌, IfOk, ◌↔◌, ℕ, Some, None, IfSome, IsTrue, nat_eq, false};
 ghost use Rattle.std.specs.Prelude.{slice_get, []};
@@ -47,7 +47,7 @@ pub fn left_queue<T: Drop>(
     }
 }
 
-/// In a hashed map `get` answers the value at the key's last place.
+/// In a hashed map `get` returns the value at the key's last place.
 pub fn get_from_hash_map<K: Hash + Eq + Drop, V: Copy + Drop, W: Drop>(
     alloc: Global,
     entries: Vec<EitherOrBoth<(K, V), (K, W)>>,
@@ -98,7 +98,7 @@ pub fn get_from_btree_map(
     }
 }
 
-/// The walk of a map in the order of its keys rises, and each key has its last value.
+/// The iterator of a map gives strictly increasing keys, and each key has its last value.
 pub fn rising_entries(
     alloc: Global,
     entries: Vec<EitherOrBoth<(u8, char), (u8, bool)>>,
@@ -184,7 +184,7 @@ pub fn btree_set_contains(
     }
 }
 
-/// The values of a set in the order of insertion, walked: of two of them the one that came first stands first, and they are the values
+/// The values of a set in the order of insertion, iterated over: of two of them the one that came first stands first, and they are the values
 /// that came.
 pub fn values_in_order(
     alloc: Global,
@@ -211,7 +211,7 @@ pub fn left_alone_stands(alloc: Global, values: Vec<Either<u8, char>>) -> Result
     Ok(pair.is_left())
 }
 
-/// A pair that was collected and is collected again answers `get` as before.
+/// A pair that was collected and is collected again has the same `get` as before.
 pub fn get_after_recollecting(
     alloc: Global,
     entries: Vec<EitherOrBoth<(u8, char), (u8, bool)>>,

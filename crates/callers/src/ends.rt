@@ -1,4 +1,4 @@
-//! Walks that are taken from both ends: what each call answers, over vectors, slices, queues, ranges and walks, and what a walk that is
+//! Iterators taken from both ends: what each call returns, over vectors, slices, queues, ranges and iterators, and what an iterator that is
 //! taken apart gives.
 ghost use Rattle.std.specs.Prelude.{◌≡◌, ◌++◌, map, reverse, IfOk};
 ghost use Rattle.std.specs.List.{range_with_len};
@@ -31,7 +31,7 @@ pub fn two_vectors<T: Drop, U: Drop>(
     drive_swap_owned(alloc, EitherOrBoth::Both(a, b), ends)
 }
 
-/// Two slices: the answers hold references, read by what they point to.
+/// Two slices: the results hold references, read by what they point to.
 pub fn two_slices<'a, T, U>(
     alloc: Global,
     a: &'a [T],

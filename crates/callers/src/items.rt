@@ -1,4 +1,4 @@
-//! The walks over the values of both enums, and over the held side of an `Either`.
+//! The iterators over the values of both enums, and over the held side of an `Either`.
 ghost use Rattle.std.specs.Prelude.{◌≡◌, IfOk, [], ◌∷◌, drop, length, map};
 ghost use Rattle.either_or_both.specs.Values.{values_of};
 ghost use Rattle.either_or_both.specs.Either.{held, MatchPlaces};
@@ -15,7 +15,7 @@ pub fn values_reversed<T: Drop>(alloc: Global, v: EitherOrBoth<T, T>) -> Result<
     v.into_iter().rev().collect(alloc)
 }
 
-/// How many there are, before the walk begins.
+/// How many there are, before the iterator begins.
 pub fn values_measured<T: Drop>(v: &mut EitherOrBoth<T, T>) -> usize
     ensures { result ≡ length (values_of v.old) }
 {
@@ -29,7 +29,7 @@ pub fn values_copied(alloc: Global, v: &EitherOrBoth<u8, u8>) -> Result<Vec<u8>,
     v.iter().copied().collect(alloc)
 }
 
-/// What a clone of a walk that has begun has still to give.
+/// What a clone of an iterator that has begun has still to give.
 pub fn cloned_rest(alloc: Global, v: EitherOrBoth<u8, u8>) -> Result<Vec<u8>, AllocError>
     ensures { IfOk result (λ xs. xs.items ≡ drop 1 (values_of v)) }
 {

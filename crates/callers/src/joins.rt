@@ -118,7 +118,7 @@ pub fn with_itself<K: Ord + Drop, V: Drop>(
     Ok(outer_join(alloc, table, copy)?)
 }
 
-/// A group join of tables that rise, and so are ordered.
+/// A group join of tables with strictly increasing keys, which so are ordered.
 pub fn group_rising<K: Ord + Drop, A: Drop, B: Drop>(
     alloc: Global,
     left: Vec<(K, A)>,

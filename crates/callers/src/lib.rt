@@ -1,6 +1,6 @@
 //! Small callers that are proved from the contracts of the libraries alone, a module for each subject: one for each kind of clause that a
 //! caller rests on, and one for each law that callers need. None has a proof of its own, but for loops: a loop has an invariant, which
-//! only its author can choose, and rows of a join that are taken one by one want a short answer too (`rows`). Recipes for a user stand in
+//! only its author can choose, and rows of a join that are taken one by one want a short proof too (`rows`). Recipes for a user stand in
 //! the crate `recipes`; what one of them shows has no caller here.
 #![tactic(auto)]
 

@@ -18,7 +18,7 @@ pub fn feed<T: Hash, H: Hasher>(value: &T, state: &mut H)
     value.hash(state);
 }
 
-/// `cmp` answers Equal exactly where the values are equal.
+/// `cmp` returns Equal exactly where the values are equal.
 pub fn tied_where_equal<L: Ord, R: Ord>(
     a: &EitherOrBoth<L, R>,
     b: &EitherOrBoth<L, R>,

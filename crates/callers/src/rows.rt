@@ -1,5 +1,5 @@
 //! Joins of two slices, and of two maps, that stay as they are, row by row: collected, counted, looked for, and taken by a loop. What a
-//! caller makes of all rows that were taken one by one wants a short answer beside a loop's invariant, since the search does not find that
+//! caller makes of all rows that were taken one by one wants a short proof beside a loop's invariant, since the search does not find that
 //! the rows which came are all of the join: each such caller has one under `proofs/rows`.
 ghost use Rattle.std.specs.Prelude.{◌≡◌, ◌+◌, ◌<◌, ◌≤◌, ◌^◌, IfOk, IfSome, length, map};
 ghost use Rattle.std.specs.Ordering.{nat_cmp};

@@ -47,7 +47,7 @@ fn rows_of<K: Ord + Drop>(
         .collect(alloc)
 }
 
-/// The keys of what is kept of a join rise, so that it may be joined again.
+/// The keys of what is kept of a join are strictly increasing, so that it may be joined again.
 pub fn kept_rises<K: Ord + Drop>(
     alloc: Global,
     left: Vec<(K, u32)>,

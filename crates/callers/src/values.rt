@@ -13,7 +13,7 @@ pub fn flip_twice<L, R>(v: EitherOrBoth<L, R>) -> EitherOrBoth<L, R>
     v.flip().flip()
 }
 
-/// A test with closures answers by the closure where it calls one.
+/// A test with closures returns what the closure returns, where it calls one.
 pub fn is_small(v: EitherOrBoth<u8, u8>) -> bool
     ensures { IsTrue result ↔ MatchPlaces v (λ _ _. Unit {0}) (λ l. l < 10) (λ r. r < 20) }
 {
@@ -61,7 +61,7 @@ pub fn in_turn(v: EitherOrBoth<u8, u8>) -> u32
     acc
 }
 
-/// A map by a closure of the caller's, which is handed on.
+/// A map by a closure of the caller's, which is given to the call.
 pub fn map_by<T, U, F: Fn(T) -> U + Drop>(v: EitherOrBoth<T, T>, f: F) -> EitherOrBoth<U, U>
     requires { F.IsAlwaysCallable f }
     ensures left { MapsPlace (F.post f) (left_place v) (left_place result) }
@@ -70,7 +70,7 @@ pub fn map_by<T, U, F: Fn(T) -> U + Drop>(v: EitherOrBoth<T, T>, f: F) -> Either
     v.map(f)
 }
 
-/// A left value where there is one, else 0: the test gives what the unwrap asks for.
+/// A left value where there is one, else 0: the test gives what the unwrap requires.
 pub fn left_or_zero(v: Either<u8, char>) -> u8
     ensures { result ≡ unwrap_or (either.left_place v) 0 }
 {

@@ -1,4 +1,4 @@
-//! The paired walk and the chain, taken from the front: the list that each gives, and what two lists side by side have in common with
+//! The paired iterator and the chain, taken from the front: the list that each gives, and what two lists side by side have in common with
 //! their mirror and with lists nested another way. The loop has an invariant, which only its author can choose.
 ghost use Rattle.std.specs.Prelude.{◌≡◌, ◌++◌, ◌%◌, ◌==◌, max, [], map, filter, length, slice_get, IfOk};
 ghost use Rattle.std.specs.Map.Iter.{deref};
@@ -120,7 +120,7 @@ pub fn by_a_loop<T: Drop, U: Drop>(
     Ok(items)
 }
 
-/// The paired walk over any two iterators.
+/// The paired iterator over any two iterators.
 pub fn walk_of_both<L: Iterator, R: Iterator>(left: L, right: R) -> SwapIterEitherOrBoth<L, R>
     ensures { SwapsRuns (λ l s. s ≡ l) (λ r t. t ≡ r)
         L.next_gives R.next_gives (EitherOrBoth.Both left right) result }
@@ -185,7 +185,7 @@ fn nested_to_right<A: Drop, B: Drop, C: Drop>(
         .collect(alloc)
 }
 
-/// Three lists side by side, nested to the right, known by the walk that is nested to the left.
+/// Three lists side by side, nested to the right, known by the iterator that is nested to the left.
 pub fn three_side_by_side<A: Drop, B: Drop, C: Drop>(
     alloc: Global,
     first: Vec<A>,

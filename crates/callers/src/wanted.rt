@@ -1,4 +1,4 @@
-//! What people ask of a batch, of a pair that was collected, and of two lists, each proved with no proof file: counts that add up, a
+//! What people want of a batch, of a pair that was collected, and of two lists, each proved with no proof file: counts that add up, a
 //! pair taken apart, and the first difference.
 ghost use Rattle.std.specs.Prelude.{◌≡◌, ◌+◌, ◌^◌, ◌<◌};
 ghost use Rattle.either_or_both.specs.Either as either;

@@ -44,7 +44,7 @@ pub fn write_in_turn(v: &mut EitherOrBoth<u8, char>)
     }
 }
 
-/// The right value of an `Either` is written, in a function that gives up where there is none.
+/// The right value of an `Either` is written, in a function that returns where there is none.
 pub fn write_right(v: &mut Either<u8, char>, new: char) -> Option<()>
     ensures left { either.left_place v.new ≡ either.left_place v.old }
     ensures right { either.right_place v.new ≡ option_map (λ _. new) (either.right_place v.old) }

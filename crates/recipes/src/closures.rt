@@ -1,14 +1,14 @@
-//! A closure of the caller's, handed on to a call of ours: what a generic function asks of it.
+//! A closure of the caller's, given to a call of ours: what a generic function requires of it.
 //!
 //! Where the call takes an `FnOnce` or an `Fn`, it is enough that the closure may be called on the values that are there. An `FnMut`
-//! may be called twice, and its second call is made on what the first one left: so it is asked that it may be called in every
+//! may be called twice, and its second call is made on what the first one left: so the caller proves that it can be called in every
 //! state. A test inside a closure stands in a function of its own, whose contract is then all that a proof needs of it.
 ghost use Rattle.std.specs.Prelude.{◌≡◌};
 ghost use Rattle.either_or_both.specs.Prelude.{ForSome, MapsPlace, left_place, right_place};
 
 use either_or_both::EitherOrBoth;
 
-/// Maps the left value by an `FnOnce`, which is owed where there is one.
+/// Maps the left value by an `FnOnce`, which can be called where there is one.
 pub fn map_left_by<L, R, T, F: FnOnce(L) -> T + Drop>(
     pair: EitherOrBoth<L, R>,
     f: F,

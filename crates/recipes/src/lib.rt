@@ -1,5 +1,5 @@
 //! `recipes`: what a program does with both enums. Each recipe is a file of a few lines under a contract that says what is wanted
-//! of it; none has a proof of its own. `test_recipes` has an answer of each.
+//! of it; none has a proof of its own. `test_recipes` has a result of each.
 #![tactic(auto)]
 
 pub mod batch;

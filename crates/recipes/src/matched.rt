@@ -1,5 +1,5 @@
-//! Articles with their stock and their suppliers: each answer is two joins, of which the second goes over the rows of the first. That
-//! these rise, the first says.
+//! Articles with their stock and their suppliers: each result is two joins, of which the second goes over the rows of the first. That
+//! these are strictly increasing, the first says.
 ghost use Rattle.std.specs.Prelude.{◌≡◌};
 ghost use Rattle.either_or_both.specs.Prelude.{IfOk, Rising, option_map, option_zip, value_under};
 ghost use Rattle.std.specs.Option.{option_and};
@@ -46,7 +46,7 @@ pub fn on_sale<K: Ord + Drop, A: Drop, W: Drop>(
     Ok(rows)
 }
 
-/// What was counted of what is asked for: each number, with its article where there is one.
+/// What was counted of what is wanted: each number, with its article where there is one.
 pub fn counted<K: Ord + Drop, A: Drop, W: Drop>(
     alloc: Global,
     articles: Vec<(K, A)>,

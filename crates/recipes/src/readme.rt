@@ -58,7 +58,7 @@ pub fn side_by_side<T: Drop, U: Drop>(
         .collect(alloc)
 }
 
-/// The same of two lists that may come in any order: None where the keys of one do not rise.
+/// The same of two lists that may come in any order: None where the keys of one are not strictly increasing.
 pub fn joined_if_rising<K: Ord + Drop, A: Drop, B: Drop>(
     alloc: Global,
     left: Vec<(K, A)>,
