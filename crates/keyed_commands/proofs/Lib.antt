@@ -4,3 +4,5 @@ pub mod ComeLemmas
 pub mod KeyLemmas
 pub mod LawLemmas
 pub mod ReadLemmas
+pub mod SignedLemmas
+pub mod TextAnswerLemmas

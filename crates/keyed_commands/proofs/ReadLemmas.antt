@@ -33,12 +33,12 @@ status-between changes before after old new status e h =
     (ap (λ p. has_lone p.0 p.1 || has_lone p.1 p.0) e) h
 
 -- the names by which columns are read, from those of the header
-are-names : {R A : Type 0} (key : Option A) (old new : Source R) → IsRenamed key old new → AreNames key old.header.names new.header.names
+pub are-names : {R A : Type 0} (key : Option A) (old new : Source R) → IsRenamed key old new → AreNames key old.header.names new.header.names
 are-names None old new same = ap (λ source. source.header.names) same
 are-names (Some key) old new renamed = (renamed.0, renamed.1, renamed.3)
 
 -- what holds of two texts that are known
-both-known : {P Q : List ℕ → Type 0} {T : List ℕ → List ℕ → Type 0} (m n : Option (List ℕ)) → IfSome m P → IfSome n Q
+pub both-known : {P Q : List ℕ → Type 0} {T : List ℕ → List ℕ → Type 0} (m n : Option (List ℕ)) → IfSome m P → IfSome n Q
     → ((t u : List ℕ) → P t → Q u → T t u) → IfSome m (λ t. IfSome n (λ u. T t u))
 both-known None n p q f = tt
 both-known (Some t) None p q f = tt

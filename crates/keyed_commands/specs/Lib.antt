@@ -1,7 +1,10 @@
 pub mod Answers
+pub mod AppliedTexts
 pub mod ChangeRows
+pub mod ChangesRead
 pub mod ComeOut
 pub mod Keys
 pub mod Laws
 pub mod Lost
+pub mod MergedTexts
 pub mod TablesRead

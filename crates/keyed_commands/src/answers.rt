@@ -1,11 +1,13 @@
 //! The answer to each request, of streams.
 //!
 //! Each has three steps: its headers are read, then the rows under its columns, and then the tables are answered.
-ghost use Rattle.std.specs.Prelude.{◌≡◌, ◌↔◌, IfOk, None, is_none, length};
+ghost use Rattle.std.specs.Prelude.{◌≡◌, ◌↔◌, IfOk, None, OnOk, is_none, length};
 ghost use Rattle.keyed_files.specs.declared.request.Format.TheVariants.{Csv};
 ghost use Rattle.keyed_tables.specs.Arranged.{noted};
 ghost use Rattle.keyed_commands.specs.Answers.{ChangesComeOut, IsDiffStatus};
-ghost use Rattle.keyed_commands.specs.TablesRead.{DiffsSources, DiffsStreams};
+ghost use Rattle.keyed_commands.specs.AppliedTexts.{AppliesSources, AppliesStreams, IsInStyle, watched_left};
+ghost use Rattle.keyed_commands.specs.MergedTexts.{AnswersBy, IsReported, MergesSources, MergesStreams};
+ghost use Rattle.keyed_commands.specs.TablesRead.{DiffsSources, DiffsStreams, IsUnordered, ReadsTable};
 
 use crate::by_number::{changed_by_number, settled_by_number};
 use crate::changed::{changes_shown, diff_as_csv, diff_status};
@@ -189,8 +191,11 @@ pub fn apply<'a, R: Read + Drop>(
     settings: Settings<'a>,
     old: Stream<'a, R>,
     changes: Stream<'a, R>,
-) -> Result<Answer, Fault<'a>> {
-    let (old, changes) = (watch(settings.form, old), watch(settings.form, changes));
+) -> Result<Answer, Fault<'a>>
+    ensures { IfOk result (AppliesStreams R.remaining settings.entry old.entry changes.entry) }
+{
+    let old = watch(settings.form, old);
+    let changes = watch(settings.form, changes);
     let mut inputs = Two::new(alloc, settings.form, Content::Changes, old, changes)?;
     inputs.first.rename(alloc, settings)?;
     let columns = inputs.changed_columns(alloc, settings.key)?;
@@ -200,8 +205,11 @@ pub fn apply<'a, R: Read + Drop>(
 fn apply_files<'a, R: Read + Drop>(
     mut job: Job<'_, Columns>,
     inputs: &mut Two<'a, Watched<R>>,
-) -> Result<Answer, Fault<'a>> {
-    let (old, changes) = job.read_to_change(inputs)?;
+) -> Result<Answer, Fault<'a>>
+    ensures { IfOk result (AppliesSources (watched_left R.remaining) job.entry inputs.old) }
+{
+    let tables = job.read_to_change(inputs)?;
+    let (old, changes) = tables;
     let answer = at(inputs.next.file, apply_tables(&job, old, changes))?;
     as_written(job.alloc, &inputs.first, answer)
 }
@@ -211,7 +219,9 @@ fn as_written<'a, R: Read + Drop>(
     alloc: Global,
     table: &Opened<'a, Watched<R>>,
     answer: Answer,
-) -> Result<Answer, Fault<'a>> {
+) -> Result<Answer, Fault<'a>>
+    ensures { IfOk result (IsInStyle answer) }
+{
     let style = table.source.get_ref().style();
     at(table.file, style.write_answer(alloc, answer))
 }
@@ -229,9 +239,13 @@ pub fn merge<'a, R: Read + Drop>(
     base: Stream<'a, R>,
     ours: Stream<'a, R>,
     theirs: Stream<'a, R>,
-) -> Result<Answer, Fault<'a>> {
+) -> Result<Answer, Fault<'a>>
+    ensures { IfOk result (λ answer. IsReported how.entry →
+        MergesStreams R.remaining how.entry.unit settings.entry base.entry ours.entry theirs.entry answer) }
+{
     let base = watch(settings.form, base);
-    let (ours, theirs) = (watch(settings.form, ours), watch(settings.form, theirs));
+    let ours = watch(settings.form, ours);
+    let theirs = watch(settings.form, theirs);
     let mut base = Opened::new(alloc, settings.form, Content::Rows, base)?;
     let mut sides = Two::new(alloc, settings.form, Content::Rows, ours, theirs)?;
     base.rename(alloc, settings)?;
@@ -261,7 +275,10 @@ fn merge_files<'a, R: Read + Drop>(
     how: Merging<'_>,
     base: &mut Opened<'a, Watched<R>>,
     sides: &mut Two<'a, Watched<R>>,
-) -> Result<Answer, Fault<'a>> {
+) -> Result<Answer, Fault<'a>>
+    ensures { IfOk result (λ answer. IsReported how.entry →
+        MergesSources (watched_left R.remaining) how.entry.unit job.entry base.old sides.old answer) }
+{
     let versions = read_versions(&mut job, base, sides)?;
     let answer = at(sides.next.file, merge_tables(&job, how, versions))?;
     as_written(job.alloc, &sides.first, answer)
@@ -281,7 +298,16 @@ fn read_versions<'a, R: Read + Drop>(
     job: &mut Job<'_, Columns>,
     base: &mut Opened<'a, R>,
     sides: &mut Two<'a, R>,
-) -> Result<ThreeVersions, Fault<'a>> {
+) -> Result<ThreeVersions, Fault<'a>>
+    ensures base { IfOk result (λ read. ReadsTable R.remaining job.old.groups job.old.columns.now
+        base.old.source.value read.base.pairs.items) }
+    ensures ours { IfOk result (λ read. ReadsTable R.remaining job.old.groups job.old.columns.now
+        sides.old.first.source.value read.ours.pairs.items) }
+    ensures theirs { IfOk result (λ read. ReadsTable R.remaining job.old.groups job.old.columns.now
+        sides.old.next.source.value read.theirs.pairs.items) }
+    ensures same { job.new ≡ record job.old { order = job.new.order; row_order = job.new.row_order } }
+    ensures unordered { OnOk result (IsUnordered job.old → IsUnordered job.new) }
+{
     let (ours, theirs) = job.read_merged(sides)?;
     let base = job.unordered().read_table(job.columns, base)?;
     Ok(ThreeVersions { base, ours, theirs })
@@ -291,7 +317,11 @@ fn merge_tables(
     job: &Job<'_, Columns>,
     how: Merging<'_>,
     versions: ThreeVersions,
-) -> Result<Answer, Reason> {
+) -> Result<Answer, Reason>
+    ensures { IfOk result (λ answer. IsReported how.entry → AnswersBy job.now.form job.now.columns.now
+        (noted job.now.order) (is_none job.now.row_order.files)
+        versions.base.pairs.items versions.ours.pairs.items versions.theirs.pairs.items answer how.entry.unit) }
+{
     match how.tolerance {
         Some(tolerance) => merge_by_number(job, how, tolerance, versions),
         None => match how.conflicts {
@@ -347,7 +377,11 @@ fn merge_reported(
     job: &Job<'_, Columns>,
     unit: Unit,
     versions: ThreeVersions,
-) -> Result<Answer, Reason> {
+) -> Result<Answer, Reason>
+    ensures { IfOk result (λ answer. AnswersBy job.now.form job.now.columns.now
+        (noted job.now.order) (is_none job.now.row_order.files)
+        versions.base.pairs.items versions.ours.pairs.items versions.theirs.pairs.items answer unit) }
+{
     let ThreeVersions { base, ours, theirs } = versions;
     match unit {
         Unit::Row => merge_by_row(job, base, ours, theirs),

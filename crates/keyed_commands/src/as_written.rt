@@ -42,6 +42,7 @@ impl Style {
         ensures plain { is_plain self ≡ true → IfOk result (λ written. written ≡ answer) }
         ensures stopped { answer.outcome ≡ Stopped → IfOk result (λ written. written ≡ answer) }
         ensures status { IfOk result (λ written. written.status ≡ answer.status) }
+        ensures outcome { IfOk result (λ written. written.outcome ≡ answer.outcome) }
     {
         let Answer {
             bytes,

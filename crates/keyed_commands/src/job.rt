@@ -2,6 +2,7 @@
 ghost use Rattle.std.specs.Prelude.{◌≡◌, ◌++◌, ◌∷◌, [], IfOk, None, OnOk, false, is_none, true};
 ghost use Rattle.keyed_files.specs.Reading.{ReadsRest, ReadsRows};
 ghost use Rattle.keyed_tables.specs.Arranged.{IsNoted, noted};
+ghost use Rattle.keyed_commands.specs.ChangesRead.{PairsRows, PartsChanges, PartsRest, ReadsChanges, come_by, gone_by};
 ghost use Rattle.keyed_commands.specs.TablesRead.{Gathers, IsUnordered, ReadsTable};
 
 use crate::row_order::RowOrder;
@@ -67,7 +68,10 @@ impl<'c, C> Job<'c, C> {
     }
 
     /// The same job on a table whose rows do not come out.
-    pub fn unordered(&self) -> Self {
+    pub fn unordered(&self) -> Self
+        ensures groups { result.groups ≡ self.now.groups }
+        ensures columns { result.columns.now ≡ self.now.columns.now }
+    {
         Job {
             alloc: self.alloc,
             form: self.form,
@@ -113,6 +117,7 @@ impl<'c, C> Job<'c, C> {
         ensures table { IfOk result (λ rows.
             ReadsTable R.remaining self.old.groups columns.now table.old.source.value rows.pairs.items) }
         ensures same { self.new ≡ record self.old { order = self.new.order; row_order = self.new.row_order } }
+        ensures unordered { OnOk result (IsUnordered self.old → IsUnordered self.new) }
     {
         let mut order = self.order.begun(self.alloc);
         let mut rows = Vec::new(self.alloc);
@@ -143,11 +148,32 @@ impl<'c, C> Job<'c, C> {
         }
     }
 
+    // The rows of changes by key, those that go beside those that come, which are noted in their order.
+    fn take_changes<'a>(
+        &mut self,
+        file: &'a str,
+        gone: Vec<ReadRow>,
+        come: Vec<ReadRow>,
+    ) -> Result<Changes, Fault<'a>>
+        ensures changes { IfOk result
+            (λ changes. PairsRows self.old.groups gone.items come.items changes.pairs.items) }
+        ensures same { self.new ≡ record self.old { row_order = self.new.row_order } }
+        ensures by_cells { is_none self.old.row_order.files ≡ true → is_none self.new.row_order.files ≡ true }
+    {
+        at(file, self.row_order.note_file(self.alloc, &gone))?;
+        at(file, self.row_order.note_file(self.alloc, &come))?;
+        at(file, self.pair(gone, come))
+    }
+
     // Rows that go and rows that come, by key.
-    fn pair(&self, gone: Vec<ReadRow>, come: Vec<ReadRow>) -> Result<Changes, Reason> {
-        let gone = self.gather(gone)?;
-        let come = self.gather(come)?;
-        Ok(paired(self.alloc, gone, come)?)
+    fn pair(&self, gone: Vec<ReadRow>, come: Vec<ReadRow>) -> Result<Changes, Reason>
+        ensures { IfOk result
+            (λ changes. PairsRows self.now.groups gone.items come.items changes.pairs.items) }
+    {
+        let gone_by_key = self.gather(gone)?;
+        let come_by_key = self.gather(come)?;
+        let changes = paired(self.alloc, gone_by_key, come_by_key)?;
+        Ok(changes)
     }
 }
 
@@ -207,6 +233,7 @@ impl Job<'_, Columns> {
         ensures theirs { IfOk result (λ pair. ReadsTable R.remaining self.old.groups self.old.columns.now
             sides.old.next.source.value pair.1.pairs.items) }
         ensures same { self.new ≡ record self.old { order = self.new.order; row_order = self.new.row_order } }
+        ensures unordered { OnOk result (IsUnordered self.old → IsUnordered self.new) }
     {
         let ours = self.read_table(self.columns, &mut sides.first)?;
         let theirs = self.read_beside(self.columns, &mut sides.next)?;
@@ -221,7 +248,14 @@ impl Job<'_, Columns> {
     pub fn read_to_change<'a, R: Read + Drop>(
         &mut self,
         inputs: &mut Two<'a, R>,
-    ) -> Result<(Table, Changes), Fault<'a>> {
+    ) -> Result<(Table, Changes), Fault<'a>>
+        ensures table { IfOk result (λ pair. ReadsTable R.remaining self.old.groups self.old.columns.now
+            inputs.old.first.source.value pair.0.pairs.items) }
+        ensures changes { IfOk result (λ pair. ReadsChanges R.remaining self.old.groups self.old.columns.now
+            inputs.old.next.source.value pair.1.pairs.items) }
+        ensures same { self.new ≡ record self.old { order = self.new.order; row_order = self.new.row_order } }
+        ensures unordered { OnOk result (IsUnordered self.old → IsUnordered self.new) }
+    {
         let rows = self.read_table(self.columns, &mut inputs.first)?;
         let changes = self.read_changes(&mut inputs.next)?;
         Ok((rows, changes))
@@ -231,14 +265,17 @@ impl Job<'_, Columns> {
     fn read_changes<'a, R: Read + Drop>(
         &mut self,
         changes: &mut Opened<'a, R>,
-    ) -> Result<Changes, Fault<'a>> {
+    ) -> Result<Changes, Fault<'a>>
+        ensures changes { IfOk result (λ read. ReadsChanges R.remaining self.old.groups self.old.columns.now
+            changes.old.source.value read.pairs.items) }
+        ensures same { self.new ≡ record self.old { order = self.new.order; row_order = self.new.row_order } }
+        ensures unordered { OnOk result (IsUnordered self.old → IsUnordered self.new) }
+    {
         let mut gone = Vec::new(self.alloc);
         let mut come = Vec::new(self.alloc);
         let outcome = read_signed(changes, self.columns, &mut self.order, &mut gone, &mut come);
         at(changes.file, outcome)?;
-        at(changes.file, self.row_order.note_file(self.alloc, &gone))?;
-        at(changes.file, self.row_order.note_file(self.alloc, &come))?;
-        at(changes.file, self.pair(gone, come))
+        self.take_changes(changes.file, gone, come)
     }
 
     /// Rows as CSV.
@@ -315,15 +352,36 @@ fn read_signed<R: Read + Drop>(
     order: &mut Order,
     gone: &mut Vec<ReadRow>,
     come: &mut Vec<ReadRow>,
-) -> Result<(), Reason> {
+) -> Result<(), Reason>
+    ensures read { OnOk result (PartsChanges R.remaining columns.now changes.old.source.value
+        gone.old.items gone.new.items come.old.items come.new.items) }
+    ensures unordered { OnOk result (noted order.old ≡ None → noted order.new ≡ None) }
+{
     let places = changes.source.places(columns)?;
+    read_signed_rest(&mut changes.source, &places, order, gone, come)?;
+    Ok(())
+}
+
+// Reads the changes that a source has left, behind those that are there. No input has more of them than a number counts.
+fn read_signed_rest<R: Read + Drop>(
+    source: &mut Source<R>,
+    places: &Places,
+    order: &mut Order,
+    gone: &mut Vec<ReadRow>,
+    come: &mut Vec<ReadRow>,
+) -> Result<(), Reason>
+    ensures read { OnOk result (PartsRest R.remaining places.now source.old
+        gone.old.items gone.new.items come.old.items come.new.items) }
+    ensures unordered { OnOk result (noted order.old ≡ None → noted order.new ≡ None) }
+    ensures header { source.new.header ≡ source.old.header }
+{
     for _ in 0..u64::MAX {
-        match changes.source.read_signed(&places)? {
+        match source.read_signed(places)? {
             Some(signed) => note_and_part(order, gone, come, signed)?,
-            None => break,
+            None => return Ok(()),
         }
     }
-    Ok(())
+    Err(Reason::NoMemory)
 }
 
 // Puts a row of changes behind those that go or those that come.
@@ -335,6 +393,8 @@ fn note_and_part(
 ) -> Result<(), AllocError>
     ensures noted { OnOk result
         (IsNoted ⟦<Key as Ord>⟧.cmp ⟦<Key as Eq>⟧.eq signed.row.key (noted order.old) (noted order.new)) }
+    ensures goes { OnOk result (gone.new.items ≡ gone.old.items ++ gone_by signed.sign signed.row) }
+    ensures comes { OnOk result (come.new.items ≡ come.old.items ++ come_by signed.sign signed.row) }
 {
     match signed.sign {
         Sign::Minus => note_and_push(order, gone, signed.row),

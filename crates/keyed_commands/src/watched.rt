@@ -1,4 +1,7 @@
 //! How a table is written, as far as it is read: what is noted of its bytes on their way to the reader of CSV.
+ghost use Rattle.std.specs.Prelude.{◌≡◌};
+ghost use Rattle.keyed_commands.specs.AppliedTexts.{watched_left};
+ghost use Rattle.keyed_files.specs.Opening.{form_of, text_of_stream};
 
 use crate::as_written::Style;
 use keyed_files::{Comment, Delimiter, Form, Stream};
@@ -175,7 +178,11 @@ fn first(bytes: &[u8], count: usize) -> &[u8] {
 }
 
 /// A table in this form that is read so that one knows how it is written.
-pub fn watch<'a, R>(form: Form, stream: Stream<'a, R>) -> Stream<'a, Watched<R>> {
+pub fn watch<'a, R: Read>(form: Form, stream: Stream<'a, R>) -> Stream<'a, Watched<R>>
+    ensures form { form_of form result ≡ form_of form stream.entry }
+    ensures text { text_of_stream (watched_left R.remaining) form result
+        ≡ text_of_stream R.remaining form stream.entry }
+{
     let Stream {
         file,
         delimiter,

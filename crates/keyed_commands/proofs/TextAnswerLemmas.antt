@@ -1,0 +1,114 @@
+-- From what `apply` and `merge` answer of sources to what they answer of texts.
+use Rattle.std.proofs.Common.{◌≡◌, ℕ, Bool, false, List, Option, None, Some, subst, sym}
+use Rattle.std.specs.Prelude.{IfSome}
+use Rattle.keyed_files.specs.Opening.{IsNamedAnew, IsOpened, form_of, text_of_stream}
+use Rattle.keyed_files.specs.Reading.{IsOpen}
+use Rattle.keyed_files.proofs.TableLemmas.{open-anew}
+use Rattle.keyed_files.specs.declared.merging.Unit.{Unit}
+use Rattle.keyed_files.specs.declared.opened.Opened.{Opened}
+use Rattle.keyed_files.specs.declared.opened.Stream.{Stream}
+use Rattle.keyed_files.specs.declared.opened.Two.{Two}
+use Rattle.keyed_files.specs.declared.columns.Columns.{Columns}
+use Rattle.keyed_files.specs.declared.request.Form.{Form}
+use Rattle.keyed_files.specs.declared.request.Settings.{Settings}
+use Rattle.keyed_files.specs.declared.source.Content.TheVariants.{Changes, Rows}
+use Rattle.keyed_commands.specs.AppliedTexts.{AnswersApplied, AppliedIn, AppliesSources, AppliesStreams, AppliesTexts}
+use Rattle.keyed_commands.specs.ChangesRead.{SaysChanges}
+use Rattle.keyed_commands.specs.MergedTexts.{AnswersBy, MergedIn, MergesSources, MergesStreams, MergesTexts}
+use Rattle.keyed_commands.specs.TablesRead.{IsUnordered, ReadsTable, SaysTable}
+use Rattle.keyed_commands.specs.declared.answers.Answer.{Answer}
+use Rattle.keyed_commands.specs.declared.job.Job.{Job}
+use Rattle.keyed_commands.proofs.ReadLemmas.{are-names, both-known}
+
+-- what holds of two texts, where these are known under other words
+pub two-alike : (T : Form → Form → List ℕ → List ℕ → Type 0) (m m2 n n2 : Option (List ℕ)) (f f2 h h2 : Form) → m2 ≡ m → n2 ≡ n → f2 ≡ f → h2 ≡ h
+    → IfSome m2 (λ t. IfSome n2 (λ u. T f2 h2 t u)) → IfSome m (λ t. IfSome n (λ u. T f h t u))
+two-alike T m m2 n n2 f f2 h h2 em en ef eh known =
+    subst (λ m. IfSome m (λ t. IfSome n (λ u. T f h t u))) em (subst (λ n. IfSome m2 (λ t. IfSome n (λ u. T f h t u))) en
+    (subst (λ f. IfSome m2 (λ t. IfSome n2 (λ u. T f h t u))) ef (subst (λ h. IfSome m2 (λ t. IfSome n2 (λ u. T f2 h t u))) eh known)))
+
+-- the same of three
+pub three-known : {P Q S : List ℕ → Type 0} {T : List ℕ → List ℕ → List ℕ → Type 0} (m n o : Option (List ℕ)) → IfSome m P → IfSome n Q → IfSome o S
+    → ((t u v : List ℕ) → P t → Q u → S v → T t u v) → IfSome m (λ t. IfSome n (λ u. IfSome o (λ v. T t u v)))
+three-known None n o p q s f = tt
+three-known (Some t) None o p q s f = tt
+three-known (Some t) (Some u) None p q s f = tt
+three-known (Some t) (Some u) (Some v) p q s f = f t u v p q s
+
+pub three-alike : (T : Form → Form → Form → List ℕ → List ℕ → List ℕ → Type 0) (m m2 n n2 o o2 : Option (List ℕ)) (f f2 h h2 k k2 : Form)
+    → m2 ≡ m → n2 ≡ n → o2 ≡ o → f2 ≡ f → h2 ≡ h → k2 ≡ k
+    → IfSome m2 (λ t. IfSome n2 (λ u. IfSome o2 (λ v. T f2 h2 k2 t u v))) → IfSome m (λ t. IfSome n (λ u. IfSome o (λ v. T f h k t u v)))
+three-alike T m m2 n n2 o o2 f f2 h h2 k k2 em en eo ef eh ek known =
+    subst (λ m. IfSome m (λ t. IfSome n (λ u. IfSome o (λ v. T f h k t u v)))) em
+    (subst (λ n. IfSome m2 (λ t. IfSome n (λ u. IfSome o (λ v. T f h k t u v)))) en
+    (subst (λ o. IfSome m2 (λ t. IfSome n2 (λ u. IfSome o (λ v. T f h k t u v)))) eo
+    (subst (λ f. IfSome m2 (λ t. IfSome n2 (λ u. IfSome o2 (λ v. T f h k t u v)))) ef
+    (subst (λ h. IfSome m2 (λ t. IfSome n2 (λ u. IfSome o2 (λ v. T f2 h k t u v)))) eh
+    (subst (λ k. IfSome m2 (λ t. IfSome n2 (λ u. IfSome o2 (λ v. T f2 h2 k t u v)))) ek known)))))
+
+-- the text of a source whose columns have other names says the table that is read of it
+says : {R : Type 0} (rem : R → Option (List ℕ)) (settings : Settings) (job : Job Columns) (form : Form) (text : List ℕ) (header : List (List ℕ))
+    (named : Opened R) (table : _) → job.groups ≡ settings.groups → ReadsTable rem job.groups job.columns.now named.source.value table
+    → IsOpen form Rows rem text header named.source.value → SaysTable form Rows settings.groups text header named.source.value.header.names job.columns.now table
+says rem settings job form text header named table groups read begun =
+    subst (λ g. SaysTable form Rows g text header named.source.value.header.names job.columns.now table) groups (read form Rows text header begun)
+
+-- two streams of a table and of changes, of their texts
+module _ {R : Type 0} (rem : R → Option (List ℕ)) (settings : Settings) (old changes : Stream R) (inputs named : Two R) (job : Job Columns) (answer : Answer) where
+  pub apply-streams : IsOpened rem settings.form Rows old inputs.first → IsOpened rem settings.form Changes changes inputs.next
+      → IsNamedAnew settings inputs.first.source.value named.first.source.value → named.next ≡ inputs.next
+      → job.form ≡ settings.form → job.groups ≡ settings.groups → (settings.keeps_order ≡ false → IsUnordered job)
+      → AppliesSources rem job named answer → AppliesStreams rem settings old changes answer
+  apply-streams first next renamed same form groups unordered read =
+      both-known {T = λ t u. AppliesTexts settings (form_of settings.form old) (form_of settings.form changes) t u answer} _ _ first next (λ t u opened beside. record {
+        columns = job.columns.now;
+        header = inputs.first.source.value.header.names;
+        names = named.first.source.value.header.names;
+        changes_header = named.next.source.value.header.names;
+        named = (renamed.0.header.names, are-names settings.key _ renamed.0 renamed.1, are-names settings.renames renamed.0 _ renamed.2);
+        old = read.old;
+        changes = read.changes;
+        old_says = says rem settings job _ t _ named.first read.old groups read.old_read (open-anew rem settings _ _ t _ _ named.first.source.value renamed opened);
+        changes_say = subst (λ g. SaysChanges (form_of settings.form changes) g u named.next.source.value.header.names named.next.source.value.header.names job.columns.now read.changes)
+            groups (read.changes_read _ u _ (subst (λ two. IsOpen (form_of settings.form changes) Changes rem u two.source.value.header.names two.source.value) (sym same) beside));
+        applied = record {
+          keys = read.applied.keys;
+          by_cells = read.applied.by_cells;
+          made = read.applied.made;
+          applied = subst (λ f. AnswersApplied f job.columns.now read.applied.keys read.applied.by_cells read.old read.changes read.applied.made) form read.applied.applied;
+          styled = read.applied.styled;
+          order = λ by_key. read.applied.order (unordered by_key);
+        };
+      })
+
+-- three streams of versions of a table, of their texts
+module _ {R : Type 0} (rem : R → Option (List ℕ)) (by : Unit) (settings : Settings) (base ours theirs : Stream R) (opened named : Opened R) (sides : Two R) (job : Job Columns)
+    (answer : Answer) where
+  pub merge-streams : IsOpened rem settings.form Rows base opened → IsOpened rem settings.form Rows ours sides.first → IsOpened rem settings.form Rows theirs sides.next
+      → IsNamedAnew settings opened.source.value named.source.value
+      → job.form ≡ settings.form → job.groups ≡ settings.groups → (settings.keeps_order ≡ false → IsUnordered job)
+      → MergesSources rem by job named sides answer → MergesStreams rem by settings base ours theirs answer
+  merge-streams first second third renamed form groups unordered read =
+      three-known {T = λ t u v. MergesTexts by settings (form_of settings.form base) (form_of settings.form ours) (form_of settings.form theirs) t u v answer}
+      _ _ _ first second third (λ t u v one two three. record {
+        columns = job.columns.now;
+        header = opened.source.value.header.names;
+        names = named.source.value.header.names;
+        ours_header = sides.first.source.value.header.names;
+        theirs_header = sides.next.source.value.header.names;
+        named = (renamed.0.header.names, are-names settings.key _ renamed.0 renamed.1, are-names settings.renames renamed.0 _ renamed.2);
+        base = read.base;
+        ours = read.ours;
+        theirs = read.theirs;
+        base_says = says rem settings job _ t _ named read.base groups read.base_read (open-anew rem settings _ _ t _ _ named.source.value renamed one);
+        ours_say = says rem settings job _ u _ sides.first read.ours groups read.ours_read two;
+        theirs_say = says rem settings job _ v _ sides.next read.theirs groups read.theirs_read three;
+        merged = record {
+          keys = read.merged.keys;
+          by_cells = read.merged.by_cells;
+          made = read.merged.made;
+          merged = subst (λ f. AnswersBy f job.columns.now read.merged.keys read.merged.by_cells read.base read.ours read.theirs read.merged.made by) form read.merged.merged;
+          styled = read.merged.styled;
+          order = λ by_key. read.merged.order (unordered by_key);
+        };
+      })

@@ -1,0 +1,32 @@
+use Rattle.std.proofs.Common.{subst}
+use Rattle.std.specs.Prelude.{is_none}
+use Rattle.std.proofs.lemmas.Result.{IfOk-weaker}
+use Rattle.keyed_tables.specs.Arranged.{noted}
+use Rattle.keyed_commands.specs.MergedTexts.{AnswersBy}
+use Rattle.keyed_commands.proofs.answers.merge_files.Goals as goal
+
+pub returns : goal.returns
+returns g c =
+    let versions = c.in_ok-versions.versions in
+    let job = c.read_versions.new.job in
+    let read = c.in_ok-versions.ensures in
+    let made = c.in_ok-answer.answer in
+    IfOk-weaker c.as_written.result _ _
+    (λ answer styled reported. record {
+      base = versions.base.pairs.items;
+      ours = versions.ours.pairs.items;
+      theirs = versions.theirs.pairs.items;
+      base_read = read.base;
+      ours_read = read.ours;
+      theirs_read = read.theirs;
+      merged = record {
+        keys = noted job.order;
+        by_cells = is_none job.row_order.files;
+        made = made;
+        merged = subst (λ j. AnswersBy j.form j.columns.now (noted job.order) (is_none job.row_order.files)
+            versions.base.pairs.items versions.ours.pairs.items versions.theirs.pairs.items made c.args.how.unit)
+            read.same ((rw c.in_ok-answer.ensures at c.merge_tables.ensures) reported);
+        styled = styled;
+        order = λ unordered. let after = read.unordered unordered in (after.keys, after.rows);
+      };
+    }) c.as_written.ensures

@@ -1,0 +1,75 @@
+-- What `apply` answers of the texts of a table and of changes.
+use Rattle.std.specs.Prelude.{◌≡◌, ℕ, Bool, false, true, List, Option, None, IfSome, is_none}
+use Rattle.keyed_files.specs.Opening.{form_of, text_of_stream}
+use Rattle.keyed_files.specs.declared.columns.Columns.{Columns}
+use Rattle.keyed_files.specs.declared.opened.Stream.{Stream}
+use Rattle.keyed_files.specs.declared.opened.Two.{Two}
+use Rattle.keyed_files.specs.declared.request.Form.{Form}
+use Rattle.keyed_files.specs.declared.request.Settings.{Settings}
+use Rattle.keyed_files.specs.declared.source.Content.TheVariants.{Rows}
+use Rattle.keyed_commands.specs.Answers.{AllFit, AnswersPatched, Stops, TableChanges, TableRows, is_plain, key_cmp}
+use Rattle.keyed_commands.specs.ChangesRead.{ReadsChanges, SaysChanges}
+use Rattle.keyed_commands.specs.TablesRead.{AreNamesBy, IsUnordered, ReadsTable, SaysTable}
+use Rattle.keyed_commands.specs.declared.answers.Answer.{Answer}
+use Rattle.keyed_commands.specs.declared.answers.Outcome.TheVariants.{Stopped}
+use Rattle.keyed_commands.specs.declared.as_written.Style.{Style}
+use Rattle.keyed_commands.specs.declared.job.Job.{Job}
+use Rattle.keyed_commands.specs.declared.watched.Watched.{Watched}
+
+-- what a reader that is watched has left
+abbrev pub watched_left : {R : Type 0} → (R → Option (List ℕ)) → Watched R → Option (List ℕ)
+watched_left remaining watched = remaining watched.reader
+
+-- an answer with its rows written in a style: a plain one changes nothing, a report stays as it is, and so do status and outcome
+pub record IsStyled (style : Style) (made written : Answer) : Type 0 where
+  pub plain : is_plain style ≡ true → written ≡ made
+  pub stopped : made.outcome ≡ Stopped → written ≡ made
+  pub status : written.status ≡ made.status
+  pub outcome : written.outcome ≡ made.outcome
+
+-- and in some style
+abbrev pub IsInStyle : Answer → Answer → Type 0
+IsInStyle made written = (style : Style) × IsStyled style made written
+
+-- the table with changes made to it where each of them fits, and else a report with status 1
+pub record AnswersApplied (form : Form) (columns : Columns) (keys : Option (List (List (List ℕ)))) (by_cells : Bool)
+    (old : TableRows) (changes : TableChanges) (answer : Answer) : Type 0 where
+  pub fits : AllFit key_cmp old changes → AnswersPatched form columns keys by_cells old changes answer
+  pub misfits : (AllFit key_cmp old changes → ⊥) → Stops answer
+
+-- the same, in a style, with the order in which rows come out
+pub record AppliedIn (form : Form) (columns : Columns) (unordered : Type 0) (old : TableRows) (changes : TableChanges) (answer : Answer) : Type 0 where
+  pub keys : Option (List (List (List ℕ)))
+  pub by_cells : Bool
+  pub made : Answer
+  pub applied : AnswersApplied form columns keys by_cells old changes made
+  pub styled : IsInStyle made answer
+  pub order : unordered → (keys ≡ None) × (by_cells ≡ true)
+
+-- what `apply` answers of two texts: the first says a table and the second one changes, under the same columns
+pub record AppliesTexts (settings : Settings) (old_form changes_form : Form) (old_text changes_text : List ℕ) (answer : Answer) : Type 0 where
+  pub columns : Columns
+  pub header : List (List ℕ)
+  pub names : List (List ℕ)
+  pub changes_header : List (List ℕ)
+  pub named : AreNamesBy settings header names
+  pub old : TableRows
+  pub changes : TableChanges
+  pub old_says : SaysTable old_form Rows settings.groups old_text header names columns old
+  pub changes_say : SaysChanges changes_form settings.groups changes_text changes_header changes_header columns changes
+  pub applied : AppliedIn settings.form columns (settings.keeps_order ≡ false) old changes answer
+
+module _ {R : Type 0} (remaining : R → Option (List ℕ)) where
+  -- the same of a source of a table and one of changes
+  pub record AppliesSources (job : Job Columns) (inputs : Two R) (answer : Answer) : Type 0 where
+    pub old : TableRows
+    pub changes : TableChanges
+    pub old_read : ReadsTable remaining job.groups job.columns.now inputs.first.source.value old
+    pub changes_read : ReadsChanges remaining job.groups job.columns.now inputs.next.source.value changes
+    pub applied : AppliedIn job.form job.columns.now (IsUnordered job) old changes answer
+
+  -- and of two streams whose texts are known
+  abbrev pub AppliesStreams : Settings → Stream R → Stream R → Answer → Type 0
+  AppliesStreams settings old changes answer = IfSome (text_of_stream remaining settings.form old) (λ old_text.
+      IfSome (text_of_stream remaining settings.form changes) (λ changes_text.
+      AppliesTexts settings (form_of settings.form old) (form_of settings.form changes) old_text changes_text answer))
