@@ -1,6 +1,7 @@
 -- From the rows that are read of a file to its table.
 use Rattle.std.proofs.Common.{◌≡◌, ◌∙◌, ◌++◌, ℕ, Bool, true, false, List, [], Option, None, Some, ap, subst, sym}
 use Rattle.std.specs.Prelude.{◌↔◌, ◌||◌, IfSome}
+use Rattle.keyed_files.specs.Keys.{AreChangeColumns}
 use Rattle.keyed_files.specs.Names.{compared, has_lone}
 use Rattle.keyed_files.specs.Opening.{IsNamedAnew, IsOpened, IsRenamed, form_of}
 use Rattle.keyed_files.specs.Reading.{IsOpen, ReadsRows}
@@ -49,14 +50,16 @@ module _ {R : Type 0} (rem : R → Option (List ℕ)) (settings : Settings) (old
   pub diff-streams : IsOpened rem settings.form Rows old versions.first → IsOpened rem settings.form Rows new versions.next
       → IsNamedAnew settings versions.first.source.value named.first.source.value → named.next ≡ versions.next
       → job.form ≡ settings.form → job.groups ≡ settings.groups → (settings.keeps_order ≡ false → IsUnordered job)
+      → AreChangeColumns settings.key named.first.source.value.header.names named.next.source.value.header.names job.columns.now
       → DiffsSources rem job named answer → DiffsStreams rem settings old new answer
-  diff-streams first next renamed same form groups unordered read =
+  diff-streams first next renamed same form groups unordered columned read =
       both-known {T = λ t u. DiffsTexts rem settings (form_of settings.form old) (form_of settings.form new) t u answer} _ _ first next (λ t u opened beside. record {
         columns = job.columns.now;
         header = versions.first.source.value.header.names;
         names = named.first.source.value.header.names;
         next_header = named.next.source.value.header.names;
         named = (renamed.0.header.names, are-names settings.key _ renamed.0 renamed.1, are-names settings.renames renamed.0 _ renamed.2);
+        columned = columned;
         old = read.old;
         new = read.new;
         old_says = subst (λ g. SaysTable (form_of settings.form old) Rows g t versions.first.source.value.header.names named.first.source.value.header.names job.columns.now read.old)
@@ -70,5 +73,6 @@ module _ {R : Type 0} (rem : R → Option (List ℕ)) (settings : Settings) (old
           changes = subst (λ f. IsDiffText f job.columns.now read.changes.keys read.changes.by_cells read.changes.marked read.old read.new answer.bytes.items) form read.changes.changes;
           order = λ by_key. read.changes.order (unordered by_key);
         };
+        marks = read.marks;
         status = read.status;
       })

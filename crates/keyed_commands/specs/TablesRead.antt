@@ -1,5 +1,7 @@
 -- Tables that are read of texts, and what a command answers of the texts of its files.
 use Rattle.std.specs.Prelude.{◌≡◌, ◌↔◌, ◌||◌, All, ℕ, Bool, false, true, List, Option, None, Some, IfSome, MatchBool, is_none, length, map}
+use Rattle.keyed_files.specs.ChangedColumns.{marked_names}
+use Rattle.keyed_files.specs.Keys.{AreChangeColumns}
 use Rattle.keyed_files.specs.Names.{compared, has_lone, renamed}
 use Rattle.keyed_files.specs.Opening.{form_of, text_of_stream}
 use Rattle.keyed_files.specs.Reading.{IsOpen, IsTable, parts_of}
@@ -72,20 +74,24 @@ module _ {R : Type 0} (remaining : R → Option (List ℕ)) where
     pub old_read : ReadsTable remaining job.groups job.columns.now versions.first.source.value old
     pub new_read : ReadsTable remaining job.groups job.columns.now versions.next.source.value new
     pub changes : ChangesBetween job.form job.columns.now (IsUnordered job) old new answer.bytes.items
+    pub marks : changes.marked ≡ marked_names versions.first.source.value.header.names versions.next.source.value.header.names
     pub status : IsStatusBetween versions.first.source.value.header.names versions.next.source.value.header.names old new answer.status
 
-  -- the same of two texts: each says a table under the same columns, and the answer is the text of exactly the changes between them
+  -- the same of two texts: each says a table under the columns of both, and the answer is the text of exactly the changes between them, whose
+  -- header marks each column by what became of it
   pub record DiffsTexts (settings : Settings) (old_form new_form : Form) (old_text new_text : List ℕ) (answer : Answer) : Type 0 where
     pub columns : Columns
     pub header : List (List ℕ)
     pub names : List (List ℕ)
     pub next_header : List (List ℕ)
     pub named : AreNamesBy settings header names
+    pub columned : AreChangeColumns settings.key names next_header columns
     pub old : TableRows
     pub new : TableRows
     pub old_says : SaysTable old_form Rows settings.groups old_text header names columns old
     pub new_says : SaysTable new_form Rows settings.groups new_text next_header next_header columns new
     pub changes : ChangesBetween settings.form columns (settings.keeps_order ≡ false) old new answer.bytes.items
+    pub marks : changes.marked ≡ marked_names names next_header
     pub status : IsStatusBetween names next_header old new answer.status
 
   -- what `diff` as CSV answers of two streams whose texts are known

@@ -1,4 +1,4 @@
-//! The records of CSV files: what is asked of files and how they are written, a header and the rows under the columns that are asked for,
+//! The records of CSV files: what is wanted of files and how they are written, a header and the rows under the columns that are wanted,
 //! read one by one or part by part, tables and the rows of a join written, cells lined up for a person, and what can be wrong with a file.
 //!
 //! Tables by key stand above this crate, in `keyed_commands`.
@@ -18,6 +18,7 @@ mod first_cell;
 mod header;
 mod joined_rows;
 mod key_record;
+mod laws;
 mod lined_up;
 mod lookups;
 mod merging;
@@ -44,6 +45,9 @@ pub use first_cell::quote_first;
 pub use joined_rows::{Sides, join_header};
 pub use key_record::{KeyNames, key_names};
 pub use keyed_numbers::{Decimal, is_same_cell};
+pub use laws::{
+    law_keeps_names, law_names_once, law_places_cells, law_puts_back, law_writes_names,
+};
 pub use lined_up::{
     Colour, Grid, Line, Shown, ShownCell, ShownName, heading, line_under, line_up, put_both,
     put_shown, put_version,
@@ -56,8 +60,8 @@ pub use overlays::{Layer, NamedFile, Overlay};
 pub use parts::Parts;
 pub use request::{
     Colours, Command, Comment, Comparing, Delimiter, Form, Format, JoinNames, Joining, Kind,
-    Layout, Lengths, Look, Picked, Quotes, Reading, Request, RowsShown, Settings, SortedRequest,
-    View, Wanted,
+    Layout, Lengths, Look, Picked, Quotes, Reading, Request, RowFormat, RowsShown, Settings,
+    SortedChanges, SortedRequest, View, Wanted,
 };
 pub use sign::{Sign, SignedRow};
 pub use source::{Content, Places, Source};

@@ -1,6 +1,7 @@
 use Rattle.std.proofs.Common.{◌≡◌, ◌∙◌, ap, ap₂, subst}
 use Rattle.std.specs.Prelude.{is_none}
 use Rattle.std.proofs.lemmas.Result.{IfOk-weaker}
+use Rattle.keyed_files.specs.ChangedColumns.{marked_names}
 use Rattle.keyed_files.specs.Names.{compared}
 use Rattle.keyed_tables.specs.Arranged.{noted}
 use Rattle.keyed_commands.specs.Answers.{IsDiffText}
@@ -28,5 +29,6 @@ returns g c =
             read.same (rw is at c.diff_as_csv-answer.ensures.text);
         order = λ unordered. let after = read.unordered unordered in (after.keys, after.rows);
       };
+      marks = c.in_ok-marked.ensures ∙ ap₂ marked_names (ap (λ header. header.names) read.first_header) (ap (λ header. header.names) read.next_header);
       status = status-between c.column_changes.result _ _ _ _ answer.status headers (rw is at c.diff_as_csv-answer.ensures.status);
     }) c.at.ensures

@@ -4,5 +4,5 @@ use Rattle.keyed_files.proofs.source.Source.open.Goals as goal
 
 pub returns : goal.returns
 returns g c =
-    opened-known g.R.Read.remaining c.args.form c.args.content _ _ _ _ c.in_ok-source.ensures.ok refl c.in_ok-reader.ensures _ c.in_ok-has_first.ensures
+    opened-known g.R.Read.remaining c.args.form c.args.content _ _ _ _ c.in_ok-source.ensures.ok refl c.in_ok-reader.ensures _ c.in_ok-has_first.ensures.gives
     c.next_of.ensures c.in_ok-header.ensures
