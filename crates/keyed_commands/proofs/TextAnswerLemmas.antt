@@ -1,6 +1,7 @@
 -- From what `apply` and `merge` answer of sources to what they answer of texts.
 use Rattle.std.proofs.Common.{◌≡◌, ℕ, Bool, false, List, Option, None, Some, subst, sym}
 use Rattle.std.specs.Prelude.{IfSome}
+use Rattle.keyed_files.specs.Keys.{AreChangedColumnsBy, AreMergedColumnsBy}
 use Rattle.keyed_files.specs.Opening.{IsNamedAnew, IsOpened, form_of, text_of_stream}
 use Rattle.keyed_files.specs.Reading.{IsOpen}
 use Rattle.keyed_files.proofs.TableLemmas.{open-anew}
@@ -58,13 +59,16 @@ module _ {R : Type 0} (rem : R → Option (List ℕ)) (settings : Settings) (old
   pub apply-streams : IsOpened rem settings.form Rows old inputs.first → IsOpened rem settings.form Changes changes inputs.next
       → IsNamedAnew settings inputs.first.source.value named.first.source.value → named.next ≡ inputs.next
       → job.form ≡ settings.form → job.groups ≡ settings.groups → (settings.keeps_order ≡ false → IsUnordered job)
+      → AreChangedColumnsBy settings.key named.first.source.value.header.names named.next.source.value.header.names named.next.source.value.header.gone job.columns.now
       → AppliesSources rem job named answer → AppliesStreams rem settings old changes answer
-  apply-streams first next renamed same form groups unordered read =
+  apply-streams first next renamed same form groups unordered columned read =
       both-known {T = λ t u. AppliesTexts settings (form_of settings.form old) (form_of settings.form changes) t u answer} _ _ first next (λ t u opened beside. record {
         columns = job.columns.now;
         header = inputs.first.source.value.header.names;
         names = named.first.source.value.header.names;
         changes_header = named.next.source.value.header.names;
+        gone = named.next.source.value.header.gone;
+        columned = columned;
         named = (renamed.0.header.names, are-names settings.key _ renamed.0 renamed.1, are-names settings.renames renamed.0 _ renamed.2);
         old = read.old;
         changes = read.changes;
@@ -87,8 +91,9 @@ module _ {R : Type 0} (rem : R → Option (List ℕ)) (by : Unit) (settings : Se
   pub merge-streams : IsOpened rem settings.form Rows base opened → IsOpened rem settings.form Rows ours sides.first → IsOpened rem settings.form Rows theirs sides.next
       → IsNamedAnew settings opened.source.value named.source.value
       → job.form ≡ settings.form → job.groups ≡ settings.groups → (settings.keeps_order ≡ false → IsUnordered job)
+      → AreMergedColumnsBy settings.key named.source.value.header.names sides.first.source.value.header.names sides.next.source.value.header.names job.columns.now
       → MergesSources rem by job named sides answer → MergesStreams rem by settings base ours theirs answer
-  merge-streams first second third renamed form groups unordered read =
+  merge-streams first second third renamed form groups unordered columned read =
       three-known {T = λ t u v. MergesTexts by settings (form_of settings.form base) (form_of settings.form ours) (form_of settings.form theirs) t u v answer}
       _ _ _ first second third (λ t u v one two three. record {
         columns = job.columns.now;
@@ -96,6 +101,7 @@ module _ {R : Type 0} (rem : R → Option (List ℕ)) (by : Unit) (settings : Se
         names = named.source.value.header.names;
         ours_header = sides.first.source.value.header.names;
         theirs_header = sides.next.source.value.header.names;
+        columned = columned;
         named = (renamed.0.header.names, are-names settings.key _ renamed.0 renamed.1, are-names settings.renames renamed.0 _ renamed.2);
         base = read.base;
         ours = read.ours;

@@ -1,5 +1,6 @@
 -- What `apply` answers of the texts of a table and of changes.
 use Rattle.std.specs.Prelude.{◌≡◌, ℕ, Bool, false, true, List, Option, None, IfSome, is_none}
+use Rattle.keyed_files.specs.Keys.{AreChangedColumnsBy}
 use Rattle.keyed_files.specs.Opening.{form_of, text_of_stream}
 use Rattle.keyed_files.specs.declared.columns.Columns.{Columns}
 use Rattle.keyed_files.specs.declared.opened.Stream.{Stream}
@@ -46,13 +47,16 @@ pub record AppliedIn (form : Form) (columns : Columns) (unordered : Type 0) (old
   pub styled : IsInStyle made answer
   pub order : unordered → (keys ≡ None) × (by_cells ≡ true)
 
--- what `apply` answers of two texts: the first says a table and the second one changes, under the same columns
+-- what `apply` answers of two texts: the first says a table and the second one changes, under the columns of the table that they make, of
+-- which some go
 pub record AppliesTexts (settings : Settings) (old_form changes_form : Form) (old_text changes_text : List ℕ) (answer : Answer) : Type 0 where
   pub columns : Columns
   pub header : List (List ℕ)
   pub names : List (List ℕ)
   pub changes_header : List (List ℕ)
+  pub gone : List (List ℕ)
   pub named : AreNamesBy settings header names
+  pub columned : AreChangedColumnsBy settings.key names changes_header gone columns
   pub old : TableRows
   pub changes : TableChanges
   pub old_says : SaysTable old_form Rows settings.groups old_text header names columns old

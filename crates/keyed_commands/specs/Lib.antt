@@ -3,6 +3,7 @@ pub mod AppliedTexts
 pub mod ChangeRows
 pub mod ChangesRead
 pub mod ComeOut
+pub mod JoinAnswers
 pub mod Keys
 pub mod Laws
 pub mod Lost

@@ -1,5 +1,6 @@
 -- What `merge` answers of the texts of three versions of a table.
 use Rattle.std.specs.Prelude.{◌≡◌, ℕ, Bool, false, true, List, Option, None, IfSome}
+use Rattle.keyed_files.specs.Keys.{AreMergedColumnsBy}
 use Rattle.keyed_files.specs.Opening.{form_of, text_of_stream}
 use Rattle.keyed_files.specs.declared.columns.Columns.{Columns}
 use Rattle.keyed_files.specs.declared.merging.Conflicts.TheVariants.{Report}
@@ -47,7 +48,7 @@ pub record MergedIn (by : Unit) (form : Form) (columns : Columns) (unordered : T
   pub styled : IsInStyle made answer
   pub order : unordered → (keys ≡ None) × (by_cells ≡ true)
 
--- what `merge` answers of three texts, each of which says a table under the same columns
+-- what `merge` answers of three texts, each of which says a table under the columns of the three, merged as rows are
 pub record MergesTexts (by : Unit) (settings : Settings) (base_form ours_form theirs_form : Form) (base_text ours_text theirs_text : List ℕ)
     (answer : Answer) : Type 0 where
   pub columns : Columns
@@ -56,6 +57,7 @@ pub record MergesTexts (by : Unit) (settings : Settings) (base_form ours_form th
   pub ours_header : List (List ℕ)
   pub theirs_header : List (List ℕ)
   pub named : AreNamesBy settings header names
+  pub columned : AreMergedColumnsBy settings.key names ours_header theirs_header columns
   pub base : TableRows
   pub ours : TableRows
   pub theirs : TableRows

@@ -2,6 +2,8 @@
 //!
 //! Each has three steps: its headers are read, then the rows under its columns, and then the tables are answered.
 ghost use Rattle.std.specs.Prelude.{◌≡◌, ◌↔◌, IfOk, None, OnOk, is_none, length};
+ghost use Rattle.keyed_files.specs.Keys.{AreChangeColumns, AreMergedColumnsBy};
+ghost use Rattle.keyed_files.specs.Opening.{first_header, next_header};
 ghost use Rattle.keyed_files.specs.declared.request.Format.TheVariants.{Csv};
 ghost use Rattle.keyed_tables.specs.Arranged.{noted};
 ghost use Rattle.keyed_commands.specs.Answers.{ChangesComeOut, IsDiffStatus};
@@ -12,15 +14,14 @@ ghost use Rattle.keyed_commands.specs.TablesRead.{DiffsSources, DiffsStreams, Is
 use crate::by_number::{changed_by_number, settled_by_number};
 use crate::changed::{changes_shown, diff_as_csv, diff_status};
 use crate::job::{Job, Table};
-use crate::joined::{JoinForm, join_as_csv};
 use crate::marks::{has_conflict, parted, write_marked};
 use crate::tables::{answer_of_rows, apply_tables, merge_by_cell, merge_by_row, report_conflicts};
 use crate::watched::{Watched, watch};
 use eob_joins::Change;
 use keyed_files::{
-    ColumnChanges, Columns, Comparing, Conflicts, Content, Decimal, Fault, Format, JoinColumns,
-    Joining, Look, Merging, Opened, Picked, Reason, Settings, Stream, Two, Unit, at, columns_of,
-    merged_columns, names_among, picked_columns,
+    ColumnChanges, Columns, Comparing, Conflicts, Content, Decimal, Fault, Format, Look, Merging,
+    Opened, Picked, Reason, Settings, Stream, Two, Unit, at, columns_of, merged_columns,
+    names_among, picked_columns,
 };
 use keyed_reports::{Report, count_rows, row_changes, write_report};
 use keyed_rows::{Cells, Group, Key};
@@ -63,11 +64,24 @@ pub fn diff<'a, R: Read + Drop>(
 {
     let mut versions = Two::new(alloc, settings.form, Content::Rows, old, new)?;
     versions.first.rename(alloc, settings)?;
-    let columns = match how.format {
-        Format::Csv => versions.change_columns(alloc, settings.key)?,
-        Format::Report(_) => columns_compared(alloc, settings, how.view.columns, &versions)?,
-    };
+    let columns = columns_of_diff(alloc, settings, how, &versions)?;
     diff_files(Job::new(alloc, settings, &columns), how, &mut versions)
+}
+
+// The columns of `diff`: as CSV those of the new table and then those that it lacks, and for a report those that are compared.
+fn columns_of_diff<'a, R>(
+    alloc: Global,
+    settings: Settings<'_>,
+    how: Comparing<'_>,
+    versions: &Two<'a, R>,
+) -> Result<Columns, Fault<'a>>
+    ensures { IfOk result (λ columns. how.entry.format ≡ Csv →
+        AreChangeColumns settings.entry.key (first_header versions.now) (next_header versions.now) columns) }
+{
+    match how.format {
+        Format::Csv => versions.change_columns(alloc, settings.key),
+        Format::Report(_) => columns_compared(alloc, settings, how.view.columns, versions),
+    }
 }
 
 // The columns of both tables that are picked.
@@ -260,14 +274,17 @@ fn columns_of_merge<'a, R>(
     settings: Settings<'a>,
     base: &Opened<'a, R>,
     sides: &Two<'a, R>,
-) -> Result<Columns, Fault<'a>> {
+) -> Result<Columns, Fault<'a>>
+    ensures { IfOk result (AreMergedColumnsBy settings.entry.key base.now.source.value.header.names
+        (first_header sides.now) (next_header sides.now)) }
+{
     let (base_names, ours, theirs) = (base.header(), sides.first.header(), sides.next.header());
-    let columns = columns_of(alloc, settings.key, &[base_names, ours, theirs]);
-    let key = at(base.file, columns)?.key;
-    at(
+    let all = at(
         base.file,
-        merged_columns(alloc, key, base_names, ours, theirs),
-    )
+        columns_of(alloc, settings.key, &[base_names, ours, theirs]),
+    )?;
+    let merged = merged_columns(alloc, all.key, base_names, ours, theirs);
+    at(base.file, merged)
 }
 
 fn merge_files<'a, R: Read + Drop>(
@@ -400,38 +417,4 @@ fn marked_rows(
         Unit::Row => marked_merge_of(alloc, base, ours, theirs),
         Unit::Cell => marked_merge_by_cell_of(alloc, base, ours, theirs),
     }
-}
-
-/// The answer to `join`.
-///
-/// # Errors
-///
-/// Returns the fault of a table that can't be opened or read, that lacks a column of the key, or in which a key stands twice where keys may
-/// not repeat, and of a join that would have two columns of a name; also want of memory, as the fault of one of them.
-pub fn join<'a, R: Read + Drop>(
-    alloc: Global,
-    settings: Settings<'a>,
-    how: Joining<'a>,
-    left: Stream<'a, R>,
-    right: Stream<'a, R>,
-) -> Result<Answer, Fault<'a>> {
-    let mut sides = Two::new(alloc, settings.form, Content::Rows, left, right)?;
-    let columns = sides.join_columns(alloc, settings.key)?;
-    let form = JoinForm::new(alloc, settings.form, how, &columns);
-    let form = at(sides.next.file, form)?;
-    join_files(Job::new(alloc, settings, &columns), &form, &mut sides)
-}
-
-fn join_files<'a, R: Read + Drop>(
-    mut job: Job<'_, JoinColumns>,
-    form: &JoinForm,
-    sides: &mut Two<'a, R>,
-) -> Result<Answer, Fault<'a>> {
-    let (left, right) = job.read_sides(sides)?;
-    let bytes = at(sides.next.file, join_as_csv(&job, form, left, right))?;
-    Ok(Answer {
-        bytes,
-        status: 0,
-        outcome: Outcome::Made,
-    })
 }
