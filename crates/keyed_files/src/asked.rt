@@ -1,8 +1,8 @@
-//! What a whole command line asks for: the answer to a command, or what git does with tables.
+//! What a whole command line wants: the answer to a command, or what git does with tables.
 
 use crate::request::{Command, Format, Settings};
 
-/// What a command line asks for.
+/// What a command line wants.
 #[derive(Drop, Debug)]
 pub enum Asked<'a> {
     /// The answer to a command, in this file or else on the standard output.
@@ -20,7 +20,7 @@ pub enum Asked<'a> {
     GitUnmerged {
         path: &'a str,
     },
-    /// Two versions merged over their base, into the file of ours, as git asks a driver of merges.
+    /// Two versions merged over their base, into the file of ours, as git wants it of a driver of merges.
     GitMerge {
         settings: Settings<'a>,
         merge: GitMerge<'a>,

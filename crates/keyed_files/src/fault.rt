@@ -69,7 +69,7 @@ pub enum Reason {
     },
     /// In a table of changes, the row on this line begins with no sign.
     NoSign(u64),
-    /// In a table that is read as its keys rise, the key on this line is not greater than the one before it.
+    /// In a table that is read as strictly increasing, the key on this line is not greater than the one before it.
     NotRising(u64),
     /// More than one of the files is the standard input.
     TwiceStdin,

@@ -120,7 +120,7 @@ impl Header {
         self.found.place_of(name)
     }
 
-    /// Tells that each name of a key is that of one column. A header with no name, as of an empty file, is asked for none.
+    /// Tells that each name of a key is that of one column. A header with no name, as of an empty file, needs none.
     ///
     /// # Errors
     ///

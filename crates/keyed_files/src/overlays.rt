@@ -1,4 +1,4 @@
-//! What is asked for of tables that are laid one over the other.
+//! What is wanted of tables that are laid one over the other.
 
 use crate::fault::Fault;
 use crate::request::{Delimiter, check_files};
@@ -20,7 +20,7 @@ pub enum Layer {
     Cells,
 }
 
-/// What is asked for of tables that are laid one over the other, the last one on top, in files by name, of which `-` is the standard input.
+/// What is wanted of tables that are laid one over the other, the last one on top, in files by name, of which `-` is the standard input.
 #[derive(Debug, Drop)]
 pub struct Overlay<'a> {
     pub files: Vec<NamedFile<'a>>,

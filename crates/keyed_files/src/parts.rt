@@ -1,4 +1,4 @@
-//! A table whose keys rise, read part by part.
+//! A table whose keys are strictly increasing, read part by part.
 ghost use Rattle.std.specs.Prelude.{◌≡◌, None, cond, option_map};
 
 use crate::columns::Columns;

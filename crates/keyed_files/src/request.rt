@@ -1,4 +1,4 @@
-//! What a command asks for of which tables, and how they are read and written.
+//! What a command wants of which tables, and how they are read and written.
 ghost use Rattle.std.specs.Prelude.{◌≡◌, ◌↔◌, IfSome, IsSome};
 ghost use Rattle.keyed_text.specs.Texts.{PartsCells};
 ghost use Rattle.keyed_files.specs.Delimiters.{PartsCells-prop};
@@ -72,7 +72,7 @@ impl Comment {
     }
 }
 
-/// What is asked of the quotes of a table.
+/// What is expected of the quotes of a table.
 #[derive(Clone, Copy, Debug)]
 pub enum Quotes {
     /// Each quote that opens a cell is closed, and the cell ends right behind the closing one.
@@ -188,19 +188,30 @@ impl JoinNames<'static> {
     };
 }
 
-/// How two tables are joined: which rows there are, and what the header has.
+/// How the rows of a join are written.
+#[derive(Clone, Copy, Debug)]
+pub enum RowFormat {
+    /// As CSV.
+    Csv,
+    /// As JSON, a line a row.
+    Json,
+}
+
+/// How two tables are joined: which rows there are, what the header of CSV has, and how rows are written.
 #[derive(Clone, Copy, Debug)]
 pub struct Joining<'a> {
     pub kind: Kind,
     pub names: JoinNames<'a>,
+    pub format: RowFormat,
 }
 
 impl Joining<'static> {
-    /// A join of this kind with plain names.
+    /// A join of this kind as CSV, with plain names.
     pub fn of(kind: Kind) -> Self {
         Joining {
             kind,
             names: JoinNames::PLAIN,
+            format: RowFormat::Csv,
         }
     }
 }
@@ -294,7 +305,7 @@ impl Comparing<'static> {
     }
 }
 
-/// What is asked for of whole tables, in files by name, of which `-` is the standard input.
+/// What is wanted of whole tables, in files by name, of which `-` is the standard input.
 #[derive(Clone, Copy, Debug)]
 pub enum Request<'a> {
     /// What changed.
@@ -323,14 +334,27 @@ pub enum Request<'a> {
     },
 }
 
-/// What is asked for of two tables whose keys are strictly increasing, in files by name, of which `-` is the standard input. The answer is
-/// CSV, and is written while they are read.
+/// How changes are written while the tables are read.
+#[derive(Clone, Copy, Debug)]
+pub enum SortedChanges<'a> {
+    /// As CSV that `Request::Apply` takes.
+    Csv,
+    /// As JSON, a line a row, of these columns. Cells that are numbers are compared by value where a tolerance is given.
+    Json {
+        columns: Picked<'a>,
+        tolerance: Option<Decimal<'a>>,
+    },
+}
+
+/// What is wanted of two tables whose keys are strictly increasing, in files by name, of which `-` is the standard input. What it
+/// gives is written while they are read.
 #[derive(Clone, Copy, Debug)]
 pub enum SortedRequest<'a> {
-    /// What changed, as `Request::Apply` takes it.
+    /// What changed.
     Diff {
         old: &'a str,
         new: &'a str,
+        how: SortedChanges<'a>,
     },
     /// Two tables joined by key.
     Join {
@@ -349,7 +373,7 @@ pub enum Wanted {
     Status,
 }
 
-/// What a command line asks for.
+/// What a command line wants.
 #[derive(Debug, Drop)]
 pub enum Command<'a> {
     /// An answer that is written once all of it is known.
@@ -405,7 +429,7 @@ impl SortedRequest<'_> {
     /// Returns `TwiceStdin` if both are.
     pub fn check_stdin<'a>(self) -> Result<(), Fault<'a>> {
         match self {
-            SortedRequest::Diff { old, new } => check_files(&[old, new]),
+            SortedRequest::Diff { old, new, .. } => check_files(&[old, new]),
             SortedRequest::Join { left, right, .. } => check_files(&[left, right]),
         }
     }
