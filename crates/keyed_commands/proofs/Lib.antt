@@ -1,6 +1,7 @@
 pub mod AnswerLemmas
 pub mod ChangeLemmas
 pub mod ComeLemmas
+pub mod JoinLemmas
 pub mod KeyLemmas
 pub mod LawLemmas
 pub mod ReadLemmas

@@ -38,7 +38,7 @@ are-names None old new same = ap (λ source. source.header.names) same
 are-names (Some key) old new renamed = (renamed.0, renamed.1, renamed.3)
 
 -- what holds of two texts that are known
-both-known : {P Q : List ℕ → Type 0} {T : List ℕ → List ℕ → Type 0} (m n : Option (List ℕ)) → IfSome m P → IfSome n Q
+pub both-known : {P Q : List ℕ → Type 0} {T : List ℕ → List ℕ → Type 0} (m n : Option (List ℕ)) → IfSome m P → IfSome n Q
     → ((t u : List ℕ) → P t → Q u → T t u) → IfSome m (λ t. IfSome n (λ u. T t u))
 both-known None n p q f = tt
 both-known (Some t) None p q f = tt

@@ -10,15 +10,14 @@ ghost use Rattle.keyed_commands.specs.TablesRead.{DiffsSources, DiffsStreams};
 use crate::by_number::{changed_by_number, settled_by_number};
 use crate::changed::{changes_shown, diff_as_csv, diff_status};
 use crate::job::{Job, Table};
-use crate::joined::{JoinForm, join_as_csv};
 use crate::marks::{has_conflict, parted, write_marked};
 use crate::tables::{answer_of_rows, apply_tables, merge_by_cell, merge_by_row, report_conflicts};
 use crate::watched::{Watched, watch};
 use eob_joins::Change;
 use keyed_files::{
-    ColumnChanges, Columns, Comparing, Conflicts, Content, Decimal, Fault, Format, JoinColumns,
-    Joining, Look, Merging, Opened, Picked, Reason, Settings, Stream, Two, Unit, at, columns_of,
-    merged_columns, names_among, picked_columns,
+    ColumnChanges, Columns, Comparing, Conflicts, Content, Decimal, Fault, Format, Look, Merging,
+    Opened, Picked, Reason, Settings, Stream, Two, Unit, at, columns_of, merged_columns,
+    names_among, picked_columns,
 };
 use keyed_reports::{Report, count_rows, row_changes, write_report};
 use keyed_rows::{Cells, Group, Key};
@@ -366,38 +365,4 @@ fn marked_rows(
         Unit::Row => marked_merge_of(alloc, base, ours, theirs),
         Unit::Cell => marked_merge_by_cell_of(alloc, base, ours, theirs),
     }
-}
-
-/// The answer to `join`.
-///
-/// # Errors
-///
-/// Returns the fault of a table that can't be opened or read, that lacks a column of the key, or in which a key stands twice where keys may
-/// not repeat, and of a join that would have two columns of a name; also want of memory, as the fault of one of them.
-pub fn join<'a, R: Read + Drop>(
-    alloc: Global,
-    settings: Settings<'a>,
-    how: Joining<'a>,
-    left: Stream<'a, R>,
-    right: Stream<'a, R>,
-) -> Result<Answer, Fault<'a>> {
-    let mut sides = Two::new(alloc, settings.form, Content::Rows, left, right)?;
-    let columns = sides.join_columns(alloc, settings.key)?;
-    let form = JoinForm::new(alloc, settings.form, how, &columns);
-    let form = at(sides.next.file, form)?;
-    join_files(Job::new(alloc, settings, &columns), &form, &mut sides)
-}
-
-fn join_files<'a, R: Read + Drop>(
-    mut job: Job<'_, JoinColumns>,
-    form: &JoinForm,
-    sides: &mut Two<'a, R>,
-) -> Result<Answer, Fault<'a>> {
-    let (left, right) = job.read_sides(sides)?;
-    let bytes = at(sides.next.file, join_as_csv(&job, form, left, right))?;
-    Ok(Answer {
-        bytes,
-        status: 0,
-        outcome: Outcome::Made,
-    })
 }

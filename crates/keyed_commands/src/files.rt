@@ -1,6 +1,7 @@
 //! From the files that a request names to its answer.
 
-use crate::answers::{Answer, apply, diff, join, merge};
+use crate::answers::{Answer, apply, diff, merge};
+use crate::joined::join;
 use crate::layers::overlay;
 use crate::lookups::lookup;
 use crate::sorted::{diff_sorted, join_sorted};

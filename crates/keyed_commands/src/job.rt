@@ -160,7 +160,14 @@ impl Job<'_, JoinColumns> {
     pub fn read_sides<'a, R: Read + Drop>(
         &mut self,
         sides: &mut Two<'a, R>,
-    ) -> Result<(Table, Table), Fault<'a>> {
+    ) -> Result<(Table, Table), Fault<'a>>
+        ensures left { IfOk result (λ pair. ReadsTable R.remaining self.old.groups self.old.columns.now.left
+            sides.old.first.source.value pair.0.pairs.items) }
+        ensures right { IfOk result (λ pair. ReadsTable R.remaining self.old.groups self.old.columns.now.right
+            sides.old.next.source.value pair.1.pairs.items) }
+        ensures same { self.new ≡ record self.old { order = self.new.order; row_order = self.new.row_order } }
+        ensures unordered { OnOk result (IsUnordered self.old → IsUnordered self.new) }
+    {
         let columns = self.columns;
         let left = self.read_table(&columns.left, &mut sides.first)?;
         let right = self.read_table(&columns.right, &mut sides.next)?;

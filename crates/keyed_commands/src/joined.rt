@@ -1,22 +1,84 @@
 //! Joins of two tables, written as CSV: an absent side has empty cells.
+ghost use Rattle.std.specs.Prelude.{◌≡◌, ◌++◌, IfOk, None, OnOk, is_none, option_map, true};
+ghost use Rattle.keyed_files.specs.JoinedRows.{left_of, right_of};
+ghost use Rattle.keyed_files.specs.Writing.{Wrote, quoted_text};
+ghost use Rattle.keyed_tables.specs.Arranged.{noted};
+ghost use Rattle.keyed_commands.specs.Answers.{IsTableText};
+ghost use Rattle.keyed_commands.specs.ComeOut.{AlikePlaces, AlikeRows};
+ghost use Rattle.keyed_commands.specs.JoinAnswers.{AlikeBoth, AlikeLeft, AlikeRight, IsJoinText, IsTextOfJoin};
+ghost use Rattle.keyed_commands.specs.JoinAnswers.{JoinsSources, JoinsStreams, PutsJoin, PutsSides, RowSides};
+ghost use Rattle.keyed_commands.specs.JoinAnswers.{heading_of_join, inner_sides, left_sides, outer_sides, right_sides, side_name};
 
+use crate::answers::{Answer, Outcome};
 use crate::job::{Job, Table};
 use crate::row_order::RowOrder;
 use either_or_both::EitherOrBoth;
 use either_or_both::join::outer_join;
 use eob_joins::{anti_join, inner_join, left_join, right_join, semi_join};
 use keyed_files::{
-    Form, JoinColumns, Joining, Kind, Reason, Sides, Written, join_header, quote_first, write_table,
+    Content, Fault, Form, JoinColumns, Joining, Kind, Reason, Settings, Sides, Stream, Two,
+    Written, at, join_header, quote_first, write_table,
 };
 use keyed_rows::{Cells, Group, Key};
 use std::alloc::{AllocError, Global};
+use std::io::Read;
+
+/// The answer to `join`.
+///
+/// # Errors
+///
+/// Returns the fault of a table that can't be opened or read, that lacks a column of the key, or in which a key stands twice where keys may
+/// not repeat, and of a join that would have two columns of a name; also want of memory, as the fault of one of them.
+pub fn join<'a, R: Read + Drop>(
+    alloc: Global,
+    settings: Settings<'a>,
+    how: Joining<'a>,
+    left: Stream<'a, R>,
+    right: Stream<'a, R>,
+) -> Result<Answer, Fault<'a>>
+    ensures { IfOk result (JoinsStreams R.remaining settings.entry how.entry.kind left.entry right.entry) }
+{
+    let mut sides = Two::new(alloc, settings.form, Content::Rows, left, right)?;
+    let columns = sides.join_columns(alloc, settings.key)?;
+    let made = JoinForm::new(alloc, settings.form, how, &columns);
+    let form = at(sides.next.file, made)?;
+    let job = Job::new(alloc, settings, &columns);
+    join_files(job, &form, &mut sides)
+}
+
+fn join_files<'a, R: Read + Drop>(
+    mut job: Job<'_, JoinColumns>,
+    form: &JoinForm,
+    sides: &mut Two<'a, R>,
+) -> Result<Answer, Fault<'a>>
+    ensures { IfOk result (JoinsSources R.remaining job.entry form.now.kind sides.old) }
+{
+    let tables = job.read_sides(sides)?;
+    let (left, right) = tables;
+    let bytes = at(sides.next.file, join_as_csv(&job, form, left, right))?;
+    Ok(Answer {
+        bytes,
+        status: 0,
+        outcome: Outcome::Made,
+    })
+}
 
 // A row of a join.
 trait JoinedRow: Sized {
-    fn sides(&self) -> Sides<'_>;
+    // What a row has, and the same row with the rows of each side in another order.
+    ghost shows: { Self → RowSides };
+
+    ghost alike: { Self → Self → Type 0 };
+
+    fn sides(&self) -> Sides<'_>
+        ensures first { option_map (λ cell. cell.now) result.first ≡ (shows self.now).first }
+        ensures left { left_of result ≡ (shows self.now).left }
+        ensures right { right_of result ≡ (shows self.now).right };
 
     // The same with the rows of each side in the order of its file.
-    fn in_order(self, alloc: Global, order: &RowOrder, key: &Key) -> Result<Self, AllocError>;
+    fn in_order(self, alloc: Global, order: &RowOrder, key: &Key) -> Result<Self, AllocError>
+        ensures alike { IfOk result (alike self) }
+        ensures same { is_none order.now.files ≡ true → IfOk result (λ row. row ≡ self) };
 }
 
 fn left_in_order(
@@ -24,7 +86,10 @@ fn left_in_order(
     order: &RowOrder,
     key: &Key,
     left: Group,
-) -> Result<Group, AllocError> {
+) -> Result<Group, AllocError>
+    ensures alike { IfOk result (AlikeRows left) }
+    ensures same { is_none order.now.files ≡ true → IfOk result (λ rows. rows ≡ left) }
+{
     order.arrange(alloc, 0..1, key, left)
 }
 
@@ -33,11 +98,18 @@ fn right_in_order(
     order: &RowOrder,
     key: &Key,
     right: Group,
-) -> Result<Group, AllocError> {
+) -> Result<Group, AllocError>
+    ensures alike { IfOk result (AlikeRows right) }
+    ensures same { is_none order.now.files ≡ true → IfOk result (λ rows. rows ≡ right) }
+{
     order.arrange(alloc, 1..2, key, right)
 }
 
 impl JoinedRow for EitherOrBoth<Group, Group> {
+    ghost shows = { outer_sides };
+
+    ghost alike = { AlikePlaces AlikeRows AlikeRows };
+
     fn sides(&self) -> Sides<'_> {
         let (left, right) = self.as_ref().unzip();
         Sides {
@@ -65,7 +137,9 @@ impl JoinedRow for EitherOrBoth<Group, Group> {
 }
 
 // Which of the tables have a row.
-fn side_of(row: &EitherOrBoth<Group, Group>) -> &'static [u8] {
+fn side_of(row: &EitherOrBoth<Group, Group>) -> &'static [u8]
+    ensures { result.now ≡ side_name row.now }
+{
     match row {
         EitherOrBoth::Left(_) => b"left",
         EitherOrBoth::Both(..) => b"both",
@@ -74,6 +148,10 @@ fn side_of(row: &EitherOrBoth<Group, Group>) -> &'static [u8] {
 }
 
 impl JoinedRow for (Group, Group) {
+    ghost shows = { inner_sides };
+
+    ghost alike = { AlikeBoth };
+
     fn sides(&self) -> Sides<'_> {
         Sides {
             first: None,
@@ -89,6 +167,10 @@ impl JoinedRow for (Group, Group) {
 }
 
 impl JoinedRow for (Group, Option<Group>) {
+    ghost shows = { left_sides };
+
+    ghost alike = { AlikeLeft };
+
     fn sides(&self) -> Sides<'_> {
         Sides {
             first: None,
@@ -107,6 +189,10 @@ impl JoinedRow for (Group, Option<Group>) {
 }
 
 impl JoinedRow for (Option<Group>, Group) {
+    ghost shows = { right_sides };
+
+    ghost alike = { AlikeRight };
+
     fn sides(&self) -> Sides<'_> {
         Sides {
             first: None,
@@ -142,7 +228,9 @@ impl JoinForm {
         form: Form,
         how: Joining<'_>,
         columns: &JoinColumns,
-    ) -> Result<Self, Reason> {
+    ) -> Result<Self, Reason>
+        ensures { IfOk result (λ made. made.kind ≡ how.entry.kind) }
+    {
         let header = if form.has_header {
             join_header(alloc, how, columns)?
         } else {
@@ -166,49 +254,88 @@ pub fn join_as_csv(
     how: &JoinForm,
     left: Table,
     right: Table,
-) -> Result<Vec<u8>, Reason> {
+) -> Result<Vec<u8>, Reason>
+    ensures { IfOk result (λ text. IsJoinText job.now.form job.now.columns.now how.now.header (noted job.now.order)
+        (is_none job.now.row_order.files) how.now.kind left.pairs.items right.pairs.items text.items) }
+{
     let alloc = job.alloc;
-    let (left, right) = (left.pairs, right.pairs);
+    let header = &how.header;
     match how.kind {
-        Kind::Outer => write_joined(job, &how.header, outer_join(alloc, left, right)),
-        Kind::Inner => write_joined(job, &how.header, inner_join(alloc, left, right)),
-        Kind::Left => write_joined(job, &how.header, left_join(alloc, left, right)),
-        Kind::Right => write_joined(job, &how.header, right_join(alloc, left, right)),
-        Kind::Semi => write_left(job, semi_join(alloc, left, right)),
-        Kind::Anti => write_left(job, anti_join(alloc, left, right)),
+        Kind::Outer => write_joined(job, header, outer_join(alloc, left.pairs, right.pairs)?),
+        Kind::Inner => write_joined(job, header, inner_join(alloc, left.pairs, right.pairs)?),
+        Kind::Left => write_joined(job, header, left_join(alloc, left.pairs, right.pairs)?),
+        Kind::Right => write_joined(job, header, right_join(alloc, left.pairs, right.pairs)?),
+        Kind::Semi => write_left(job, semi_join(alloc, left.pairs, right.pairs)?),
+        Kind::Anti => write_left(job, anti_join(alloc, left.pairs, right.pairs)?),
     }
 }
 
-// The rows of a join of two sides, if there was memory for them.
+// The rows of a join of two sides, as they come out.
 fn write_joined<T: JoinedRow + Drop>(
     job: &Job<'_, JoinColumns>,
     header: &Cells,
-    rows: Result<Vec<(Key, T)>, AllocError>,
-) -> Result<Vec<u8>, Reason> {
-    let rows = job.order.arrange(rows?)?;
+    rows: Vec<(Key, T)>,
+) -> Result<Vec<u8>, Reason>
+    ensures { IfOk result (λ text. IsTextOfJoin job.now.form job.now.columns.now header.now (noted job.now.order)
+        (is_none job.now.row_order.files) T.shows T.alike rows.items text.items) }
+{
+    let rows = job.order.arrange(rows)?;
     let mut written = begin_join(job, header)?;
-    for (key, row) in rows {
-        let row = row.in_order(job.alloc, &job.row_order, &key)?;
-        written.put_joined(job.columns, &key, row.sides())?;
-    }
+    put_rows(job, &mut written, rows)?;
     let text = written.finish()?;
-    Ok(quote_first(job.alloc, text, job.form.delimiter)?)
+    let given = quote_first(job.alloc, text, job.form.delimiter)?;
+    Ok(given)
 }
 
-// Rows of the left table, if there was memory for them.
-fn write_left(
+// Puts the rows of a join, by key. Each is dropped once it is written.
+fn put_rows<T: JoinedRow + Drop>(
     job: &Job<'_, JoinColumns>,
-    rows: Result<Vec<(Key, Group)>, AllocError>,
-) -> Result<Vec<u8>, Reason> {
-    let rows = job.arrange(rows?)?;
+    written: &mut Written,
+    rows: Vec<(Key, T)>,
+) -> Result<(), Reason>
+    ensures { OnOk result (PutsJoin job.now.columns.now T.shows (is_none job.now.row_order.files) T.alike
+        written.old written.new rows.items) }
+{
+    for row in rows {
+        put_row(job, written, row)?;
+    }
+    Ok(())
+}
+
+// Puts the rows under a key, those of each side in the order of its file.
+fn put_row<T: JoinedRow + Drop>(
+    job: &Job<'_, JoinColumns>,
+    written: &mut Written,
+    row: (Key, T),
+) -> Result<(), Reason>
+    ensures { OnOk result (PutsSides job.now.columns.now T.shows (is_none job.now.row_order.files) T.alike
+        written.old written.new row) }
+{
+    let (key, sides) = row;
+    let sides = sides.in_order(job.alloc, &job.row_order, &key)?;
+    written.put_joined(job.columns, &key, sides.sides())?;
+    Ok(())
+}
+
+// Rows of the left table, as they come out.
+fn write_left(job: &Job<'_, JoinColumns>, rows: Vec<(Key, Group)>) -> Result<Vec<u8>, Reason>
+    ensures { IfOk result (λ text. IsTableText job.now.form job.now.columns.now.left (noted job.now.order)
+        (is_none job.now.row_order.files) rows.items text.items) }
+{
+    let rows = job.arrange(rows)?;
     write_table(job.alloc, job.form, &job.columns.left, rows)
 }
 
 // The header, where tables have one.
-fn begin_join(job: &Job<'_, JoinColumns>, header: &Cells) -> Result<Written, Reason> {
+fn begin_join(job: &Job<'_, JoinColumns>, header: &Cells) -> Result<Written, Reason>
+    ensures { IfOk result (λ written. Wrote job.now.form (heading_of_join job.now.form header.now) written) }
+{
     let mut written = Written::new(job.alloc, job.form);
-    if job.form.has_header {
+    let has_header = job.form.has_header;
+    if has_header {
         written.put_join_heading(header)?;
+        Ok(written)
+    } else {
+        Ok(written)
     }
-    Ok(written)
 }

@@ -31,9 +31,10 @@ mod tables;
 mod watched;
 mod written;
 
-pub use answers::{Answer, Outcome, apply, diff, join, merge};
+pub use answers::{Answer, Outcome, apply, diff, merge};
 pub use files::{answer_request, stream_request, write_command, write_request, write_whole};
 pub use git::{write_git_diff, write_git_merge, write_git_setup, write_git_unmerged};
+pub use joined::join;
 pub use keyed_files::{
     Asked, Colours, Command, Comment, Comparing, Conflicts, Decimal, Delimiter, Encoding, Fault,
     Finding, Form, Format, GitDiff, GitMerge, JoinNames, Joining, Kind, Layer, Layout, Lengths,

@@ -1,0 +1,90 @@
+-- Rows of a join as they are put, and from the tables that are joined to their texts.
+use Rattle.std.proofs.Common.{◌≡◌, ◌∙◌, ℕ, Bool, true, false, List, [], ◌∷◌, Option, refl, sym, ap, subst}
+use Rattle.std.specs.Prelude.{IfSome, option_map, if◌then◌else◌}
+use Rattle.keyed_files.specs.JoinedRows.{joined_rows, left_of, right_of}
+use Rattle.keyed_files.specs.Opening.{IsOpened, form_of}
+use Rattle.keyed_files.specs.Writing.{PutsRows, Wrote}
+use Rattle.keyed_files.specs.declared.columns.JoinColumns.{JoinColumns}
+use Rattle.keyed_files.specs.declared.joined_rows.Sides.{Sides}
+use Rattle.keyed_files.specs.declared.opened.Stream.{Stream}
+use Rattle.keyed_files.specs.declared.opened.Two.{Two}
+use Rattle.keyed_files.specs.declared.request.Form.{Form}
+use Rattle.keyed_files.specs.declared.request.Kind.{Kind}
+use Rattle.keyed_files.specs.declared.request.Settings.{Settings}
+use Rattle.keyed_files.specs.declared.source.Content.TheVariants.{Rows}
+use Rattle.keyed_files.specs.declared.written.Written.{Written}
+use Rattle.keyed_files.proofs.WritingLemmas.{no-rows-left, then-rows}
+use Rattle.keyed_commands.specs.ComeOut.{AlikeIn, HasGroups}
+use Rattle.keyed_commands.specs.JoinAnswers.{IsJoinText, JoinsSources, JoinsStreams, JoinsTexts, PutsJoin, PutsSides, RowSides, rows_of_sides}
+use Rattle.keyed_commands.specs.TablesRead.{IsUnordered, SaysTable}
+use Rattle.keyed_commands.specs.declared.answers.Answer.{Answer}
+use Rattle.keyed_commands.specs.declared.job.Job.{Job}
+use Rattle.keyed_commands.proofs.ReadLemmas.{both-known}
+
+-- the header of a join
+pub heading_then : (form : Form) (written : Written) (rows : List (List (List ℕ))) (has : Bool) → has ≡ true → Wrote form rows written
+    → Wrote form (if has then rows else []) written
+heading_then form written rows has is h = let P : Bool → Type 0 = λ b. Wrote form (if b then rows else []) written in subst P (sym is) h
+
+-- a value that is alike, and the same where rows have the order of cells
+pub alike_in : {V : Type 0} (b : Bool) (P : V → V → Type 0) (v w : V) → P v w → (b ≡ true → w ≡ v) → AlikeIn b P v w
+alike_in true P v w h same = same refl
+alike_in false P v w h same = h
+
+-- the rows of the sides that references show
+pub sides_put : (columns : JoinColumns) (key : List (List ℕ)) (a b : Written) (sides : Sides) (row : RowSides)
+    → option_map (λ cell. cell.now) sides.first ≡ row.first → left_of sides ≡ row.left → right_of sides ≡ row.right
+    → PutsRows a b (joined_rows columns key sides) → PutsRows a b (rows_of_sides columns key row)
+sides_put columns key a b sides row first left right h =
+    let P : RowSides → Type 0 = λ r. PutsRows a b (rows_of_sides columns key r) in
+    let one = subst (λ m. P (record { first = m; left = left_of sides; right = right_of sides })) first h in
+    let two = subst (λ m. P (record { first = row.first; left = m; right = right_of sides })) left one in
+    subst (λ m. P (record { first = row.first; left = row.left; right = m })) right two
+
+module _ {K V : Type 0} (P : V → V → Type 0) where
+  groups_next : (b : Bool) (row : K × V) (shown : V) (rest others : List (K × V)) → AlikeIn b P row.1 shown → HasGroups b P rest others
+      → HasGroups b P (row ∷ rest) ((row.0, shown) ∷ others)
+  groups_next true row shown rest others e h = ap (λ v. (row.0, v) ∷ others) e ∙ ap (λ l. row ∷ l) h
+  groups_next false row shown rest others a h = ((refl, a), h)
+
+groups_none : (K : Type 0) {V : Type 0} (P : V → V → Type 0) (b : Bool) → HasGroups {K = K} b P [] []
+groups_none K P true = refl
+groups_none K P false = tt
+
+-- the rows under one more key, and no more
+module _ {V : Type 0} (columns : JoinColumns) (shows : V → RowSides) (b : Bool) (P : V → V → Type 0) where
+  pub join_then : (a m e : Written) (row : List (List ℕ) × V) (left rest : List (List (List ℕ) × V)) → left ≡ row ∷ rest
+      → PutsSides columns shows b P a m row → PutsJoin columns shows b P m e rest → PutsJoin columns shows b P a e left
+  join_then a m e row left rest is g h =
+      subst (PutsJoin columns shows b P a e) (sym is)
+      ((row.0, g.0) ∷ h.0, groups_next P b row g.0 rest h.0 g.1 h.1, then-rows a m e (rows_of_sides columns row.0 (shows g.0)) _ g.2 h.2)
+
+  pub join_none : (a : Written) (left : List (List (List ℕ) × V)) → left ≡ [] → PutsJoin columns shows b P a a left
+  join_none a left is = subst (PutsJoin columns shows b P a a) (sym is) ([], groups_none (List (List ℕ)) P b, no-rows-left a [] refl)
+
+-- two streams that are joined, of their texts
+module _ {R : Type 0} (rem : R → Option (List ℕ)) (settings : Settings) (kind : Kind) (left right : Stream R) (sides : Two R) (job : Job JoinColumns) (answer : Answer) where
+  pub join-streams : IsOpened rem settings.form Rows left sides.first → IsOpened rem settings.form Rows right sides.next
+      → job.form ≡ settings.form → job.groups ≡ settings.groups → (settings.keeps_order ≡ false → IsUnordered job)
+      → JoinsSources rem job kind sides answer → JoinsStreams rem settings kind left right answer
+  join-streams first next form groups unordered read =
+      both-known {T = λ t u. JoinsTexts settings kind (form_of settings.form left) (form_of settings.form right) t u answer} _ _ first next (λ t u opened beside. record {
+        columns = job.columns.now;
+        left_header = sides.first.source.value.header.names;
+        right_header = sides.next.source.value.header.names;
+        left = read.left;
+        right = read.right;
+        left_says = subst (λ g. SaysTable (form_of settings.form left) Rows g t sides.first.source.value.header.names sides.first.source.value.header.names job.columns.now.left read.left)
+            groups (read.left_read _ _ t _ opened);
+        right_says = subst (λ g. SaysTable (form_of settings.form right) Rows g u sides.next.source.value.header.names sides.next.source.value.header.names job.columns.now.right read.right)
+            groups (read.right_read _ _ u _ beside);
+        join = record {
+          names = read.join.names;
+          keys = read.join.keys;
+          by_cells = read.join.by_cells;
+          join = subst (λ f. IsJoinText f job.columns.now read.join.names read.join.keys read.join.by_cells kind read.left read.right answer.bytes.items) form read.join.join;
+          order = λ by_key. read.join.order (unordered by_key);
+        };
+        status = read.status;
+        outcome = read.outcome;
+      })
