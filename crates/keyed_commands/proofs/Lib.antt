@@ -4,4 +4,5 @@ pub mod ComeLemmas
 pub mod JoinLemmas
 pub mod KeyLemmas
 pub mod LawLemmas
+pub mod LookupLemmas
 pub mod ReadLemmas

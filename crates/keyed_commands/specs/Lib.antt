@@ -4,5 +4,6 @@ pub mod ComeOut
 pub mod JoinAnswers
 pub mod Keys
 pub mod Laws
+pub mod LookupAnswers
 pub mod Lost
 pub mod TablesRead

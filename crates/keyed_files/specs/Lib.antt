@@ -1,5 +1,6 @@
 pub mod Delimiters
 pub mod Encodings
+pub mod FoundRows
 pub mod Headers
 pub mod JoinedRows
 pub mod Lines

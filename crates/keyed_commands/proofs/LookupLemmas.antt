@@ -1,0 +1,123 @@
+-- Rows that are read in parts and looked up, and the text that is written of them.
+use Rattle.std.proofs.Common.{◌≡◌, ◌∙◌, ℕ, Bool, true, false, List, [], ◌∷◌, ◌++◌, Option, Some, None, map, option_map, append_assoc, refl, sym, ap, ap₂, subst}
+use Rattle.std.specs.Prelude.{IfSome}
+use Rattle.std.specs.Io.KnownBytes.{Appends, Keeps}
+use Rattle.std.specs.List.{flat_map}
+use Rattle.std.specs.Map.{lookup}
+use Rattle.std.proofs.lemmas.List.{append-nil, map-append}
+use Rattle.eob_joins.specs.Lookup.{with_found}
+use Rattle.eob_joins.proofs.TableLemmas.{by_test}
+use Rattle.keyed_files.specs.Reading.{GivesRecord, HasGiven, IsPicked, ReadBehind, ReadsOn, ReadsRest, last_record, parts_of, picked}
+use Rattle.keyed_files.specs.Writing.{Wrote, quoted_text}
+use Rattle.keyed_files.specs.declared.columns.JoinColumns.{JoinColumns}
+use Rattle.keyed_files.specs.declared.lookups.LookupKind.{LookupKind}
+use Rattle.keyed_files.specs.declared.request.Form.{Form}
+use Rattle.keyed_files.specs.declared.source.Places.{Places}
+use Rattle.keyed_files.specs.declared.source.Source.{Source}
+use Rattle.keyed_files.specs.declared.written.Written.{Written}
+use Rattle.keyed_files.proofs.TableLemmas.{reads-and}
+use Rattle.keyed_rows.specs.declared.row.ReadRow.{ReadRow}
+use Rattle.keyed_text.specs.Texts.{AreRows}
+use Rattle.keyed_commands.specs.LookupAnswers.{AppendsRows, ReadsPart, WritesBehind, WritesPart, WritesRest, as_rows, cells_under, found_under, held_rows, key_eq, lookup_rows, parts_text, rows_of, shown_row, shown_rows}
+use Rattle.keyed_commands.specs.declared.lookups.Found.{Found}
+
+-- bytes behind bytes
+pub appends_then : (a b e : Option (List ℕ)) (xs ys : List ℕ) → Appends a b xs → Appends b e ys → Appends a e (xs ++ ys)
+appends_then None b e xs ys f g = tt
+appends_then (Some is) None e xs ys f g = absurd f
+appends_then (Some is) (Some js) None xs ys f g = absurd g
+appends_then (Some is) (Some js) (Some ks) xs ys f g = g ∙ ap (λ l. l ++ ys) f ∙ append_assoc is xs ys
+
+-- bytes that are kept behind those that were written
+pub appends_kept : (a b e : Option (List ℕ)) (xs : List ℕ) → Appends a b xs → Keeps b e → Appends a e xs
+appends_kept None b e xs f k = tt
+appends_kept (Some is) None e xs f k = absurd f
+appends_kept (Some is) (Some js) None xs f k = absurd k
+appends_kept (Some is) (Some js) (Some ks) xs f k = k ∙ f
+
+module _ {R : Type 0} (rem : R → Option (List ℕ)) (places : Places) where
+  -- rows that are read behind none, and more behind these
+  behind_none : (rows : List ReadRow) (records : List (List (List ℕ))) → ReadBehind places [] rows records → map parts_of rows ≡ map (picked places) records
+  behind_none rows records h = ap (map parts_of) h.rows ∙ h.parts
+
+  both_behind : (rows more : List ReadRow) (records others : List (List (List ℕ))) → ReadBehind places [] rows records → ReadBehind places [] more others
+      → ReadBehind places [] (rows ++ more) (records ++ others)
+  both_behind rows more records others g h = record {
+    more = rows ++ more;
+    rows = refl;
+    parts = map-append parts_of rows more ∙ ap₂ (λ a b. a ++ b) (behind_none rows records g) (behind_none more others h) ∙ sym (map-append (picked places) records others);
+  }
+
+  pub reads_last : (source next : Source R) (rows more : List ReadRow) → ReadsOn rem places source next [] rows → ReadsRest rem places next [] more
+      → ReadsRest rem places source [] (rows ++ more)
+  reads_last source next rows more on rest = λ d c text given h.
+      let some = on d c text given h in
+      let all = rest d c text (given ++ some.0) some.1 in
+      (some.0 ++ all.0, subst (λ l. AreRows d c text l) (append_assoc given some.0 all.0) all.1, both_behind rows more some.0 all.0 some.2 all.2)
+
+-- the rows of more rows
+module _ {A B : Type 0} (f : A → List B) where
+  pub flat_more : (xs ys : List A) → flat_map f (xs ++ ys) ≡ flat_map f xs ++ flat_map f ys
+  flat_more [] ys = refl
+  flat_more (x ∷ xs) ys = ap (λ l. f x ++ l) (flat_more xs ys) ∙ sym (append_assoc (f x) (flat_map f xs) (flat_map f ys))
+
+-- what is written of parts
+module _ (form : Form) (rows more : List (List (List ℕ))) where
+  pub one_part : (old new : Option (List ℕ)) → Appends old new (quoted_text form rows) → AppendsRows form rows old new
+  one_part old new h = (rows ∷ [], append-nil rows, subst (Appends old new) (sym (append-nil (quoted_text form rows))) h)
+
+  pub part_then : (old out new : Option (List ℕ)) → Appends old out (quoted_text form rows) → AppendsRows form more out new → AppendsRows form (rows ++ more) old new
+  part_then old out new h g = (rows ∷ g.0, ap (λ l. rows ++ l) g.1, appends_then old out new (quoted_text form rows) (parts_text form g.0) h g.2)
+
+module _ {R : Type 0} (rem : R → Option (List ℕ)) (form : Form) (kind : LookupKind) (columns : JoinColumns) (find : List (List ℕ) → Option (List (List ℕ))) (places : Places) where
+  -- the last part is what is left
+  pub part_last : (source next : Source R) (written : Written) (old out new : Option (List ℕ)) → WritesPart rem form kind columns find places true source next written old out
+      → Keeps out new → WritesRest rem form kind columns find places source written old new
+  part_last source next written old out new h kept = λ pending w.
+      let part = h pending w in
+      (part.0, part.1, one_part form (pending ++ lookup_rows columns kind find part.0) [] old new (appends_kept old out new _ part.2 kept))
+
+  -- another part, and then what is left behind it
+  pub part_and : (source next : Source R) (written after : Written) (old out new : Option (List ℕ)) → WritesPart rem form kind columns find places false source next written old out
+      → Wrote form [] after → WritesRest rem form kind columns find places next after out new → WritesRest rem form kind columns find places source written old new
+  part_and source next written after old out new h none g = λ pending w.
+      let part = h pending w in
+      let rest = g [] none in
+      let f : List (List ℕ) × List (List ℕ) → List (List (List ℕ)) = λ row. rows_of columns kind row.0 row.1 (find row.0) in
+      let all : (pending ++ lookup_rows columns kind find part.0) ++ lookup_rows columns kind find rest.0 ≡ pending ++ lookup_rows columns kind find (part.0 ++ rest.0) =
+      append_assoc pending (lookup_rows columns kind find part.0) (lookup_rows columns kind find rest.0) ∙ ap (λ l. pending ++ l) (sym (flat_more f part.0 rest.0)) in (
+        part.0 ++ rest.0,
+        subst (ReadsRest rem places source []) (sym (map-append (λ row. record { key = row.0; line = 0; cells = row.1 }) part.0 rest.0)) (reads_last rem places source next (as_rows part.0) (as_rows rest.0) part.1 rest.1),
+        subst (λ l. AppendsRows form l old new) all
+            (part_then form (pending ++ lookup_rows columns kind find part.0) (lookup_rows columns kind find rest.0) old out new part.2 rest.2),
+      )
+
+-- what is found of rows
+module _ (columns : JoinColumns) (kind : LookupKind) where
+  pub rows_shown : (g : List (List ℕ) → Option Found) (rows : List (List (List ℕ) × List (List ℕ))) → shown_rows columns kind (map (with_found g) rows)
+      ≡ lookup_rows columns kind (λ key. option_map (λ found. found.cells) (g key)) rows
+  rows_shown g [] = refl
+  rows_shown g (row ∷ rows) = ap (λ l. shown_row columns kind (with_found g row) ++ l) (rows_shown g rows)
+
+  pub same_found : (f g : List (List ℕ) → Option (List (List ℕ))) → ((key : List (List ℕ)) → f key ≡ g key) → (rows : List (List (List ℕ) × List (List ℕ)))
+      → lookup_rows columns kind f rows ≡ lookup_rows columns kind g rows
+  same_found f g same [] = refl
+  same_found f g same (row ∷ rows) = ap₂ (λ a b. rows_of columns kind row.0 row.1 a ++ b) (same row.0) (same_found f g same rows)
+
+-- the rows that are held have under a key what is found there
+pub found_same : (entries : List (List (List ℕ) × Found)) (key : List (List ℕ)) → found_under entries key ≡ cells_under (held_rows entries) key
+found_same [] key = refl
+found_same (entry ∷ entries) key = by_test (key_eq key entry.0) (λ t. rw t refl) (λ e. rw e (found_same entries key))
+
+-- the rows of one more row of a look-up that is shown
+pub parts_held : (rows : List (List (List ℕ) × List (List ℕ))) → map parts_of (as_rows rows) ≡ rows
+parts_held [] = refl
+parts_held (row ∷ rows) = ap (λ l. row ∷ l) (parts_held rows)
+
+-- a row is read behind those of a part
+module _ {R : Type 0} (rem : R → Option (List ℕ)) (places : Places) (source now next : Source R) where
+  pub part_row : (rows after : List (List (List ℕ) × List (List ℕ))) (row : ReadRow) → ReadsOn rem places source now [] (as_rows rows) → GivesRecord rem now next true
+      → IsPicked places (last_record next) row → after ≡ rows ++ ((row.key, row.cells) ∷ []) → ReadsOn rem places source next [] (as_rows after)
+  part_row rows after row so gives is e =
+      reads-and rem places source now [] (as_rows rows) next (as_rows after) (record { key = row.key; line = 0; cells = row.cells }) so gives is
+      (ap as_rows e ∙ map-append (λ r. record { key = r.0; line = 0; cells = r.1 }) rows ((row.key, row.cells) ∷ []))
