@@ -27,6 +27,11 @@ module _ {K : Type 0} (cmp : K → K → Ordering) {V W : Type 0} (f : V → W) 
   pub mapped_rises : (zs : List (K × V)) (rs : List (K × W)) → rs ≡ map (λ z. (z.0, f z.1)) zs → Rising cmp zs → Rising cmp rs
   mapped_rises zs rs e h = subst (Rising cmp) (sym e) (rising cmp (λ k. ⊤) (map (λ z. (z.0, f z.1)) zs) (up_mapped (λ k. ⊤) zs (up cmp zs h)))
 
+  -- and they are the same keys
+  pub mapped_keys : (zs : List (K × V)) (rs : List (K × W)) → rs ≡ map (λ z. (z.0, f z.1)) zs → keys_of rs ≡ keys_of zs
+  mapped_keys [] rs e = rw e refl
+  mapped_keys (z ∷ zs) rs e = ap keys_of e ∙ ap (λ l. z.0 ∷ l) (mapped_keys zs (map (λ z. (z.0, f z.1)) zs) refl)
+
 module _ {K : Type 0} (cmp : K → K → Ordering) {A B W : Type 0} (f : EitherOrBoth A B → W) where
   -- under each key stands what is made of both values
   pub laid_by : (p : List (K × A)) (q : List (K × B)) (zs : List (K × EitherOrBoth A B)) (rs : List (K × W)) → rs ≡ map (λ z. (z.0, f z.1)) zs → IsJoin cmp p q zs
