@@ -1,4 +1,5 @@
 pub mod BufferLemmas
+pub mod ColumnLemmas
 pub mod HeaderLemmas
 pub mod LineLemmas
 pub mod NameLemmas

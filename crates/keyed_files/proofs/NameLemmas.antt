@@ -1,6 +1,6 @@
 -- Lists of names whose elements are read in another way.
 use Rattle.std.proofs.Common.{◌≡◌, ◌∙◌, ℕ, suc, Option, Some, None, arith, Bool, true, false, cond, List, [], ◌∷◌, ◌++◌, ◌+◌, length, map, nat_eq, position, refl, sym, ap, true≢false}
-use Rattle.std.specs.Prelude.{◌||◌, is_none, nat_lt, not}
+use Rattle.std.specs.Prelude.{◌||◌, is_none, is_some, nat_lt, not}
 use Rattle.std.specs.Cmp.{IsEquivalence}
 use Rattle.std.specs.Cmp.Lexicographic.{nat_list_eq_equiv, pointwise}
 use Rattle.std.specs.List.{list_any, position_or_len}
@@ -82,3 +82,10 @@ module _ {X : Type 0} (p : X → Bool) where
 
   pub none_at : (xs : List X) → is_none (position p xs) ≡ not (list_any p xs)
   none_at xs = none_where (nat_lt (position_or_len p xs) (length xs)) (position_or_len p xs) ∙ ap not (within xs)
+
+  some_where : (b : Bool) (n : ℕ) → is_some (cond b (Some n) None) ≡ b
+  some_where true n = refl
+  some_where false n = refl
+
+  pub some_at : (xs : List X) → is_some (position p xs) ≡ list_any p xs
+  some_at xs = some_where (nat_lt (position_or_len p xs) (length xs)) (position_or_len p xs) ∙ within xs

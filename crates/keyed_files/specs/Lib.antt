@@ -1,9 +1,14 @@
+pub mod ChangedColumns
+pub mod ColumnNames
 pub mod Delimiters
 pub mod Encodings
 pub mod Headers
 pub mod JoinedRows
+pub mod Keys
 pub mod Lines
+pub mod Lost
 pub mod Names
+pub mod NewColumns
 pub mod Opening
 pub mod Picked
 pub mod Reading

@@ -1,9 +1,10 @@
 -- A stream of rows that is opened: the text that it has, and the form in which it is read.
-use Rattle.std.specs.Prelude.{◌≡◌, ℕ, List, Option, None, Some, IfSome, Result, Ok, Err, map, unwrap_or}
+use Rattle.std.specs.Prelude.{◌≡◌, ℕ, List, [], ◌∷◌, Option, None, Some, IfSome, Result, Ok, Err, map, unwrap_or}
 use Rattle.keyed_files.specs.Reading.{IsOpen, text_read}
 use Rattle.keyed_files.specs.Names.{renamed}
 use Rattle.keyed_files.specs.declared.opened.Opened.{Opened}
 use Rattle.keyed_files.specs.declared.opened.Stream.{Stream}
+use Rattle.keyed_files.specs.declared.opened.Two.{Two}
 use Rattle.keyed_files.specs.declared.request.Form.{Form}
 use Rattle.keyed_files.specs.declared.request.Settings.{Settings}
 use Rattle.keyed_files.specs.declared.source.Content.{Content}
@@ -38,3 +39,13 @@ IsRenamed (Some key) old new = (first : List (List ℕ)) × (others : List (List
 -- the same of the columns of a key, and then of those that are renamed
 abbrev pub IsNamedAnew : {R : Type 0} → Settings → Source R → Source R → Type 0
 IsNamedAnew {R} settings old new = (between : Source R) × IsRenamed settings.key old between × IsRenamed settings.renames between new
+
+-- the headers of two tables, as their columns are named now
+abbrev pub first_header : {R : Type 0} → Two R → List (List ℕ)
+first_header two = two.first.source.value.header.names
+
+abbrev pub next_header : {R : Type 0} → Two R → List (List ℕ)
+next_header two = two.next.source.value.header.names
+
+abbrev pub headers_of : {R : Type 0} → Two R → List (List (List ℕ))
+headers_of two = first_header two ∷ next_header two ∷ []

@@ -1,10 +1,11 @@
 //! What became of the columns between two versions of a table.
 ghost use Rattle.std.specs.Prelude.{◌≡◌, ◌||◌, ◌∷◌, [], IfOk, OnOk, filter, is_none};
+ghost use Rattle.keyed_files.specs.ChangedColumns.{is_same_order};
 ghost use Rattle.keyed_files.specs.Names.{compared, has_lone, place_in};
 ghost use Rattle.keyed_files.specs.Rows.{change_name};
 ghost use Rattle.keyed_files.specs.Writing.{PutsRows};
 
-use crate::columns::{kept_names, place_of};
+use crate::columns::{has_name, kept_names, place_of};
 use crate::fault::Reason;
 use crate::lined_up::ShownName;
 use crate::names::Names;
@@ -147,8 +148,10 @@ fn say_lone<W: fmt::Write>(
 }
 
 // Whether the names that both headers have stand in the same order.
-pub(crate) fn is_same_order(old: &Cells, new: &Cells) -> bool {
-    let shared = old.iter().filter(|name| place_of(new, name).is_some());
-    let shared_of_new = new.iter().filter(|name| place_of(old, name).is_some());
+pub(crate) fn is_same_order(old: &Cells, new: &Cells) -> bool
+    ensures { result ≡ is_same_order old.now new.now }
+{
+    let shared = old.iter().filter(|name| has_name(new, name));
+    let shared_of_new = new.iter().filter(|name| has_name(old, name));
     shared.zip(shared_of_new).all(|(name, other)| name == other)
 }

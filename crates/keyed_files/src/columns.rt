@@ -1,6 +1,12 @@
 //! The columns of tables: from headers to the columns of what is written.
-ghost use Rattle.std.specs.Prelude.{◌≡◌, IfOk, filter};
+ghost use Rattle.std.specs.Prelude.{◌≡◌, ◌++◌, ◌∷◌, ◌||◌, [], IfOk, OnOk, filter, length, map, true};
+ghost use Rattle.std.specs.List.{list_all};
+ghost use Rattle.keyed_files.specs.ColumnNames.{AreColumns, has_name, if_empty, is_beside, key_first};
+ghost use Rattle.keyed_files.specs.ColumnNames.{or_header, place_under_key};
+ghost use Rattle.keyed_files.specs.Keys.{AreColumnsBy, AreJoinColumns, AreKeyNames, ArePicked};
+ghost use Rattle.keyed_files.specs.Keys.{ArePickedColumns, first_name};
 ghost use Rattle.keyed_files.specs.Names.{is_kept, names_in, place_in};
+ghost use Rattle.keyed_files.specs.NewColumns.{HasSeen, PutsColumn, SeesNames};
 
 use crate::fault::Reason;
 use crate::key_record::{KeyNames, key_names};
@@ -32,18 +38,66 @@ impl Columns {
     /// # Errors
     ///
     /// Returns `AllocError` if a request for memory was refused.
-    pub fn new(alloc: Global, key: Cells, headers: &[&Cells]) -> Result<Self, AllocError> {
-        let mut seen = Names::new(alloc);
-        let mut rest = Cells::new(alloc);
-        let mut order = Vec::new(alloc);
+    pub fn new(alloc: Global, key: Cells, headers: &[&Cells]) -> Result<Self, AllocError>
+        ensures { IfOk result (λ columns. AreColumns key (map (λ header. header.now) headers.now) columns) }
+    {
+        let mut new = NewColumns::new(alloc, key);
         for header in headers {
-            for name in *header {
-                if seen.add(alloc, name)? {
-                    order.push(put_name(&key, &mut rest, name)?)?;
-                }
-            }
+            new.put_all(alloc, header)?;
         }
-        Ok(Columns { key, rest, order })
+        Ok(new.columns)
+    }
+
+    // Puts a column behind the others: its name goes behind the others too, unless it is one of the key.
+    fn put(&mut self, name: &[u8]) -> Result<(), AllocError>
+        ensures { OnOk result (PutsColumn self.old self.new name.now) }
+    {
+        let place = put_name(&self.key, &mut self.rest, name)?;
+        self.order.push(place)?;
+        Ok(())
+    }
+}
+
+// Columns whose names are put one after the other, each once.
+#[derive(Drop)]
+struct NewColumns {
+    columns: Columns,
+    seen: Names,
+}
+
+impl NewColumns {
+    // No column.
+    fn new(alloc: Global, key: Cells) -> Self
+        ensures { HasSeen key [] result }
+    {
+        NewColumns {
+            columns: Columns {
+                key,
+                rest: Cells::new(alloc),
+                order: Vec::new(alloc),
+            },
+            seen: Names::new(alloc),
+        }
+    }
+
+    // Puts the columns of a header.
+    fn put_all(&mut self, alloc: Global, header: &Cells) -> Result<(), AllocError>
+        ensures { OnOk result (SeesNames self.old self.new header.now) }
+    {
+        for name in header {
+            self.put(alloc, name)?;
+        }
+        Ok(())
+    }
+
+    // Puts a column, unless there is one of its name.
+    fn put(&mut self, alloc: Global, name: &[u8]) -> Result<(), AllocError>
+        ensures { OnOk result (SeesNames self.old self.new (name.now ∷ [])) }
+    {
+        if self.seen.add(alloc, name)? {
+            self.columns.put(name)?;
+        }
+        Ok(())
     }
 }
 
@@ -54,8 +108,25 @@ pub(crate) fn place_of(names: &Cells, name: &[u8]) -> Option<usize>
     names.iter().position(|other| name == other)
 }
 
+// Whether a name is one of others.
+pub(crate) fn has_name(names: &Cells, name: &[u8]) -> bool
+    ensures { result ≡ has_name names.now name.now }
+{
+    place_of(names, name).is_some()
+}
+
+// A header, or another one where it is empty.
+pub(crate) fn or_header<'a>(header: &'a Cells, other: &'a Cells) -> &'a Cells
+    ensures { result.now ≡ or_header header.now other.now }
+{
+    if header.is_empty() { other } else { header }
+}
+
 // The place of the next column, whose name goes behind the others unless it is one of the key.
-fn put_name(key: &Cells, rest: &mut Cells, name: &[u8]) -> Result<Place, AllocError> {
+fn put_name(key: &Cells, rest: &mut Cells, name: &[u8]) -> Result<Place, AllocError>
+    ensures place { IfOk result (λ place. place ≡ place_under_key key.now name.now) }
+    ensures rest { OnOk result (rest.new ≡ rest.old ++ filter (is_beside key.now) (name.now ∷ [])) }
+{
     match place_of(key, name) {
         Some(place) => Ok(Place::Key(place)),
         None => {
@@ -75,20 +146,52 @@ pub fn picked_columns(
     alloc: Global,
     picked: Picked<'_>,
     columns: Columns,
-) -> Result<Columns, Reason> {
-    let (record, keeps) = match picked {
-        Picked::All => return Ok(columns),
-        Picked::Only(record) => (record, true),
-        Picked::AllBut(record) => (record, false),
-    };
-    let given = key_names(alloc, record)?.first;
-    for name in &given {
-        if place_of(&columns.key, name).is_none() && place_of(&columns.rest, name).is_none() {
+) -> Result<Columns, Reason>
+    ensures { IfOk result (λ kept. ArePickedColumns picked.entry columns kept) }
+{
+    match picked {
+        Picked::All => Ok(columns),
+        Picked::Only(record) => columns_picked(alloc, record, true, columns),
+        Picked::AllBut(record) => columns_picked(alloc, record, false, columns),
+    }
+}
+
+// The same columns with those alone, beside the key, that a text names, or does not name.
+fn columns_picked(
+    alloc: Global,
+    record: &str,
+    keeps: bool,
+    columns: Columns,
+) -> Result<Columns, Reason>
+    ensures { IfOk result (λ kept. ArePicked keeps columns kept) }
+{
+    let given = key_names(alloc, record)?;
+    check_known(alloc, &columns, &given.first)?;
+    let names = Names::of_cells(alloc, &given.first)?;
+    let kept = columns_among(alloc, &names, keeps, columns)?;
+    Ok(kept)
+}
+
+// Tells of the first of these names that is that of no column.
+fn check_known(alloc: Global, columns: &Columns, given: &Cells) -> Result<(), Reason>
+    ensures { OnOk result
+        (list_all (λ name. has_name columns.now.key name || has_name columns.now.rest name) given.now ≡ true) }
+{
+    for name in given {
+        if !columns.has(name) {
             return Err(Reason::NeitherHas(Vec::from_slice(alloc, name)?));
         }
     }
-    let names = Names::of_cells(alloc, &given)?;
-    Ok(columns_among(alloc, &names, keeps, columns)?)
+    Ok(())
+}
+
+impl Columns {
+    // Whether a name is that of a column.
+    fn has(&self, name: &[u8]) -> bool
+        ensures { result ≡ (has_name self.now.key name.now || has_name self.now.rest name.now) }
+    {
+        has_name(&self.key, name) || has_name(&self.rest, name)
+    }
 }
 
 // The same columns with those alone, beside the key, whose names are among these, or are not.
@@ -100,6 +203,8 @@ fn columns_among(
 ) -> Result<Columns, AllocError>
     ensures key { IfOk result (λ kept. kept.key ≡ columns.key) }
     ensures rest { IfOk result (λ kept. kept.rest ≡ filter (is_kept keeps (names_in names.now)) columns.rest) }
+    ensures order { IfOk result
+        (λ kept. kept.order.items ≡ key_first (length columns.key) (length kept.rest)) }
 {
     let rest = kept_names(alloc, names, keeps, &columns.rest)?;
     let order = key_first(alloc, columns.key.len(), rest.len())?;
@@ -120,21 +225,37 @@ pub(crate) fn kept_names(
     ensures { IfOk result (λ kept. kept ≡ filter (is_kept keeps (names_in names.now)) header.now) }
 {
     let mut kept = Cells::new(alloc);
+    put_kept_names(&mut kept, names, keeps, header)?;
+    Ok(kept)
+}
+
+// Puts those of a header that are among these names, or those that are not, behind others.
+pub(crate) fn put_kept_names(
+    kept: &mut Cells,
+    names: &Names,
+    keeps: bool,
+    header: &Cells,
+) -> Result<(), AllocError>
+    ensures { OnOk result
+        (kept.new ≡ kept.old ++ filter (is_kept keeps (names_in names.now)) header.now) }
+{
     for name in header {
         if names.has(name) == keeps {
             kept.push(name)?;
         }
     }
-    Ok(kept)
+    Ok(())
 }
 
 // The places of so many columns of a key, and of so many others behind them.
-fn key_first(alloc: Global, key: usize, rest: usize) -> Result<Vec<Place>, AllocError> {
+fn key_first(alloc: Global, key: usize, rest: usize) -> Result<Vec<Place>, AllocError>
+    ensures { IfOk result (λ order. order.items ≡ key_first key rest) }
+{
     let mut order = Vec::new(alloc);
     for place in 0..key {
         order.push(Place::Key(place))?;
     }
-    for _ in 0..rest {
+    for beside in 0..rest {
         order.push(Place::Rest)?;
     }
     Ok(order)
@@ -145,12 +266,14 @@ fn key_first(alloc: Global, key: usize, rest: usize) -> Result<Vec<Place>, Alloc
 /// # Errors
 ///
 /// Returns `AllocError` if a request for memory was refused.
-pub fn names_among(alloc: Global, header: &Cells, columns: &Columns) -> Result<Cells, AllocError> {
+pub fn names_among(alloc: Global, header: &Cells, columns: &Columns) -> Result<Cells, AllocError>
+    ensures { IfOk result
+        (λ names. names ≡ filter (has_name (columns.now.key ++ columns.now.rest)) header.now) }
+{
     let mut there = Names::of_cells(alloc, &columns.key)?;
-    for name in &columns.rest {
-        there.add(alloc, name)?;
-    }
-    kept_names(alloc, &there, true, header)
+    there.add_all(alloc, &columns.rest)?;
+    let names = kept_names(alloc, &there, true, header)?;
+    Ok(names)
 }
 
 /// The names of the columns of both tables, whose keys have as many.
@@ -165,9 +288,13 @@ pub struct JoinColumns {
 /// # Errors
 ///
 /// Returns the errors of `key_names`, and `NoMemory` if a request for memory was refused.
-pub fn columns_of(alloc: Global, key: Option<&str>, headers: &[&Cells]) -> Result<Columns, Reason> {
-    let key = key_of(alloc, key, headers)?.others;
-    Ok(Columns::new(alloc, key, headers)?)
+pub fn columns_of(alloc: Global, key: Option<&str>, headers: &[&Cells]) -> Result<Columns, Reason>
+    ensures { IfOk result (λ columns. AreColumnsBy key.entry
+        (map (λ header. header.now) headers.now) (map (λ header. header.now) headers.now) columns) }
+{
+    let names = key_of(alloc, key, headers)?;
+    let columns = Columns::new(alloc, names.others, headers)?;
+    Ok(columns)
 }
 
 /// The columns of each of two tables, with the key that is set, by the names that it has in each, or else the first column of the left one.
@@ -181,32 +308,64 @@ pub fn join_columns(
     key: Option<&str>,
     left: &Cells,
     right: &Cells,
-) -> Result<JoinColumns, Reason> {
-    let KeyNames { first, others } = key_of(alloc, key, &[left, right])?;
-    let left_key = if left.is_empty() { &others } else { &first }.clone()?;
-    let right_key = if right.is_empty() { &first } else { &others }.clone()?;
-    let left_names = if left.is_empty() { right } else { left };
-    let right_names = if right.is_empty() { left } else { right };
-    let left = Columns::new(alloc, left_key, &[left_names])?;
-    let right = Columns::new(alloc, right_key, &[right_names])?;
-    Ok(JoinColumns { left, right })
+) -> Result<JoinColumns, Reason>
+    ensures { IfOk result (AreJoinColumns key.entry left.now right.now) }
+{
+    let names = key_of(alloc, key, &[left, right])?;
+    let left_columns = columns_beside(alloc, &names.others, &names.first, left, right)?;
+    let right_columns = columns_beside(alloc, &names.first, &names.others, right, left)?;
+    Ok(JoinColumns {
+        left: left_columns,
+        right: right_columns,
+    })
+}
+
+// The columns of one of two tables by a key of its own, or where it has none, those of the other one by the key of that.
+fn columns_beside(
+    alloc: Global,
+    other_key: &Cells,
+    key: &Cells,
+    header: &Cells,
+    other: &Cells,
+) -> Result<Columns, AllocError>
+    ensures { IfOk result
+        (AreColumns (if_empty header.now other_key.now key.now) (or_header header.now other.now ∷ [])) }
+{
+    if header.is_empty() {
+        let columns = Columns::new(alloc, other_key.clone()?, &[other])?;
+        Ok(columns)
+    } else {
+        let columns = Columns::new(alloc, key.clone()?, &[header])?;
+        Ok(columns)
+    }
 }
 
 // The names of the key: those that are set, or that of the first column.
-fn key_of(alloc: Global, key: Option<&str>, headers: &[&Cells]) -> Result<KeyNames, Reason> {
+fn key_of(alloc: Global, key: Option<&str>, headers: &[&Cells]) -> Result<KeyNames, Reason>
+    ensures { IfOk result
+        (λ names. AreKeyNames key.entry (map (λ header. header.now) headers.now) names.first names.others) }
+{
     match key {
         Some(names) => key_names(alloc, names),
-        None => Ok(KeyNames::alike(first_name(alloc, headers)?)?),
+        None => {
+            let names = KeyNames::alike(first_name(alloc, headers)?)?;
+            Ok(names)
+        }
     }
 }
 
 // The first column, if there is one: an empty file with no header has none.
-fn first_name(alloc: Global, headers: &[&Cells]) -> Result<Cells, AllocError> {
+fn first_name(alloc: Global, headers: &[&Cells]) -> Result<Cells, AllocError>
+    ensures { IfOk result (λ key. key ≡ first_name (map (λ header. header.now) headers.now)) }
+{
     let mut key = Cells::new(alloc);
     for header in headers {
-        if let Some(name) = header.iter().next() {
-            key.push(name)?;
-            break;
+        match header.get(0) {
+            Some(name) => {
+                key.push(name)?;
+                return Ok(key);
+            }
+            None => continue,
         }
     }
     Ok(key)

@@ -1,4 +1,6 @@
 //! What became of a column, as the header of a table of changes says it.
+ghost use Rattle.std.specs.Prelude.{◌≡◌, ◌++◌, IfOk, OnOk};
+ghost use Rattle.keyed_files.specs.ChangedColumns.{begins_marked, marked_name};
 
 use std::alloc::{AllocError, Global};
 
@@ -27,19 +29,29 @@ impl Fate {
     /// assert!(rt; Fate::Goes.marked(alloc, b"size")?.as_slice() == b"-size");
     /// assert!(rt; Fate::Stays.marked(alloc, b"-size")?.as_slice() == b"=-size");
     /// ```
-    pub fn marked(self, alloc: Global, name: &[u8]) -> Result<Vec<u8>, AllocError> {
+    pub fn marked(self, alloc: Global, name: &[u8]) -> Result<Vec<u8>, AllocError>
+        ensures { IfOk result (λ marked. marked.items ≡ marked_name self name.now) }
+    {
         let mut marked = Vec::new(alloc);
+        self.put_mark(&mut marked, name)?;
+        marked.extend_from_slice(name)?;
+        Ok(marked)
+    }
+
+    // Puts the mark of a name, if it has one.
+    fn put_mark(self, marked: &mut Vec<u8>, name: &[u8]) -> Result<(), AllocError>
+        ensures { OnOk result (marked.new.items ++ name.now ≡ marked.old.items ++ marked_name self name.now) }
+    {
         match self {
             Fate::Goes => marked.push(b'-')?,
             Fate::Comes => marked.push(b'+')?,
             Fate::Stays => {
-                if let Some(b'-' | b'+' | b'=') = name.first() {
+                if begins_marked(name) {
                     marked.push(b'=')?;
                 }
             }
         }
-        marked.extend_from_slice(name)?;
-        Ok(marked)
+        Ok(())
     }
 
     /// The fate of a column and its name, of a cell in the header of changes.
@@ -56,4 +68,11 @@ impl Fate {
             _ => (Fate::Stays, cell),
         }
     }
+}
+
+// Whether a name begins with a mark.
+fn begins_marked(name: &[u8]) -> bool
+    ensures { result ≡ begins_marked name.now }
+{
+    matches!(name, [b'-' | b'+' | b'=', ..])
 }

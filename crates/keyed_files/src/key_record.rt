@@ -1,6 +1,8 @@
 //! The names of the columns that are the key, as they are given.
-ghost use Rattle.std.specs.Prelude.{◌≡◌, option_and_then, option_map, slice_get};
+ghost use Rattle.std.specs.Prelude.{◌≡◌, ◌++◌, ◌∷◌, [], IfOk, OnOk, option_and_then, option_map, slice_get};
+ghost use Rattle.keyed_files.specs.Keys.{AreGiven};
 ghost use Rattle.keyed_files.specs.Names.{place_in, renamed};
+ghost use Rattle.keyed_files.specs.NewColumns.{HasOnce};
 
 use crate::columns::place_of;
 use crate::fault::Reason;
@@ -29,7 +31,10 @@ impl KeyNames {
     /// # Errors
     ///
     /// Returns `AllocError` if a request for memory was refused.
-    pub fn alike(names: Cells) -> Result<Self, AllocError> {
+    pub fn alike(names: Cells) -> Result<Self, AllocError>
+        ensures first { IfOk result (λ alike. alike.first ≡ names) }
+        ensures others { IfOk result (λ alike. alike.others ≡ names) }
+    {
         let others = names.clone()?;
         Ok(KeyNames {
             first: names,
@@ -69,11 +74,12 @@ impl KeyNames {
 /// assert!(rt; names.first.get(0) == Some(b"customer_id") && names.others.get(0) == Some(b"id"));
 /// assert!(rt; names.first.get(1) == Some(b"year") && names.others.get(1) == Some(b"year"));
 /// ```
-pub fn key_names(alloc: Global, text: &str) -> Result<KeyNames, Reason> {
+pub fn key_names(alloc: Global, text: &str) -> Result<KeyNames, Reason>
+    ensures { IfOk result (λ names. AreGiven names.first names.others) }
+{
     if text.is_empty() {
-        let mut names = Cells::new(alloc);
-        names.push(b"")?;
-        return Ok(KeyNames::alike(names)?);
+        let names = no_name(alloc)?;
+        return Ok(names);
     }
     let mut reader = ReaderBuilder::new()
         .has_headers(false)
@@ -90,6 +96,14 @@ pub fn key_names(alloc: Global, text: &str) -> Result<KeyNames, Reason> {
     Ok(names)
 }
 
+// One name in each table, which is empty.
+fn no_name(alloc: Global) -> Result<KeyNames, AllocError>
+    ensures { IfOk result (λ names. AreGiven names.first names.others) }
+{
+    let names = KeyNames::alike(Cells::from_slices(alloc, &[b""])?)?;
+    Ok(names)
+}
+
 // Reads a record, or says that there is none.
 fn read_key(reader: &mut Reader<Strict<&[u8]>>, record: &mut ByteRecord) -> Result<bool, Reason> {
     let outcome = reader.read_byte_record(record);
@@ -100,7 +114,9 @@ fn read_key(reader: &mut Reader<Strict<&[u8]>>, record: &mut ByteRecord) -> Resu
 }
 
 // The names that the cells of a record give, no two of which are the same in one table.
-fn names_of(alloc: Global, record: &ByteRecord) -> Result<KeyNames, Reason> {
+fn names_of(alloc: Global, record: &ByteRecord) -> Result<KeyNames, Reason>
+    ensures { IfOk result (λ names. AreGiven names.first names.others) }
+{
     let mut first = NewNames::new(alloc);
     let mut others = NewNames::new(alloc);
     for cell in record.iter() {
@@ -122,14 +138,20 @@ struct NewNames {
 }
 
 impl NewNames {
-    fn new(alloc: Global) -> Self {
+    fn new(alloc: Global) -> Self
+        ensures once { HasOnce result }
+        ensures none { result.names ≡ [] }
+    {
         NewNames {
             names: Cells::new(alloc),
             seen: Names::new(alloc),
         }
     }
 
-    fn put(&mut self, alloc: Global, name: &[u8]) -> Result<(), Reason> {
+    fn put(&mut self, alloc: Global, name: &[u8]) -> Result<(), Reason>
+        ensures once { OnOk result (HasOnce self.old → HasOnce self.new) }
+        ensures names { OnOk result (self.new.names ≡ self.old.names ++ name.now ∷ []) }
+    {
         if !self.seen.add(alloc, name)? {
             return Err(Reason::RepeatedName(Vec::from_slice(alloc, name)?));
         }

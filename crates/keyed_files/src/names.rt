@@ -34,10 +34,23 @@ impl Names {
         ensures { IfOk result (λ names. names_in names ≡ insert_all (pointwise nat_eq) [] cells.now) }
     {
         let mut names = Names::new(alloc);
-        for name in cells {
-            names.add(alloc, name)?;
-        }
+        names.add_all(alloc, cells)?;
         Ok(names)
+    }
+
+    /// Puts names behind the others, each unless it is one of them.
+    ///
+    /// # Errors
+    ///
+    /// Returns `AllocError` if a request for memory was refused.
+    pub fn add_all(&mut self, alloc: Global, cells: &Cells) -> Result<(), AllocError>
+        ensures { OnOk result
+            (names_in self.new ≡ insert_all (pointwise nat_eq) (names_in self.old) cells.now) }
+    {
+        for name in cells {
+            self.add(alloc, name)?;
+        }
+        Ok(())
     }
 
     /// Puts a name behind the others unless it is one of them, and returns whether it is new.

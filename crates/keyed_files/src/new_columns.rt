@@ -1,7 +1,15 @@
 //! The columns of the table that changes make of another, and of two versions merged: which are written, and in which order.
+ghost use Rattle.std.specs.Prelude.{◌≡◌, ◌++◌, ◌∷◌, ◌||◌, ◌&&◌, [], IfOk, OnOk, drop, filter, length, map, not};
+ghost use Rattle.std.specs.List.{list_any};
+ghost use Rattle.keyed_files.specs.ChangedColumns.{AreChangedColumns, AreMergedColumns, fate_between};
+ghost use Rattle.keyed_files.specs.ChangedColumns.{is_led_by_theirs, marked_between};
+ghost use Rattle.keyed_files.specs.ChangedColumns.{marked_names, merged_names, names_merged};
+ghost use Rattle.keyed_files.specs.ColumnNames.{WriteNames, has_name};
+ghost use Rattle.keyed_files.specs.Lost.{count_written, is_filled, is_rest, loses_cells};
+ghost use Rattle.keyed_files.specs.Names.{names_in};
 
 use crate::column_changes::is_same_order;
-use crate::columns::{Columns, Place};
+use crate::columns::{Columns, Place, kept_names, or_header, put_kept_names};
 use crate::fate::Fate;
 use crate::names::Names;
 use keyed_rows::{Cells, Group};
@@ -12,9 +20,13 @@ fn written_columns(
     alloc: Global,
     key: Cells,
     written: &Cells,
-    others: [&Cells; 3],
-) -> Result<Columns, AllocError> {
-    let [first, next, last] = others;
+    first: &Cells,
+    next: &Cells,
+    last: &Cells,
+) -> Result<Columns, AllocError>
+    ensures { IfOk result
+        (WriteNames key written.now (first.now ∷ next.now ∷ last.now ∷ [])) }
+{
     let mut columns = Columns::new(alloc, key, &[written, first, next, last])?;
     columns.order.truncate(written.len());
     Ok(columns)
@@ -27,26 +39,45 @@ fn written_columns(
 /// # Errors
 ///
 /// Returns `AllocError` if a request for memory was refused.
-pub fn marked_names<'a>(
-    alloc: Global,
-    old: &'a Cells,
-    new: &'a Cells,
-) -> Result<Cells, AllocError> {
-    let before = Names::of_cells(alloc, if old.is_empty() { new } else { old })?;
-    let after = Names::of_cells(alloc, if new.is_empty() { old } else { new })?;
+pub fn marked_names<'a>(alloc: Global, old: &'a Cells, new: &'a Cells) -> Result<Cells, AllocError>
+    ensures { IfOk result (λ marked. marked ≡ marked_names old.now new.now) }
+{
+    let before = Names::of_cells(alloc, or_header(old, new))?;
+    let after = Names::of_cells(alloc, or_header(new, old))?;
     let columns = Columns::new(alloc, Cells::new(alloc), &[new, old])?;
+    let marked = marked_among(alloc, &before, &after, &columns.rest)?;
+    Ok(marked)
+}
+
+// These names, each with the mark of what became of it from the names before to those after.
+fn marked_among(
+    alloc: Global,
+    before: &Names,
+    after: &Names,
+    names: &Cells,
+) -> Result<Cells, AllocError>
+    ensures { IfOk result
+        (λ marked. marked ≡ map (marked_between (names_in before.now) (names_in after.now)) names.now) }
+{
     let mut marked = Cells::new(alloc);
-    for name in &columns.rest {
-        let fate = if !after.has(name) {
-            Fate::Goes
-        } else if before.has(name) {
-            Fate::Stays
-        } else {
-            Fate::Comes
-        };
-        marked.push(&fate.marked(alloc, name)?)?;
+    for name in names {
+        let name_marked = fate_between(before, after, name).marked(alloc, name)?;
+        marked.push(&name_marked)?;
     }
     Ok(marked)
+}
+
+// What became of a column from the names before to those after.
+fn fate_between(before: &Names, after: &Names, name: &[u8]) -> Fate
+    ensures { result ≡ fate_between (names_in before.now) (names_in after.now) name.now }
+{
+    if !after.has(name) {
+        Fate::Goes
+    } else if before.has(name) {
+        Fate::Stays
+    } else {
+        Fate::Comes
+    }
 }
 
 /// The columns of the table that changes make of another: those of the changes in their order, without those that go, and then those that
@@ -61,21 +92,15 @@ pub fn changed_columns(
     old: &Cells,
     changes: &Cells,
     gone: &Cells,
-) -> Result<Columns, AllocError> {
+) -> Result<Columns, AllocError>
+    ensures { IfOk result (AreChangedColumns key old.now changes.now gone.now) }
+{
     let going = Names::of_cells(alloc, gone)?;
     let named = Names::of_cells(alloc, changes)?;
-    let mut written = Cells::new(alloc);
-    for name in changes {
-        if !going.has(name) {
-            written.push(name)?;
-        }
-    }
-    for name in old {
-        if !named.has(name) {
-            written.push(name)?;
-        }
-    }
-    written_columns(alloc, key, &written, [changes, old, gone])
+    let mut written = kept_names(alloc, &going, false, changes)?;
+    put_kept_names(&mut written, &named, false, old)?;
+    let columns = written_columns(alloc, key, &written, changes, old, gone)?;
+    Ok(columns)
 }
 
 /// The columns of two versions of a table merged over their base, as rows are merged: a column that one of them dropped is dropped, and one
@@ -92,19 +117,36 @@ pub fn merged_columns<'a>(
     base: &'a Cells,
     ours: &'a Cells,
     theirs: &'a Cells,
-) -> Result<Columns, AllocError> {
-    let ours = if ours.is_empty() { base } else { ours };
-    let theirs = if theirs.is_empty() { base } else { theirs };
-    let written = if is_led_by_theirs(base, ours, theirs) {
-        merged_names(alloc, base, theirs, ours)?
+) -> Result<Columns, AllocError>
+    ensures { IfOk result (AreMergedColumns key base.now ours.now theirs.now) }
+{
+    let ours = or_header(ours, base);
+    let theirs = or_header(theirs, base);
+    let written = names_merged(alloc, base, ours, theirs)?;
+    let columns = written_columns(alloc, key, &written, base, ours, theirs)?;
+    Ok(columns)
+}
+
+// The names of the columns of two versions merged over their base, in the order of one of the versions.
+fn names_merged(
+    alloc: Global,
+    base: &Cells,
+    ours: &Cells,
+    theirs: &Cells,
+) -> Result<Cells, AllocError>
+    ensures { IfOk result (λ names. names ≡ names_merged base.now ours.now theirs.now) }
+{
+    if is_led_by_theirs(base, ours, theirs) {
+        merged_names(alloc, base, theirs, ours)
     } else {
-        merged_names(alloc, base, ours, theirs)?
-    };
-    written_columns(alloc, key, &written, [base, ours, theirs])
+        merged_names(alloc, base, ours, theirs)
+    }
 }
 
 // Whether theirs alone changed the columns, or theirs alone their order.
-fn is_led_by_theirs(base: &Cells, ours: &Cells, theirs: &Cells) -> bool {
+fn is_led_by_theirs(base: &Cells, ours: &Cells, theirs: &Cells) -> bool
+    ensures { result ≡ is_led_by_theirs base.now ours.now theirs.now }
+{
     ours == base || is_same_order(base, ours) && !is_same_order(base, theirs)
 }
 
@@ -115,36 +157,84 @@ fn merged_names(
     base: &Cells,
     first: &Cells,
     next: &Cells,
-) -> Result<Cells, AllocError> {
+) -> Result<Cells, AllocError>
+    ensures { IfOk result (λ names. names ≡ merged_names base.now first.now next.now) }
+{
     let before = Names::of_cells(alloc, base)?;
     let there = Names::of_cells(alloc, first)?;
     let beside = Names::of_cells(alloc, next)?;
     let mut names = Cells::new(alloc);
-    for name in first {
+    put_kept(&mut names, first, &before, &beside)?;
+    put_added(&mut names, next, &before, &there)?;
+    Ok(names)
+}
+
+// Puts those of a header behind other names that the other version did not drop.
+fn put_kept(
+    names: &mut Cells,
+    header: &Cells,
+    before: &Names,
+    beside: &Names,
+) -> Result<(), AllocError>
+    ensures { OnOk result (names.new ≡ names.old
+        ++ filter (λ name. has_name (names_in beside.now) name || not (has_name (names_in before.now) name)) header.now) }
+{
+    for name in header {
         if beside.has(name) || !before.has(name) {
             names.push(name)?;
         }
     }
-    for name in next {
+    Ok(())
+}
+
+// Puts those of a header behind other names that are new, and not in the other version.
+fn put_added(
+    names: &mut Cells,
+    header: &Cells,
+    before: &Names,
+    there: &Names,
+) -> Result<(), AllocError>
+    ensures { OnOk result (names.new ≡ names.old
+        ++ filter (λ name. not (has_name (names_in there.now) name) && not (has_name (names_in before.now) name)) header.now) }
+{
+    for name in header {
         if !there.has(name) && !before.has(name) {
             names.push(name)?;
         }
     }
-    Ok(names)
+    Ok(())
 }
 
 impl Columns {
     /// How many of the cells behind a key are written. Those behind them are of columns that go.
-    pub fn count_written(&self) -> usize {
-        self.order
-            .iter()
-            .filter(|place| matches!(place, Place::Rest))
-            .count()
+    pub fn count_written(&self) -> usize
+        ensures { result ≡ count_written self.now }
+    {
+        self.order.iter().filter(|place| is_rest(place)).count()
     }
 
     /// Whether a row of a group has a cell that is not empty in a column that goes.
-    pub fn lose_cells(&self, rows: &Group) -> bool {
+    pub fn lose_cells(&self, rows: &Group) -> bool
+        ensures { result ≡ loses_cells (count_written self.now) rows.now }
+    {
         let written = self.count_written();
-        rows.rows().iter().any(|row| row.iter().skip(written).any(|cell| !cell.is_empty()))
+        rows.rows().iter().any(|row| is_filled_behind(row, written))
     }
+}
+
+// Whether the cell of a column is none of the key.
+fn is_rest(place: &Place) -> bool
+    ensures { result ≡ is_rest place.now }
+{
+    match place {
+        Place::Key(_) => false,
+        Place::Rest => true,
+    }
+}
+
+// Whether a row has a cell that is not empty behind so many.
+fn is_filled_behind(row: &Cells, written: usize) -> bool
+    ensures { result ≡ list_any is_filled (drop written row.now) }
+{
+    row.iter().skip(written).any(|cell| !cell.is_empty())
 }

@@ -1,7 +1,9 @@
 //! Files whose headers are read, and what is wrong with them.
 ghost use Rattle.std.specs.Prelude.{◌≡◌, IfOk, Ok, OnOk};
+ghost use Rattle.keyed_files.specs.ChangedColumns.{marked_names};
+ghost use Rattle.keyed_files.specs.Keys.{AreChangeColumns, AreChangedColumnsBy, AreColumnsBy, AreJoinColumns};
 ghost use Rattle.keyed_files.specs.Names.{compared};
-ghost use Rattle.keyed_files.specs.Opening.{IsNamedAnew, IsOpened, IsRenamed};
+ghost use Rattle.keyed_files.specs.Opening.{IsNamedAnew, IsOpened, IsRenamed, first_header, headers_of, next_header};
 ghost use Rattle.keyed_files.specs.declared.source.Content.TheVariants.{Rows};
 
 use crate::column_changes::ColumnChanges;
@@ -128,7 +130,9 @@ impl<'a, R> Two<'a, R> {
     /// # Errors
     ///
     /// Returns the errors of `columns_of`, as a fault of the first file.
-    pub fn columns(&self, alloc: Global, key: Option<&str>) -> Result<Columns, Fault<'a>> {
+    pub fn columns(&self, alloc: Global, key: Option<&str>) -> Result<Columns, Fault<'a>>
+        ensures { IfOk result (AreColumnsBy key.entry (headers_of self.now) (headers_of self.now)) }
+    {
         let headers = [self.first.header(), self.next.header()];
         at(self.first.file, columns_of(alloc, key, &headers))
     }
@@ -138,7 +142,9 @@ impl<'a, R> Two<'a, R> {
     /// # Errors
     ///
     /// Returns the errors of `columns_of`, as a fault of the first file.
-    pub fn change_columns(&self, alloc: Global, key: Option<&str>) -> Result<Columns, Fault<'a>> {
+    pub fn change_columns(&self, alloc: Global, key: Option<&str>) -> Result<Columns, Fault<'a>>
+        ensures { IfOk result (AreChangeColumns key.entry (first_header self.now) (next_header self.now)) }
+    {
         let key = self.columns(alloc, key)?.key;
         let headers = [self.next.header(), self.first.header()];
         at(self.first.file, Columns::new(alloc, key, &headers))
@@ -149,7 +155,10 @@ impl<'a, R> Two<'a, R> {
     /// # Errors
     ///
     /// Returns want of memory, as a fault of the next file.
-    pub fn marked_names(&self, alloc: Global) -> Result<Cells, Fault<'a>> {
+    pub fn marked_names(&self, alloc: Global) -> Result<Cells, Fault<'a>>
+        ensures { IfOk result
+            (λ marked. marked ≡ marked_names (first_header self.now) (next_header self.now)) }
+    {
         let marked = marked_names(alloc, self.first.header(), self.next.header());
         at(self.next.file, marked)
     }
@@ -159,7 +168,10 @@ impl<'a, R> Two<'a, R> {
     /// # Errors
     ///
     /// Returns the errors of `columns_of`, as a fault of the first file.
-    pub fn changed_columns(&self, alloc: Global, key: Option<&str>) -> Result<Columns, Fault<'a>> {
+    pub fn changed_columns(&self, alloc: Global, key: Option<&str>) -> Result<Columns, Fault<'a>>
+        ensures { IfOk result (AreChangedColumnsBy key.entry (first_header self.now) (next_header self.now)
+            self.now.next.source.value.header.gone) }
+    {
         let key = self.columns(alloc, key)?.key;
         let (old, changes) = (self.first.header(), self.next.header());
         let columns = changed_columns(alloc, key, old, changes, self.next.source.gone());
@@ -171,7 +183,9 @@ impl<'a, R> Two<'a, R> {
     /// # Errors
     ///
     /// Returns the errors of `join_columns`, as a fault of the first file.
-    pub fn join_columns(&self, alloc: Global, key: Option<&str>) -> Result<JoinColumns, Fault<'a>> {
+    pub fn join_columns(&self, alloc: Global, key: Option<&str>) -> Result<JoinColumns, Fault<'a>>
+        ensures { IfOk result (AreJoinColumns key.entry (first_header self.now) (next_header self.now)) }
+    {
         let columns = join_columns(alloc, key, self.first.header(), self.next.header());
         at(self.first.file, columns)
     }

@@ -1,0 +1,6 @@
+use Rattle.std.proofs.Common.{◌∙◌, []}
+use Rattle.keyed_files.proofs.ColumnLemmas.{given-one}
+use Rattle.keyed_files.proofs.key_record.no_name.Goals as goal
+
+pub returns : goal.returns
+returns c = given-one _ _ [] (c.in_ok-names.ensures.first ∙ c.in_ok-from_slices.ensures) (c.in_ok-names.ensures.others ∙ c.in_ok-from_slices.ensures)
