@@ -1,4 +1,5 @@
 pub mod ChangedColumns
+pub mod ColumnLaws
 pub mod ColumnNames
 pub mod Delimiters
 pub mod Encodings

@@ -18,6 +18,7 @@ mod first_cell;
 mod header;
 mod joined_rows;
 mod key_record;
+mod laws;
 mod lined_up;
 mod lookups;
 mod merging;
@@ -44,6 +45,9 @@ pub use first_cell::quote_first;
 pub use joined_rows::{Sides, join_header};
 pub use key_record::{KeyNames, key_names};
 pub use keyed_numbers::{Decimal, is_same_cell};
+pub use laws::{
+    law_keeps_names, law_names_once, law_places_cells, law_puts_back, law_writes_names,
+};
 pub use lined_up::{
     Colour, Grid, Line, Shown, ShownCell, ShownName, heading, line_under, line_up, put_both,
     put_shown, put_version,
