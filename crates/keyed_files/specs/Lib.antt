@@ -5,6 +5,7 @@ pub mod Delimiters
 pub mod Encodings
 pub mod Headers
 pub mod JoinedRows
+pub mod KeyText
 pub mod Keys
 pub mod Lines
 pub mod Lost
