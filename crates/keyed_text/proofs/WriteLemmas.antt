@@ -1,8 +1,8 @@
 -- Cells and rows written one after the other.
-use Rattle.std.proofs.Common.{◌≡◌, ◌∙◌, ◌==◌, ◌+◌, ◌^◌, ◌-◌, ℕ, zero, suc, List, [], ◌∷◌, ◌++◌, length, Option, Some, None, true, false, refl, sym, ap, arith, append_assoc, length-append}
+use Rattle.std.proofs.Common.{◌≡◌, ◌∙◌, ◌==◌, ◌+◌, ◌^◌, ◌-◌, ℕ, zero, suc, List, [], ◌∷◌, ◌++◌, length, Option, Some, None, Bool, true, false, refl, sym, ap, arith, append_assoc, length-append}
 use Rattle.std.proofs.lemmas.List.{append-nil}
 use Rattle.std.proofs.lemmas.Bool.{ne_eqb}
-use Rattle.std.specs.Prelude.{not, min, if◌then◌else◌}
+use Rattle.std.specs.Prelude.{◌&&◌, not, min, if◌then◌else◌}
 use Rattle.std.specs.Io.KnownBytes.{Appends, Keeps, append_known}
 use Rattle.csv.specs.Writing.{end_text, field_text, fields_written, has_written, is_blank, next_sep, row_body, row_text, tail_text, text_written, writer_pending, writer_setup, writer_under}
 use Rattle.csv.specs.declared.writer.WriterBuilder.{WriterBuilder}
@@ -70,6 +70,30 @@ has-row contents d m there rows cells a b h setup fields clean bytes =
       )
           (appends-more _ _ _ _ _ h.bytes (rw (h.setup, tail) at bytes));
     }
+
+-- a row is written at once
+pub has-whole : {W : Type 0} (contents : W → Option (List ℕ)) (d : ℕ) (m : Option ℕ) (there : Option (List ℕ)) (rows : List (List (List ℕ))) (row : List (List ℕ)) (a b : RowWriter W)
+    → HasWritten d m contents there rows [] a → writer_setup b.writer ≡ writer_setup a.writer → fields_written b.writer ≡ 0 → has_written b.writer ≡ false
+    → Appends (text_written contents a.writer) (text_written contents b.writer) (row_text (writer_setup a.writer) row)
+    → HasWritten d m contents there (rows ++ (row ∷ [])) [] b
+unfolding is_blank
+has-whole contents d m there rows row a b h setup fields clean bytes = record {
+  setup = setup ∙ h.setup;
+  fields = fields;
+  blank = rw clean refl;
+  bytes = rw (append-nil (rows_text d m (rows ++ (row ∷ []))), rows_text-and d m rows row)
+      (appends-more _ _ _ _ _ (rw (append-nil (rows_text d m rows)) at h.bytes) (rw h.setup at bytes));
+}
+
+not-and : (b : Bool) → true ≡ (not b && true) → b ≡ false
+not-and false e = refl
+not-and true e = e
+
+-- a writer in whose row no cell was put has written nothing of it
+pub none-written : {W : Type 0} (contents : W → Option (List ℕ)) (d : ℕ) (m : Option ℕ) (there : Option (List ℕ)) (rows : List (List (List ℕ))) (a : RowWriter W)
+    → HasWritten d m contents there rows [] a → has_written a.writer ≡ false
+unfolding is_blank
+none-written contents d m there rows a h = not-and (has_written a.writer) h.blank
 
 appends-nil : (x : Option (List ℕ)) → Appends x (append_known x []) []
 appends-nil None = tt
