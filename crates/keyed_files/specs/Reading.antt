@@ -11,8 +11,10 @@ use Rattle.keyed_files.specs.Rows.{shown_sign}
 use Rattle.keyed_files.specs.Writing.{comment_of, delimiter_of}
 use Rattle.keyed_files.specs.declared.columns.Columns.{Columns}
 use Rattle.keyed_files.specs.declared.request.Form.{Form}
+use Rattle.keyed_files.specs.declared.sign.Sign.{Sign}
 use Rattle.keyed_files.specs.declared.sign.SignedRow.{SignedRow}
 use Rattle.keyed_files.specs.declared.source.Content.{Content}
+use Rattle.keyed_files.specs.declared.source.Content.TheVariants as content
 use Rattle.keyed_files.specs.declared.source.Next.{Next}
 use Rattle.keyed_files.specs.declared.source.Next.TheVariants as next
 use Rattle.keyed_files.specs.declared.source.Places.{Places}
@@ -48,9 +50,13 @@ GivesRecord remaining old new false = (d : ℕ) (c : Option ℕ) (text : List �
 abbrev pub parts_of : ReadRow → List (List ℕ) × List (List ℕ)
 parts_of row = (row.key, row.cells)
 
+-- the key of a record: its cells at the places of the key's columns
+abbrev pub key_in : Places → List (List ℕ) → List (List ℕ)
+key_in places fields = map (cell_at fields) places.key.items
+
 -- the cells of a record at the places of columns
 abbrev pub picked : Places → List (List ℕ) → List (List ℕ) × List (List ℕ)
-picked places fields = (map (cell_at fields) places.key.items, map (cell_at fields) places.rest.items)
+picked places fields = (key_in places fields, map (cell_at fields) places.rest.items)
 
 -- a row has those cells
 abbrev pub IsPicked : Places → List (List ℕ) → ReadRow → Type 0
@@ -60,6 +66,11 @@ IsPicked places fields row = parts_of row ≡ picked places fields
 pub record IsSigned (places : Places) (fields : List (List ℕ)) (signed : SignedRow) : Type 0 where
   pub row : IsPicked places fields signed.row
   pub sign : field_at fields 0 ≡ Some (shown_sign signed.sign)
+
+-- the first cell of a record is a sign, where a file has changes
+abbrev pub HasSign : Content → List (List ℕ) → Type 0
+HasSign content.Rows fields = ⊤
+HasSign content.Changes fields = (sign : Sign) × (field_at fields 0 ≡ Some (shown_sign sign))
 
 -- the places of the cells of columns under the header of a source
 abbrev pub PlacesOf : {R : Type 0} → Source R → Columns → Places → Type 0

@@ -7,7 +7,8 @@ ghost use Rattle.keyed_files.specs.Headers.{ArePlaces, HeaderOf, cells_before, p
 ghost use Rattle.keyed_files.specs.Lines.{checked_left, lines_left};
 ghost use Rattle.keyed_files.specs.Names.{renamed};
 ghost use Rattle.keyed_files.specs.Picked.{cell_at};
-ghost use Rattle.keyed_files.specs.Reading.{GivesRecord, IsOpen, IsPicked, IsSigned, PlacesOf, last_record, next_of, text_read};
+ghost use Rattle.keyed_files.specs.Reading.{GivesRecord, HasSign, IsOpen, IsPicked, IsSigned, PlacesOf};
+ghost use Rattle.keyed_files.specs.Reading.{key_in, last_record, next_of, text_read};
 ghost use Rattle.keyed_files.specs.Rows.{shown_sign};
 ghost use Rattle.keyed_files.specs.Writing.{comment_of, delimiter_of};
 ghost use Rattle.keyed_files.specs.declared.source.Next.TheVariants.{Read};
@@ -153,6 +154,35 @@ impl<R: Read + Drop> Source<R> {
         } else {
             Ok(None)
         }
+    }
+
+    /// Reads the next row, if there is one, and returns its key. The row stays as it is read, with its sign where the file has changes:
+    /// `last_row` has it. So a row that is only passed on is not copied.
+    ///
+    /// # Errors
+    ///
+    /// Returns the errors of `read_row`, and of a file of changes `NoSign` if the first cell is no sign.
+    pub fn read_key(&mut self, places: &Places) -> Result<Option<Key>, Reason>
+        ensures gives { IfOk result (λ key. GivesRecord R.remaining self.old self.new (is_some key)) }
+        ensures header { self.new.header ≡ self.old.header }
+        ensures key { IfOk result (λ key. IfSome key (λ key. key ≡ key_in places.now (last_record self.new))) }
+        ensures signed { IfOk result (λ key. IfSome key (λ _. HasSign self.new.content (last_record self.new))) }
+    {
+        if self.read_record()? {
+            let line = self.row_line();
+            check_sign(self.content, line, &self.last)?;
+            let key = places.pick_key(&mut self.picked, &self.last)?;
+            Ok(Some(key))
+        } else {
+            Ok(None)
+        }
+    }
+
+    /// The row that was read last, of all its cells: one with fewer or more than there are columns is not made even.
+    pub fn last_row(&self) -> &ByteRecord
+        ensures { result.now ≡ self.now.last }
+    {
+        &self.last
     }
 
     /// Reads the next row of changes, if there is one, and its sign.
@@ -350,6 +380,19 @@ fn sign_of(line: u64, row: &ByteRecord) -> Result<Sign, Reason>
     }
 }
 
+// Tells that the first cell of a record on this line is a sign, where the file has changes.
+fn check_sign(content: Content, line: u64, row: &ByteRecord) -> Result<(), Reason>
+    ensures { OnOk result (HasSign content (fields_of row.now)) }
+{
+    match content {
+        Content::Rows => Ok(()),
+        Content::Changes => {
+            sign_of(line, row)?;
+            Ok(())
+        }
+    }
+}
+
 /// Where the columns that are asked for stand in a row.
 #[derive(Drop)]
 pub struct Places {
@@ -374,6 +417,15 @@ impl Places {
         })
     }
 
+    // The key of a record.
+    fn pick_key(&self, picked: &mut Cells, from: &ByteRecord) -> Result<Key, AllocError>
+        ensures { IfOk result (λ key. key ≡ key_in self.now (fields_of from.now)) }
+    {
+        pick(picked, from, &self.key)?;
+        let key = Key::copied(picked)?;
+        Ok(key)
+    }
+
     // The key of a record, the line that it begins on, and its other cells. They are picked one after the other.
     fn pick_row(
         &self,
@@ -383,8 +435,7 @@ impl Places {
     ) -> Result<ReadRow, AllocError>
         ensures { IfOk result (IsPicked self.now (fields_of from.now)) }
     {
-        pick(picked, from, &self.key)?;
-        let key = Key::copied(picked)?;
+        let key = self.pick_key(picked, from)?;
         pick(picked, from, &self.rest)?;
         Ok(ReadRow {
             key,
