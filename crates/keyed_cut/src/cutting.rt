@@ -1,11 +1,10 @@
 //! Tables read twice and written into the files of their parts.
 
-use crate::batches::{BATCH, deal_batch, read_batch};
 use crate::fault::{CutFault, CutReason};
 use crate::listing::listing_text;
 use crate::names::{draft_name, listing_name, part_name, stems_of};
 use crate::request::{Cut, Divided};
-use crate::sampling::{Sampled, sample_tables};
+use crate::sampling::{Sampled, key_size, sample_tables, weight_of};
 use crate::sinks::{Count, Counts, Target, make_sinks};
 use crate::tables::{Table, open_tables};
 use keyed_files::{Reason, Shown, ShownName};
@@ -123,16 +122,13 @@ fn cut_table<'a, R: Files + AllocGlobal>(
 ) -> Result<Counts, CutFault<'a>> {
     let alloc = rt.alloc();
     let header = table.part_header(alloc)?;
-    let mut sinks = make_sinks(rt, target, bounds.count_parts(), header)?;
+    let mut sinks = make_sinks(rt, target, bounds, header, table.count_cells())?;
     for _ in 0..u64::MAX {
-        let rows = read_batch(alloc, table)?;
-        let is_last = rows.len() < BATCH;
-        for (part, rows) in deal_batch(alloc, bounds, rows)?.iter().enumerate() {
-            sinks.put_rows(alloc, target, &table.columns, bounds, part, rows)?;
-        }
-        if is_last {
+        let Some(key) = table.next_key()? else {
             break;
-        }
+        };
+        let weight = weight_of(key_size(&key), table.row_size());
+        sinks.put_row(alloc, target, bounds, &key, table.row(), weight)?;
     }
     sinks.end(alloc, target)
 }
