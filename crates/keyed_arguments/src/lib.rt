@@ -18,8 +18,8 @@ use form::{files_of, form_of};
 use git::{git_asked, put_git_commands};
 use keyed_cut::Cut;
 use keyed_files::{
-    Asked, Colours, Command, Comparing, Format, JoinNames, Joining, Kind, Reason, Request,
-    Settings, SortedRequest, Wanted, key_names,
+    Asked, Colours, Command, Comparing, Format, JoinNames, Joining, Kind, Look, Reason, Request,
+    RowFormat, RowsShown, Settings, SortedChanges, SortedRequest, Wanted, key_names,
 };
 use merging::{merging_of, put_merging};
 use more::{lookup_of, overlay_of};
@@ -49,8 +49,8 @@ pub enum ParseError {
     },
     /// Tables are to be compared as they are read, and the answer to be lined up, for which all its rows must be known.
     SortedTable,
-    /// Changes are to have no heading, and to be lined up under one.
-    TableWithNoHeading,
+    /// An answer that is no CSV is to have no names of columns.
+    NoHeading,
     /// Tables are to be cut into so many parts.
     PartCount(u64),
 }
@@ -100,7 +100,7 @@ impl ParseError {
             ParseError::Value { .. }
             | ParseError::Names { .. }
             | ParseError::SortedTable
-            | ParseError::TableWithNoHeading
+            | ParseError::NoHeading
             | ParseError::PartCount(_) => true,
         }
     }
@@ -125,10 +125,10 @@ impl fmt::Display for ParseError {
             ParseError::Words(error) => write!(f, "{error}"),
             ParseError::Value { option, wrong } => writeln!(f, "keyed: --{option}: {wrong}"),
             ParseError::Names { option, reason } => writeln!(f, "keyed: --{option}: {reason}"),
-            ParseError::SortedTable => f.write_str("keyed: diff --sorted needs --format csv\n"),
-            ParseError::TableWithNoHeading => {
-                f.write_str("keyed: diff --no-heading needs --format csv\n")
+            ParseError::SortedTable => {
+                f.write_str("keyed: diff --sorted needs --format csv or json\n")
             }
+            ParseError::NoHeading => f.write_str("keyed: --no-heading needs --format csv\n"),
             ParseError::PartCount(count) => writeln!(
                 f,
                 "keyed: --parts: {count} parts, and there may be 1 to 999"
@@ -176,19 +176,9 @@ fn answer_of<'a>(
 ) -> Result<Line<'a>, ParseError> {
     let command = command_of(alloc, name, matches, terminal)?;
     let heading = heading_of(matches);
-    if let (Heading::LeftOut, Command::Whole { request, .. }) = (heading, &command) {
-        if matches!(
-            request,
-            Request::Diff {
-                how: Comparing {
-                    format: Format::Report(_),
-                    ..
-                },
-                ..
-            }
-        ) {
-            return Err(ParseError::TableWithNoHeading);
-        }
+    match heading {
+        Heading::LeftOut if !is_csv(&command) => return Err(ParseError::NoHeading),
+        Heading::LeftOut | Heading::Written => {}
     }
     Ok(Line::Asked {
         asked: Asked::Answer {
@@ -198,6 +188,23 @@ fn answer_of<'a>(
         heading,
         progress: progress_of(matches),
     })
+}
+
+// Whether the answer to a command is CSV, unless it is why there is none.
+fn is_csv(command: &Command<'_>) -> bool {
+    match command {
+        Command::Whole { request, .. } => match request {
+            Request::Diff { how, .. } => matches!(how.format, Format::Csv),
+            Request::Join { how, .. } => matches!(how.format, RowFormat::Csv),
+            Request::Apply { .. } | Request::Merge { .. } => true,
+        },
+        Command::Sorted { request, .. } => match request {
+            SortedRequest::Diff { how, .. } => matches!(how, SortedChanges::Csv),
+            SortedRequest::Join { how, .. } => matches!(how.format, RowFormat::Csv),
+        },
+        Command::Lookup { request, .. } => matches!(request.how.format, RowFormat::Csv),
+        Command::Overlay { .. } => true,
+    }
 }
 
 fn command_of<'a>(
@@ -221,14 +228,11 @@ fn command_of<'a>(
             wanted,
         });
     }
-    match sorted_of(request) {
-        Some(request) => Ok(Command::Sorted {
-            layout: settings.layout(),
-            request,
-            wanted,
-        }),
-        None => Err(ParseError::SortedTable),
-    }
+    Ok(Command::Sorted {
+        layout: settings.layout(),
+        request: sorted_of(request, wanted)?,
+        wanted,
+    })
 }
 
 // How much of the answer is wanted.
@@ -241,14 +245,35 @@ fn wanted_of(matches: &ArgMatches<'_>) -> Wanted {
 }
 
 // The request as one whose answer is written while its tables are read, if it can be.
-fn sorted_of(request: Request<'_>) -> Option<SortedRequest<'_>> {
+fn sorted_of(request: Request<'_>, wanted: Wanted) -> Result<SortedRequest<'_>, ParseError> {
     match request {
-        Request::Diff { old, new, how } => match how.format {
-            Format::Csv => Some(SortedRequest::Diff { old, new }),
-            Format::Report(_) => None,
+        Request::Diff { old, new, how } => Ok(SortedRequest::Diff {
+            old,
+            new,
+            how: sorted_changes(how, wanted)?,
+        }),
+        Request::Join { left, right, how } => Ok(SortedRequest::Join { left, right, how }),
+        Request::Apply { .. } | Request::Merge { .. } => Err(ParseError::SortedTable),
+    }
+}
+
+// How changes are written while tables are read. Where the status alone is wanted, that is as good as any form.
+fn sorted_changes(how: Comparing<'_>, wanted: Wanted) -> Result<SortedChanges<'_>, ParseError> {
+    let json = SortedChanges::Json {
+        columns: how.view.columns,
+        tolerance: how.tolerance,
+    };
+    match (how.format, wanted) {
+        (Format::Csv, _) => Ok(SortedChanges::Csv),
+        (Format::Report(_), Wanted::Status) => Ok(json),
+        (Format::Report(Look::Json), Wanted::Answer) => match how.view.rows {
+            RowsShown::All => Ok(json),
+            RowsShown::First(_) | RowsShown::Nothing => Err(ParseError::Value {
+                option: "summary",
+                wrong: "not with --sorted, whose counts go to the standard error: give > /dev/null",
+            }),
         },
-        Request::Join { left, right, how } => Some(SortedRequest::Join { left, right, how }),
-        _ => None,
+        (Format::Report(_), Wanted::Answer) => Err(ParseError::SortedTable),
     }
 }
 
@@ -275,6 +300,7 @@ fn request_of<'a>(
             how: Joining {
                 kind: kind_of(matches.get_str("kind").unwrap_or("outer")),
                 names: names_of(matches)?,
+                format: row_format_of(matches),
             },
         },
         _ => Request::Diff {
@@ -283,6 +309,14 @@ fn request_of<'a>(
             how: comparing_of(alloc, matches, terminal)?,
         },
     })
+}
+
+// How the rows of a join are written.
+fn row_format_of(matches: &ArgMatches<'_>) -> RowFormat {
+    match matches.get_str("format") {
+        Some("json") => RowFormat::Json,
+        _ => RowFormat::Csv,
+    }
 }
 
 // What the header of a join has beside the names of columns.
@@ -384,7 +418,7 @@ static COMMANDS: [Below<'static>; 6] = [
     ),
     (
         "join",
-        "Prints two tables joined by key as CSV. Status 0, or 2: trouble.",
+        "Prints two tables joined by key. Status 0, or 2: trouble.",
         &[
             ("LEFT", "The left table; - is the standard input"),
             ("RIGHT", "The right table; - is the standard input"),
@@ -559,12 +593,14 @@ fn put_options<'a>(alloc: Global, args: &mut Vec<Arg<'a>>, name: &str) -> Result
         }
         "join" => {
             put(args, choice(alloc, KIND))?;
+            put(args, choice(alloc, ROWS))?;
             put(args, prefix(alloc))?;
             put(args, side(alloc))?;
             put(args, sorted(alloc)?)
         }
         "lookup" => {
             put(args, choice(alloc, LOOKUP_KIND))?;
+            put(args, choice(alloc, ROWS))?;
             put(args, prefix(alloc))
         }
         "overlay" => put(args, cells(alloc)?),
@@ -629,6 +665,13 @@ const REPORT: OneOf = OneOf {
     shown: "FORM",
     words: &["table", "json", "markdown", "html"],
     help: "How rows are told for which there is no table, as rows in conflict",
+};
+
+const ROWS: OneOf = OneOf {
+    name: "format",
+    shown: "csv|json",
+    words: &["csv", "json"],
+    help: "CSV, or JSON, a line a row: its key, and its other cells of each table that has it",
 };
 
 const COLOR: OneOf = OneOf {

@@ -1,7 +1,7 @@
 //! What the words of a command line ask for where it is no request of whole tables: rows looked up, and tables laid one over the other.
 
 use crate::form::delimiter_for;
-use crate::{ParseError, file_of, names_of, put, settings_of};
+use crate::{ParseError, file_of, names_of, put, row_format_of, settings_of};
 use clap::ArgMatches;
 use keyed_files::{Command, Finding, Layer, Lookup, LookupKind, NamedFile, Overlay};
 use std::alloc::Global;
@@ -23,6 +23,7 @@ pub fn lookup_of<'a>(alloc: Global, matches: &ArgMatches<'a>) -> Result<Command<
             how: Finding {
                 kind: kind_of(matches.get_str("kind").unwrap_or("left")),
                 names,
+                format: row_format_of(matches),
             },
         },
     })

@@ -53,7 +53,7 @@ pub fn comparing_of<'a>(
     matches: &ArgMatches<'a>,
     terminal: Colours,
 ) -> Result<Comparing<'a>, ParseError> {
-    if matches.get_str("format") == Some("csv") || matches.get_flag("sorted") {
+    if matches.get_str("format") == Some("csv") {
         check_whole(matches)?;
     }
     let view = View {
@@ -76,7 +76,7 @@ fn check_whole(matches: &ArgMatches<'_>) -> Result<(), ParseError> {
     if matches.get_flag("numbers") {
         return Err(ParseError::Value {
             option: "numbers",
-            wrong: "not with --format csv or --sorted: the changes that apply takes are of cells as they stand",
+            wrong: "not with --format csv: the changes that apply takes are of cells as they stand",
         });
     }
     if matches.get_flag("summary") {
@@ -93,7 +93,7 @@ fn check_whole(matches: &ArgMatches<'_>) -> Result<(), ParseError> {
 fn not_whole(option: &'static str) -> ParseError {
     ParseError::Value {
         option,
-        wrong: "not with --format csv or --sorted: a part of the changes is no patch that apply takes",
+        wrong: "not with --format csv: a part of the changes is no patch that apply takes",
     }
 }
 

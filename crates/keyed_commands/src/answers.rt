@@ -10,7 +10,8 @@ ghost use Rattle.keyed_commands.specs.TablesRead.{DiffsSources, DiffsStreams};
 use crate::by_number::{changed_by_number, settled_by_number};
 use crate::changed::{changes_shown, diff_as_csv, diff_status};
 use crate::job::{Job, Table};
-use crate::joined::{JoinForm, join_as_csv};
+use crate::joined::JoinForm;
+use crate::joined_json::write_join;
 use crate::marks::{has_conflict, parted, write_marked};
 use crate::tables::{answer_of_rows, apply_tables, merge_by_cell, merge_by_row, report_conflicts};
 use crate::watched::{Watched, watch};
@@ -394,7 +395,7 @@ fn join_files<'a, R: Read + Drop>(
     sides: &mut Two<'a, R>,
 ) -> Result<Answer, Fault<'a>> {
     let (left, right) = job.read_sides(sides)?;
-    let bytes = at(sides.next.file, join_as_csv(&job, form, left, right))?;
+    let bytes = at(sides.next.file, write_join(&job, form, left, right))?;
     Ok(Answer {
         bytes,
         status: 0,

@@ -1,6 +1,7 @@
 //! From the files that a request names to its answer.
 
 use crate::answers::{Answer, apply, diff, join, merge};
+use crate::finished::Finished;
 use crate::layers::overlay;
 use crate::lookups::lookup;
 use crate::sorted::{diff_sorted, join_sorted};
@@ -14,7 +15,7 @@ use std::io::Write;
 use std::rt::Files;
 use std::{fs, io};
 
-/// Writes the answer to a command, unless its status alone is wanted, and returns the status.
+/// Writes the answer to a command, unless its status alone is wanted, and returns the status, and the counts that are to be said beside it.
 ///
 /// # Errors
 ///
@@ -23,27 +24,28 @@ pub fn write_command<'a, R: Files + Input + AllocGlobal, W: Write>(
     rt: &R,
     command: Command<'a>,
     output: &mut W,
-) -> Result<u8, Fault<'a>> {
-    match command {
+) -> Result<Finished, Fault<'a>> {
+    let status = match command {
         Command::Whole {
             settings,
             request,
             wanted,
         } => match wanted {
-            Wanted::Answer => write_request(rt, settings, request, output),
-            Wanted::Status => Ok(answer_request(rt, settings, request)?.status),
+            Wanted::Answer => write_request(rt, settings, request, output)?,
+            Wanted::Status => answer_request(rt, settings, request)?.status,
         },
         Command::Sorted {
             layout,
             request,
             wanted,
         } => match wanted {
-            Wanted::Answer => stream_request(rt, layout, request, output),
-            Wanted::Status => stream_request(rt, layout, request, &mut io::sink()),
+            Wanted::Answer => return stream_request(rt, layout, request, output),
+            Wanted::Status => stream_request(rt, layout, request, &mut io::sink())?.status,
         },
-        Command::Lookup { layout, request } => write_lookup(rt, layout, request, output),
-        Command::Overlay { settings, request } => write_overlay(rt, settings, request, output),
-    }
+        Command::Lookup { layout, request } => write_lookup(rt, layout, request, output)?,
+        Command::Overlay { settings, request } => write_overlay(rt, settings, request, output)?,
+    };
+    Ok(Finished::of(status))
 }
 
 // Writes the rows of a table looked up in another while they are read.
@@ -117,7 +119,7 @@ pub fn write_request<'a, R: Files + Input + AllocGlobal, W: Write>(
     Ok(answer.status)
 }
 
-/// Writes the answer to a request while its tables are read, and returns the status.
+/// Writes the answer to a request while its tables are read, and returns the status, and the counts that are to be said beside it.
 ///
 /// # Errors
 ///
@@ -128,14 +130,14 @@ pub fn stream_request<'a, R: Files + Input + AllocGlobal, W: Write>(
     layout: Layout<'a>,
     request: SortedRequest<'a>,
     output: &mut W,
-) -> Result<u8, Fault<'a>> {
+) -> Result<Finished, Fault<'a>> {
     request.check_stdin()?;
     let alloc = rt.alloc();
     let next = layout.form.reading.next;
     match request {
-        SortedRequest::Diff { old, new } => {
+        SortedRequest::Diff { old, new, how } => {
             let old = stream_of(rt, old, None);
-            diff_sorted(alloc, layout, old, stream_of(rt, new, next), output)
+            diff_sorted(alloc, layout, how, old, stream_of(rt, new, next), output)
         }
         SortedRequest::Join { left, right, how } => {
             let left = stream_of(rt, left, None);

@@ -6,13 +6,14 @@ use either_or_both::EitherOrBoth;
 use either_or_both::join::outer_join;
 use eob_joins::{anti_join, inner_join, left_join, right_join, semi_join};
 use keyed_files::{
-    Form, JoinColumns, Joining, Kind, Reason, Sides, Written, join_header, quote_first, write_table,
+    Form, JoinColumns, Joining, Kind, Reason, RowFormat, Sides, Written, join_header, quote_first,
+    write_table,
 };
 use keyed_rows::{Cells, Group, Key};
 use std::alloc::{AllocError, Global};
 
-// A row of a join.
-trait JoinedRow: Sized {
+/// A row of a join.
+pub(crate) trait JoinedRow: Sized {
     fn sides(&self) -> Sides<'_>;
 
     // The same with the rows of each side in the order of its file.
@@ -124,15 +125,16 @@ impl JoinedRow for (Option<Group>, Group) {
     }
 }
 
-/// Which rows a join has, and the names of its columns.
+/// Which rows a join has, how they are written, and the names of the columns of CSV.
 #[derive(Drop)]
 pub struct JoinForm {
     pub kind: Kind,
+    pub format: RowFormat,
     pub header: Cells,
 }
 
 impl JoinForm {
-    /// The form of a join under these columns. With no header no name is asked for.
+    /// The form of a join under these columns. Of CSV with no header, and of JSON, no name is asked for.
     ///
     /// # Errors
     ///
@@ -143,13 +145,13 @@ impl JoinForm {
         how: Joining<'_>,
         columns: &JoinColumns,
     ) -> Result<Self, Reason> {
-        let header = if form.has_header {
-            join_header(alloc, how, columns)?
-        } else {
-            Cells::new(alloc)
+        let header = match how.format {
+            RowFormat::Csv if form.has_header => join_header(alloc, how, columns)?,
+            RowFormat::Csv | RowFormat::Json => Cells::new(alloc),
         };
         Ok(JoinForm {
             kind: how.kind,
+            format: how.format,
             header,
         })
     }

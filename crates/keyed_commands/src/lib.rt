@@ -11,10 +11,12 @@ mod by_number;
 mod changed;
 mod come_out;
 mod files;
+mod finished;
 mod fits;
 mod git;
 mod job;
 mod joined;
+mod joined_json;
 mod laws;
 mod layers;
 mod line_diff;
@@ -33,14 +35,16 @@ mod written;
 
 pub use answers::{Answer, Outcome, apply, diff, join, merge};
 pub use files::{answer_request, stream_request, write_command, write_request, write_whole};
+pub use finished::{Finished, SideCounts, StreamCounts};
 pub use git::{write_git_diff, write_git_merge, write_git_setup, write_git_unmerged};
 pub use keyed_files::{
     Asked, Colours, Command, Comment, Comparing, Conflicts, Decimal, Delimiter, Encoding, Fault,
     Finding, Form, Format, GitDiff, GitMerge, JoinNames, Joining, Kind, Layer, Layout, Lengths,
     Look, Lookup as LookupRequest, LookupKind, Merging, NamedFile, Overlay as OverlayRequest,
-    Picked, Quotes, Reading, Reason, Request, RowsShown, Settings, Shown, ShownCell, ShownName,
-    SortedRequest, Stream, Unit, View, Wanted, at,
+    Picked, Quotes, Reading, Reason, Request, RowFormat, RowsShown, Settings, Shown, ShownCell,
+    ShownName, SortedChanges, SortedRequest, Stream, Unit, View, Wanted, at,
 };
+pub use keyed_reports::Counts;
 pub use laws::{law_diff_apply, law_diff_reads};
 pub use layers::overlay;
 pub use lookups::lookup;

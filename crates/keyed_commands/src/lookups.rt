@@ -7,8 +7,9 @@ use eob_joins::{LookupRow, lookup_join};
 use indexmap::IndexMap;
 use keyed_files::{
     Columns, Content, Fault, Finding, Form, JoinColumns, Layout, LookupKind, Opened, Places,
-    Reason, Stream, Two, Written, at, lookup_header, quote_first,
+    Reason, RowFormat, Stream, Two, Written, at, lookup_header, quote_first,
 };
+use keyed_reports::{JsonSides, put_json_row};
 use keyed_rows::{Cells, Key, ReadRow, RepeatedKey};
 use std::alloc::{AllocError, Global};
 use std::io::{Read, Write};
@@ -26,8 +27,8 @@ struct Found {
 // The rows of the right table by their keys, each of which stands once.
 type FoundByKey = IndexMap<Key, Found>;
 
-/// Writes each row of the left table, in its order, with the row of the right one that has its key, as CSV while the left one is read, and
-/// returns the status. Takes the memory of the right table.
+/// Writes each row of the left table, in its order, with the row of the right one that has its key, while the left one is read, and returns
+/// the status. Takes the memory of the right table.
 ///
 /// # Errors
 ///
@@ -54,10 +55,14 @@ pub fn lookup<'a, R: Read + Drop, W: Write>(
         alloc,
         form: layout.form,
         kind: how.kind,
+        format: how.format,
         columns: &columns,
         found,
     };
-    let header = at(right_file, lookup_header(alloc, how, &columns))?;
+    let header = match how.format {
+        RowFormat::Csv => Some(at(right_file, lookup_header(alloc, how, &columns))?),
+        RowFormat::Json => None,
+    };
     write_parts(&work, header, &places, &mut sides.first, output)
 }
 
@@ -67,6 +72,7 @@ struct LookupWork<'c> {
     alloc: Global,
     form: Form,
     kind: LookupKind,
+    format: RowFormat,
     columns: &'c JoinColumns,
     found: FoundByKey,
 }
@@ -109,20 +115,20 @@ fn put_unique(found: &mut FoundByKey, row: ReadRow) -> Result<(), Reason>
     Ok(())
 }
 
-// Writes what is found of the rows of the left table, part by part, the first behind the header.
+// Writes what is found of the rows of the left table, part by part, the first behind the header, if there is one.
 fn write_parts<'a, R: Read + Drop, W: Write>(
     work: &LookupWork<'_>,
-    header: Cells,
+    header: Option<Cells>,
     places: &Places,
     left: &mut Opened<'a, R>,
     output: &mut W,
 ) -> Result<u8, Fault<'a>> {
     // It stands before the first part alone.
-    let mut header = Some(header);
+    let mut header = header;
     for _ in 0..u64::MAX {
         let rows = at(left.file, read_part(work.alloc, left, places))?;
         let is_last = rows.len() < PART;
-        let bytes = at(left.file, part_as_csv(work, header.take(), rows))?;
+        let bytes = at(left.file, write_rows(work, header.take(), rows))?;
         at("the standard output", output.write_all(&bytes))?;
         if is_last {
             break;
@@ -148,11 +154,27 @@ fn read_part<R: Read + Drop>(
     Ok(rows)
 }
 
-// What is found of these rows as CSV, behind a header if one is given and tables have one.
-fn part_as_csv(
+// What is found of these rows, of CSV behind a header if one is given and tables have one.
+fn write_rows(
     work: &LookupWork<'_>,
     header: Option<Cells>,
     rows: Vec<(Key, Cells)>,
+) -> Result<Vec<u8>, Reason> {
+    let rows = match look_up(work.alloc, rows, &work.found) {
+        Ok(rows) => rows,
+        Err(AllocError) => return Err(Reason::NoMemory),
+    };
+    match work.format {
+        RowFormat::Csv => rows_as_csv(work, header, &rows),
+        RowFormat::Json => Ok(rows_as_json(work, &rows)?),
+    }
+}
+
+// Rows with what is found of them as CSV.
+fn rows_as_csv(
+    work: &LookupWork<'_>,
+    header: Option<Cells>,
+    rows: &[LookupRow<'_, Key, Cells, Found>],
 ) -> Result<Vec<u8>, Reason> {
     let mut written = Written::new(work.alloc, work.form);
     if let Some(header) = header {
@@ -160,15 +182,45 @@ fn part_as_csv(
             written.put_join_heading(&header)?;
         }
     }
-    let rows = match look_up(work.alloc, rows, &work.found) {
-        Ok(rows) => rows,
-        Err(AllocError) => return Err(Reason::NoMemory),
-    };
     for row in rows {
-        put_row(work, &mut written, &row)?;
+        put_row(work, &mut written, row)?;
     }
     let bytes = written.finish()?;
     Ok(quote_first(work.alloc, bytes, work.form.delimiter)?)
+}
+
+// The same as JSON, a line a row.
+fn rows_as_json(
+    work: &LookupWork<'_>,
+    rows: &[LookupRow<'_, Key, Cells, Found>],
+) -> Result<Vec<u8>, AllocError> {
+    let mut text = Vec::new(work.alloc);
+    for (key, cells, found) in rows {
+        if let Some(sides) = sides_of(work.kind, cells, *found) {
+            put_json_row(work.alloc, &mut text, work.columns, key, sides)?;
+        }
+    }
+    Ok(text)
+}
+
+// The cells of a row and of what is found of it, if it is one of this kind of look-up.
+fn sides_of<'r>(
+    kind: LookupKind,
+    cells: &'r Cells,
+    found: Option<&'r Found>,
+) -> Option<JsonSides<'r>> {
+    let sides = JsonSides {
+        left: Some(cells),
+        right: found.map(|found| &found.cells),
+    };
+    match kind {
+        LookupKind::Left => Some(sides),
+        LookupKind::Inner => found.map(|_| sides),
+        LookupKind::Anti => match found {
+            Some(_) => None,
+            None => Some(sides),
+        },
+    }
 }
 
 // Each row in its order, with what stands under its key.

@@ -2,6 +2,7 @@
 
 use crate::answers::{Answer, Outcome};
 use crate::files::{answer_overlay, answer_request, write_command, write_whole};
+use crate::finished::Finished;
 use keyed_files::{Command, Fault, Reason, Wanted, at};
 use std::alloc::Global;
 use std::fs;
@@ -15,7 +16,7 @@ const OUTPUT: &str = "the standard output";
 // How many names are tried for a file beside another.
 const TRIES: u32 = 1000;
 
-/// Writes the answer to a command into a file, and returns the status. Where the answer is a report of why there is none, it goes to the
+/// Writes the answer to a command into a file, and returns the status, and the counts that are to be said beside it. Where the answer is a report of why there is none, it goes to the
 /// output, and the file stays as it was, as it does where the status alone is wanted.
 ///
 /// The file has the whole answer or stands as it was, with the permissions that it had. It may be one of those that are read. One that is
@@ -30,8 +31,8 @@ pub fn write_into_file<'a, R: Files + Input + AllocGlobal, W: Write>(
     command: Command<'a>,
     file: &'a str,
     output: &mut W,
-) -> Result<u8, Fault<'a>> {
-    match command {
+) -> Result<Finished, Fault<'a>> {
+    let status = match command {
         Command::Whole {
             settings,
             request,
@@ -39,29 +40,30 @@ pub fn write_into_file<'a, R: Files + Input + AllocGlobal, W: Write>(
         } => {
             let answer = answer_request(rt, settings, request)?;
             match wanted {
-                Wanted::Answer => write_answer(rt, answer, file, output),
-                Wanted::Status => Ok(answer.status),
+                Wanted::Answer => write_answer(rt, answer, file, output)?,
+                Wanted::Status => answer.status,
             }
         }
         Command::Overlay { settings, request } => {
             let answer = answer_overlay(rt, settings, request)?;
-            write_answer(rt, answer, file, output)
+            write_answer(rt, answer, file, output)?
         }
-        streamed => stream_into_file(rt, streamed, file),
-    }
+        streamed => return stream_into_file(rt, streamed, file),
+    };
+    Ok(Finished::of(status))
 }
 
-// Writes the answer to a command into a file while its tables are read, and returns the status.
+// Writes the answer to a command into a file while its tables are read, and returns what it comes to.
 fn stream_into_file<'a, R: Files + Input + AllocGlobal>(
     rt: &R,
     command: Command<'a>,
     file: &'a str,
-) -> Result<u8, Fault<'a>> {
+) -> Result<Finished, Fault<'a>> {
     let mut draft = at(file, Draft::begin(rt, file))?;
     match write_command(rt, command, &mut draft.file) {
-        Ok(status) => {
+        Ok(finished) => {
             at(file, draft.put(rt))?;
-            Ok(status)
+            Ok(finished)
         }
         Err(fault) => {
             draft.remove(rt);

@@ -4,13 +4,17 @@
 ghost use Rattle.std.specs.Prelude.{◌≡◌, ◌↔◌, ◌⊎◌, IfSome, IsNone, option_map};
 ghost use Rattle.keyed_commands.specs.Keys.{IsAtMost};
 
-use crate::answers::{Answer, Outcome};
+use crate::by_number::changed_by_number;
+use crate::finished::{Finished, SideCounts, StreamCounts};
 use crate::job::{Job, Table};
-use crate::joined::{JoinForm, join_as_csv};
+use crate::joined::JoinForm;
+use crate::joined_json::write_join;
 use crate::written::write_changes;
 use keyed_files::{
-    Columns, Content, Fault, JoinColumns, Joining, Layout, Parts, Reason, Stream, Two, at,
+    ColumnChanges, Columns, Content, Decimal, Fault, JoinColumns, Joining, Layout, Parts, Picked,
+    Reason, SortedChanges, Stream, Two, at, names_among, picked_columns,
 };
+use keyed_reports::{Counts, count, count_rows, json_rows, row_changes};
 use keyed_rows::{Cells, Key, Release};
 use keyed_tables::{changes_of, unique_rows};
 use std::alloc::{AllocError, Global};
@@ -19,9 +23,25 @@ use std::io::{Read, Write};
 // What is written of the parts of two tables.
 #[derive(Drop)]
 enum Work<'c> {
-    // Changes, with the names of the columns as they are marked.
-    Changes(Job<'c, Columns>, Cells),
+    Changes(Job<'c, Columns>, ChangesForm<'c>),
     Join(Job<'c, JoinColumns>, JoinForm),
+}
+
+// How changes are written.
+#[derive(Drop)]
+enum ChangesForm<'c> {
+    // As CSV, with the names of the columns as they are marked.
+    Csv(Cells),
+    // As JSON. Cells that are numbers are compared by value where a tolerance is given.
+    Json(Option<Decimal<'c>>),
+}
+
+// What there is to say of a part.
+#[derive(Drop)]
+struct PartAnswer {
+    bytes: Vec<u8>,
+    status: u8,
+    counts: StreamCounts,
 }
 
 impl Work<'_> {
@@ -33,18 +53,19 @@ impl Work<'_> {
         }
     }
 
-    // What there is to say of a part.
-    fn answer(&self, part: Part) -> Result<Answer, Reason> {
+    // The counts of no row.
+    fn no_counts(&self) -> StreamCounts {
         match self {
-            Work::Changes(job, marked) => changes_as_csv(job, marked, part),
-            Work::Join(job, how) => {
-                let bytes = join_as_csv(job, how, part.left, part.right)?;
-                Ok(Answer {
-                    bytes,
-                    status: 0,
-                    outcome: Outcome::Made,
-                })
-            }
+            Work::Changes(..) => StreamCounts::Changes(Counts::NONE),
+            Work::Join(..) => StreamCounts::Rows(SideCounts { left: 0, right: 0 }),
+        }
+    }
+
+    // What there is to say of a part.
+    fn answer(&self, part: Part) -> Result<PartAnswer, Reason> {
+        match self {
+            Work::Changes(job, form) => changes_of_part(job, form, part),
+            Work::Join(job, form) => join_of_part(job, form, part),
         }
     }
 
@@ -57,44 +78,128 @@ impl Work<'_> {
     }
 }
 
-fn changes_as_csv(job: &Job<'_, Columns>, marked: &Cells, part: Part) -> Result<Answer, Reason> {
+// The changes of a part. Each key has one row.
+fn changes_of_part(
+    job: &Job<'_, Columns>,
+    form: &ChangesForm<'_>,
+    part: Part,
+) -> Result<PartAnswer, Reason> {
+    let old_rows = count_rows(&part.left.pairs);
     let changes = changes_of(job.alloc, part.left, part.right)?;
+    let changes = match form {
+        ChangesForm::Json(Some(tolerance)) => changed_by_number(job.alloc, *tolerance, changes)?,
+        ChangesForm::Csv(_) | ChangesForm::Json(None) => changes,
+    };
     let status = if changes.is_empty() { 0 } else { 1 };
-    let bytes = write_changes(job, marked, changes)?;
-    Ok(Answer {
+    let counts = StreamCounts::Changes(count(old_rows, &changes));
+    let bytes = match form {
+        ChangesForm::Csv(marked) => write_changes(job, marked, changes)?,
+        ChangesForm::Json(_) => {
+            json_rows(
+                job.alloc,
+                job.columns,
+                &row_changes(job.alloc, false, &changes)?,
+            )?
+        }
+    };
+    Ok(PartAnswer {
         bytes,
         status,
-        outcome: Outcome::Made,
+        counts,
     })
 }
 
-/// Writes the changes between two tables as CSV while they are read, and returns the status.
+// The join of a part.
+fn join_of_part(
+    job: &Job<'_, JoinColumns>,
+    form: &JoinForm,
+    part: Part,
+) -> Result<PartAnswer, Reason> {
+    let counts = StreamCounts::Rows(SideCounts {
+        left: count_rows(&part.left.pairs),
+        right: count_rows(&part.right.pairs),
+    });
+    Ok(PartAnswer {
+        bytes: write_join(job, form, part.left, part.right)?,
+        status: 0,
+        counts,
+    })
+}
+
+// The counts of two parts.
+fn sum_of(counts: StreamCounts, others: StreamCounts) -> StreamCounts {
+    match counts {
+        StreamCounts::Changes(counts) => match others {
+            StreamCounts::Changes(others) => StreamCounts::Changes(counts.plus(others)),
+            StreamCounts::Rows(_) => others,
+        },
+        StreamCounts::Rows(counts) => match others {
+            StreamCounts::Rows(others) => StreamCounts::Rows(counts.plus(others)),
+            StreamCounts::Changes(_) => others,
+        },
+    }
+}
+
+/// Writes the changes between two tables while they are read, and returns the status, and how many rows changed.
 ///
 /// # Errors
 ///
 /// Returns the fault of a table that can't be opened or read, that lacks a column of the key, or in which a key is not greater than the one
-/// before it, and that of the output; also want of memory. Whole rows may be written by then.
+/// before it, of a column that is picked and is in neither table, and that of the output; also want of memory. Whole rows may be written by
+/// then.
 pub fn diff_sorted<'a, R: Read + Drop, W: Write>(
     alloc: Global,
     layout: Layout<'a>,
+    how: SortedChanges<'_>,
     old: Stream<'a, R>,
     new: Stream<'a, R>,
     output: &mut W,
-) -> Result<u8, Fault<'a>> {
+) -> Result<Finished, Fault<'a>> {
     let mut versions = Two::new(alloc, layout.form, Content::Rows, old, new)?;
     versions.first.rename_key(alloc, layout.key)?;
-    let has_lone = at(
-        versions.next.file,
-        versions.column_changes().has_lone(alloc),
-    )?;
-    let marked = versions.marked_names(alloc)?;
-    let columns = versions.change_columns(alloc, layout.key)?;
-    let mut work = Work::Changes(Job::sorted(alloc, layout, &columns), marked);
-    let status = write_tables(alloc, &mut work, versions, output)?;
-    Ok(if has_lone { 1 } else { status })
+    let (form, columns) = match how {
+        SortedChanges::Csv => {
+            let marked = versions.marked_names(alloc)?;
+            let columns = versions.change_columns(alloc, layout.key)?;
+            (ChangesForm::Csv(marked), columns)
+        }
+        SortedChanges::Json { columns, tolerance } => {
+            let columns = columns_compared(alloc, layout, columns, &versions)?;
+            (ChangesForm::Json(tolerance), columns)
+        }
+    };
+    let has_lone = at(versions.next.file, has_lone(alloc, &versions, &columns))?;
+    let mut work = Work::Changes(Job::sorted(alloc, layout, &columns), form);
+    let finished = write_tables(alloc, &mut work, versions, output)?;
+    Ok(Finished {
+        status: if has_lone { 1 } else { finished.status },
+        ..finished
+    })
 }
 
-/// Writes a join of two tables as CSV while they are read, and returns the status.
+// The columns of both tables that are picked.
+fn columns_compared<'a, R>(
+    alloc: Global,
+    layout: Layout<'_>,
+    picked: Picked<'_>,
+    versions: &Two<'a, R>,
+) -> Result<Columns, Fault<'a>> {
+    let columns = versions.columns(alloc, layout.key)?;
+    at(versions.next.file, picked_columns(alloc, picked, columns))
+}
+
+// Whether one of these columns is in one table alone.
+fn has_lone<R>(
+    alloc: Global,
+    versions: &Two<'_, R>,
+    columns: &Columns,
+) -> Result<bool, AllocError> {
+    let before = names_among(alloc, versions.first.header(), columns)?;
+    let after = names_among(alloc, versions.next.header(), columns)?;
+    ColumnChanges::new(&before, &after).has_lone(alloc)
+}
+
+/// Writes a join of two tables while they are read, and returns the status, and how many rows each has.
 ///
 /// # Errors
 ///
@@ -107,7 +212,7 @@ pub fn join_sorted<'a, R: Read + Drop, W: Write>(
     left: Stream<'a, R>,
     right: Stream<'a, R>,
     output: &mut W,
-) -> Result<u8, Fault<'a>> {
+) -> Result<Finished, Fault<'a>> {
     let sides = Two::new(alloc, layout.form, Content::Rows, left, right)?;
     let columns = sides.join_columns(alloc, layout.key)?;
     let form = at(
@@ -137,16 +242,17 @@ struct Part {
 #[derive(Clone, Copy)]
 struct PartWritten {
     status: u8,
+    counts: StreamCounts,
     is_last: bool,
 }
 
-// Writes what there is to say of two tables while they are read, and returns the status.
+// Writes what there is to say of two tables while they are read, and returns what it comes to.
 fn write_tables<'a, R: Read + Drop, W: Write>(
     alloc: Global,
     work: &mut Work<'_>,
     tables: Two<'a, R>,
     output: &mut W,
-) -> Result<u8, Fault<'a>> {
+) -> Result<Finished, Fault<'a>> {
     let (left_columns, right_columns) = work.columns();
     let left = Parts::new(alloc, tables.first, left_columns)?;
     let right = Parts::new(alloc, tables.next, right_columns)?;
@@ -158,18 +264,23 @@ fn write_parts<'a, R: Read + Drop, W: Write>(
     work: &mut Work<'_>,
     tables: &mut TwoParts<'a, R>,
     output: &mut W,
-) -> Result<u8, Fault<'a>> {
+) -> Result<Finished, Fault<'a>> {
     let mut status = 0;
+    let mut counts = work.no_counts();
     for _ in 0..u64::MAX {
         let part = write_part(alloc, work, tables, output)?;
         work.leave_header();
         status = part.status.max(status);
+        counts = sum_of(counts, part.counts);
         if part.is_last {
             break;
         }
     }
     at("the standard output", output.flush())?;
-    Ok(status)
+    Ok(Finished {
+        status,
+        counts: Some(counts),
+    })
 }
 
 // Writes what there is to say of the next part.
@@ -185,6 +296,7 @@ fn write_part<'a, R: Read + Drop, W: Write>(
     at("the standard output", output.write_all(&answer.bytes))?;
     Ok(PartWritten {
         status: answer.status,
+        counts: answer.counts,
         is_last,
     })
 }

@@ -56,8 +56,8 @@ pub use overlays::{Layer, NamedFile, Overlay};
 pub use parts::Parts;
 pub use request::{
     Colours, Command, Comment, Comparing, Delimiter, Form, Format, JoinNames, Joining, Kind,
-    Layout, Lengths, Look, Picked, Quotes, Reading, Request, RowsShown, Settings, SortedRequest,
-    View, Wanted,
+    Layout, Lengths, Look, Picked, Quotes, Reading, Request, RowFormat, RowsShown, Settings,
+    SortedChanges, SortedRequest, View, Wanted,
 };
 pub use sign::{Sign, SignedRow};
 pub use source::{Content, Places, Source};

@@ -4,7 +4,7 @@ use crate::columns::{Columns, JoinColumns, Place};
 use crate::fault::{Fault, Reason};
 use crate::joined_rows::{JoinHeader, names_of_left};
 use crate::names::Names;
-use crate::request::{JoinNames, check_files};
+use crate::request::{JoinNames, RowFormat, check_files};
 use crate::written::Written;
 use keyed_rows::{Cells, Key};
 use std::alloc::Global;
@@ -20,11 +20,13 @@ pub enum LookupKind {
     Anti,
 }
 
-/// How rows are looked up: which there are, and what the header has. The name of a first column is not asked for.
+/// How rows are looked up: which there are, what the header of CSV has, and how rows are written. The name of a first column is not asked
+/// for.
 #[derive(Clone, Copy, Debug)]
 pub struct Finding<'a> {
     pub kind: LookupKind,
     pub names: JoinNames<'a>,
+    pub format: RowFormat,
 }
 
 /// What is asked for of a table whose rows are looked up in another, in files by name, of which `-` is the standard input.

@@ -188,19 +188,30 @@ impl JoinNames<'static> {
     };
 }
 
-/// How two tables are joined: which rows there are, and what the header has.
+/// How the rows of a join are written.
+#[derive(Clone, Copy, Debug)]
+pub enum RowFormat {
+    /// As CSV.
+    Csv,
+    /// As JSON, a line a row.
+    Json,
+}
+
+/// How two tables are joined: which rows there are, what the header of CSV has, and how rows are written.
 #[derive(Clone, Copy, Debug)]
 pub struct Joining<'a> {
     pub kind: Kind,
     pub names: JoinNames<'a>,
+    pub format: RowFormat,
 }
 
 impl Joining<'static> {
-    /// A join of this kind with plain names.
+    /// A join of this kind as CSV, with plain names.
     pub fn of(kind: Kind) -> Self {
         Joining {
             kind,
             names: JoinNames::PLAIN,
+            format: RowFormat::Csv,
         }
     }
 }
@@ -323,14 +334,27 @@ pub enum Request<'a> {
     },
 }
 
+/// How changes are written while the tables are read.
+#[derive(Clone, Copy, Debug)]
+pub enum SortedChanges<'a> {
+    /// As CSV that `Request::Apply` takes.
+    Csv,
+    /// As JSON, a line a row, of these columns. Cells that are numbers are compared by value where a tolerance is given.
+    Json {
+        columns: Picked<'a>,
+        tolerance: Option<Decimal<'a>>,
+    },
+}
+
 /// What is asked for of two tables whose keys are strictly increasing, in files by name, of which `-` is the standard input. The answer is
-/// CSV, and is written while they are read.
+/// written while they are read.
 #[derive(Clone, Copy, Debug)]
 pub enum SortedRequest<'a> {
-    /// What changed, as `Request::Apply` takes it.
+    /// What changed.
     Diff {
         old: &'a str,
         new: &'a str,
+        how: SortedChanges<'a>,
     },
     /// Two tables joined by key.
     Join {
@@ -405,7 +429,7 @@ impl SortedRequest<'_> {
     /// Returns `TwiceStdin` if both are.
     pub fn check_stdin<'a>(self) -> Result<(), Fault<'a>> {
         match self {
-            SortedRequest::Diff { old, new } => check_files(&[old, new]),
+            SortedRequest::Diff { old, new, .. } => check_files(&[old, new]),
             SortedRequest::Join { left, right, .. } => check_files(&[left, right]),
         }
     }

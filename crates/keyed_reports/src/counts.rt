@@ -1,18 +1,43 @@
 //! How many rows changed.
-ghost use Rattle.std.specs.Prelude.{◌≡◌, ◌-◌, ◌^◌, filter, is_none, is_some, length, map, min, sum};
+ghost use Rattle.std.specs.Prelude.{◌≡◌, ◌+◌, ◌-◌, ◌^◌, filter, is_none, is_some, length, map, min, sum};
 ghost use Rattle.either_or_both.specs.Prelude.{left_place, option_zip, right_place};
 
-use crate::changed_rows::RowChange;
+use eob_joins::Change;
 use keyed_rows::{Group, Key};
 use std::fmt;
 
 /// How many rows were added, removed, changed and left as they were. Prints as these four numbers, each with its word.
-#[derive(Clone, Copy)]
+#[derive(Clone, Copy, Debug, PartialEq, Eq)]
 pub struct Counts {
     pub added: usize,
     pub removed: usize,
     pub changed: usize,
     pub same: usize,
+}
+
+impl Counts {
+    /// Of no row.
+    pub const NONE: Counts = Counts {
+        added: 0,
+        removed: 0,
+        changed: 0,
+        same: 0,
+    };
+
+    /// The counts of these rows and of others, each the greatest number there is where it would be more.
+    pub fn plus(self, others: Counts) -> Counts
+        ensures added { result.added ≡ min (self.added + others.added) (2 ^ 64 - 1) }
+        ensures removed { result.removed ≡ min (self.removed + others.removed) (2 ^ 64 - 1) }
+        ensures changed { result.changed ≡ min (self.changed + others.changed) (2 ^ 64 - 1) }
+        ensures same { result.same ≡ min (self.same + others.same) (2 ^ 64 - 1) }
+    {
+        Counts {
+            added: self.added.saturating_add(others.added),
+            removed: self.removed.saturating_add(others.removed),
+            changed: self.changed.saturating_add(others.changed),
+            same: self.same.saturating_add(others.same),
+        }
+    }
 }
 
 impl fmt::Display for Counts {
@@ -36,8 +61,8 @@ pub fn count_rows(pairs: &[(Key, Group)]) -> usize
     count
 }
 
-/// The counts of changes to a table that had this many rows.
-pub fn count(old_rows: usize, changes: &[RowChange<'_>]) -> Counts
+/// The counts of changes to a table that had this many rows, each of one row.
+pub fn count<K, V>(old_rows: usize, changes: &[(K, Change<V>)]) -> Counts
     ensures added { result.added ≡ length (filter (λ row. is_none (left_place row.1)) changes.now) }
     ensures removed { result.removed ≡ length (filter (λ row. is_none (right_place row.1)) changes.now) }
     ensures changed { result.changed
@@ -54,19 +79,19 @@ pub fn count(old_rows: usize, changes: &[RowChange<'_>]) -> Counts
     }
 }
 
-fn count_added(changes: &[RowChange<'_>]) -> usize
+fn count_added<K, V>(changes: &[(K, Change<V>)]) -> usize
     ensures { result ≡ length (filter (λ row. is_none (left_place row.1)) changes.now) }
 {
     changes.iter().filter(|row| row.1.is_right()).count()
 }
 
-fn count_removed(changes: &[RowChange<'_>]) -> usize
+fn count_removed<K, V>(changes: &[(K, Change<V>)]) -> usize
     ensures { result ≡ length (filter (λ row. is_none (right_place row.1)) changes.now) }
 {
     changes.iter().filter(|row| row.1.is_left()).count()
 }
 
-fn count_changed(changes: &[RowChange<'_>]) -> usize
+fn count_changed<K, V>(changes: &[(K, Change<V>)]) -> usize
     ensures { result
         ≡ length (filter (λ row. is_some (option_zip (left_place row.1) (right_place row.1))) changes.now) }
 {

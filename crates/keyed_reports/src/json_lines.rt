@@ -13,16 +13,20 @@ use keyed_rows::{Cells, Iter};
 use std::alloc::{AllocError, Global};
 use std::fmt;
 
-/// The rows, an object each, on a line each: what became of the row, its key, and its other cells in the old table and in the new one, as
-/// far as it is there.
+/// The rows under these columns, an object each, on a line each: what became of the row, its key, and its other cells in the old table and in
+/// the new one, as far as it is there. With no row there is no line.
 ///
 /// # Errors
 ///
 /// Returns `AllocError` if a request for memory was refused.
-pub fn json_rows(alloc: Global, report: &Report<'_>) -> Result<Vec<u8>, AllocError> {
+pub fn json_rows(
+    alloc: Global,
+    columns: &Columns,
+    rows: &[RowChange<'_>],
+) -> Result<Vec<u8>, AllocError> {
     let mut text = Vec::new(alloc);
-    for row in report.rows {
-        let object = row_object(alloc, report.columns, row)?;
+    for row in rows {
+        let object = row_object(alloc, columns, row)?;
         text.extend_from_slice(&object)?;
         text.push(b'\n')?;
     }

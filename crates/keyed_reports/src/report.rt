@@ -90,7 +90,7 @@ pub fn write_report(alloc: Global, look: Look, report: &Report<'_>) -> Result<Ve
         Look::Html => html(alloc, report),
         Look::Json => match report.which {
             RowsShown::Nothing => json_counts(alloc, report),
-            RowsShown::All | RowsShown::First(_) => json_rows(alloc, report),
+            RowsShown::All | RowsShown::First(_) => json_rows(alloc, report.columns, report.rows),
         },
     }
 }

@@ -1,7 +1,8 @@
 //! Answers in CSV with no names of columns, so that they can stand behind others.
 
 use keyed_commands::{
-    Answer, Command, Fault, Outcome, Wanted, answer_request, at, write_command, write_whole,
+    Answer, Command, Fault, Finished, Outcome, Wanted, answer_request, at, write_command,
+    write_whole,
 };
 use std::io;
 use std::io::Write;
@@ -10,8 +11,8 @@ use std::rt::Files;
 // The name of the standard output in faults.
 const OUTPUT: &str = "the standard output";
 
-/// Writes the answer to a command without the names of its columns, unless its status alone is wanted, and returns the status. A report of
-/// why there is no answer is written whole.
+/// Writes the answer to a command without the names of its columns, unless its status alone is wanted, and returns the status, and the counts
+/// that are to be said beside it. A report of why there is no answer is written whole.
 ///
 /// # Errors
 ///
@@ -20,7 +21,7 @@ pub fn write_with_no_heading<'a, R: Files + Input + AllocGlobal, W: Write>(
     rt: &R,
     command: Command<'a>,
     output: &mut W,
-) -> Result<u8, Fault<'a>> {
+) -> Result<Finished, Fault<'a>> {
     let place = first_place(has_heading(&command));
     match command {
         Command::Whole {
@@ -33,7 +34,7 @@ pub fn write_with_no_heading<'a, R: Files + Input + AllocGlobal, W: Write>(
                 Wanted::Answer => at(OUTPUT, write_whole(output, rows_of(&answer, place)))?,
                 Wanted::Status => {}
             }
-            Ok(answer.status)
+            Ok(Finished::of(answer.status))
         }
         Command::Sorted {
             layout,
@@ -89,7 +90,7 @@ fn write_behind<'a, R: Files + Input + AllocGlobal, W: Write>(
     command: Command<'a>,
     place: Place,
     output: &mut W,
-) -> Result<u8, Fault<'a>> {
+) -> Result<Finished, Fault<'a>> {
     let mut rows = BehindFirst { output, place };
     write_command(rt, command, &mut rows)
 }

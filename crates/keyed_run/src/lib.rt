@@ -11,8 +11,8 @@ use counted::CountedRuntime;
 use heading::write_with_no_heading;
 use keyed_arguments::{Heading, Line, ParseError, parse};
 use keyed_commands::{
-    Asked, Colours, Fault, Reason, Shown, at, write_command, write_git_diff, write_git_merge,
-    write_git_setup, write_git_unmerged, write_into_file,
+    Asked, Colours, Fault, Finished, Reason, Shown, at, write_command, write_git_diff,
+    write_git_merge, write_git_setup, write_git_unmerged, write_into_file,
 };
 use keyed_cut::{Cut, write_cut};
 use progress::{ClearedOutput, ProgressLine};
@@ -151,7 +151,12 @@ fn answer<'r, R: Files + Input + Clock + Eprint + AllocGlobal, W: Write + IsTerm
     );
     line.clear();
     match written {
-        Ok(status) => status,
+        Ok(finished) => {
+            if let Some(counts) = finished.counts {
+                let _ = eprintln!(rt; "{counts}");
+            }
+            finished.status
+        }
         Err(fault) => {
             let status = trouble(rt, fault);
             if is_for_git { TROUBLE_FOR_GIT } else { status }
@@ -164,27 +169,30 @@ fn write_asked<'a, R: Files + Input + AllocGlobal, W: Write>(
     asked: Asked<'a>,
     heading: Heading,
     output: &mut W,
-) -> Result<u8, Fault<'a>> {
-    match asked {
+) -> Result<Finished, Fault<'a>> {
+    let status = match asked {
         Asked::Answer {
             command,
             output: place,
-        } => match place {
-            Some(file) => write_into_file(rt, command, file, output),
-            None => match heading {
-                Heading::Written => write_command(rt, command, output),
-                Heading::LeftOut => write_with_no_heading(rt, command, output),
-            },
-        },
+        } => {
+            return match place {
+                Some(file) => write_into_file(rt, command, file, output),
+                None => match heading {
+                    Heading::Written => write_command(rt, command, output),
+                    Heading::LeftOut => write_with_no_heading(rt, command, output),
+                },
+            };
+        }
         Asked::GitDiff {
             settings,
             format,
             diff,
-        } => write_git_diff(rt, settings, format, diff, output),
-        Asked::GitUnmerged { path } => write_git_unmerged(rt, path, output),
-        Asked::GitMerge { settings, merge } => write_git_merge(rt, settings, merge, output),
-        Asked::GitSetup { options } => write_git_setup(rt, options, output),
-    }
+        } => write_git_diff(rt, settings, format, diff, output)?,
+        Asked::GitUnmerged { path } => write_git_unmerged(rt, path, output)?,
+        Asked::GitMerge { settings, merge } => write_git_merge(rt, settings, merge, output)?,
+        Asked::GitSetup { options } => write_git_setup(rt, options, output)?,
+    };
+    Ok(Finished::of(status))
 }
 
 // Cuts tables, says which parts take more memory than is asked for, and returns the status.

@@ -100,10 +100,14 @@ fn show_lookup(
     request: Lookup<'_>,
 ) -> Result<String, AllocError> {
     let layout = show_layout(alloc, layout)?;
-    let Finding { kind, names } = request.how;
+    let Finding {
+        kind,
+        names,
+        format,
+    } = request.how;
     let (left, right) = (request.left, request.right);
     let words = format!(in alloc; "{:?} {:?}", names.left, names.right)?;
-    format!(in alloc; "{layout}] {left} {right} {kind:?} {words}")
+    format!(in alloc; "{layout}] {left} {right} {kind:?} {words} {format:?}")
 }
 
 fn show_overlay(
@@ -128,10 +132,11 @@ fn show_renames(alloc: Global, settings: Settings<'_>) -> Result<String, AllocEr
     }
 }
 
-// What stands behind a request whose report is to have another form than the plain one. That of changes stands in the request.
+// What stands behind a request whose report is to have another form than the plain one. That of changes and of a join stands in the request.
 fn show_look(alloc: Global, look: Look, request: Request<'_>) -> Result<String, AllocError> {
     match (look, request) {
-        (Look::Table { colours: Off }, _) | (_, Request::Diff { .. }) => Ok(String::new(alloc)),
+        (Look::Table { colours: Off }, _) => Ok(String::new(alloc)),
+        (_, Request::Diff { .. } | Request::Join { .. }) => Ok(String::new(alloc)),
         _ => format!(in alloc; " as {look:?}"),
     }
 }
@@ -167,7 +172,7 @@ fn without_names(alloc: Global, request: &str) -> Result<String, AllocError> {
             return format!(in alloc; "{start}{form}{behind}");
         }
     }
-    let plain = format!(in alloc; ", names: {:?} }}", JoinNames::PLAIN)?;
+    let plain = format!(in alloc; ", names: {:?}, format: Csv }}", JoinNames::PLAIN)?;
     match request.split_once(plain.as_str()) {
         Some((before, behind)) => match before.split_once("how: Joining { kind: ") {
             Some((start, kind)) => format!(in alloc; "{start}{kind}{behind}"),
@@ -245,7 +250,7 @@ static SETTINGS: [Asked; 11] = [
     ("merge a b c --keep-order",        On,  r#"',' None [1, 1, 0, 0] Merge { base: "a", ours: "b", theirs: "c", how: Merging { unit: Row, conflicts: Report, tolerance: None } }"#),
     ("join a b --group",                On,  r#"',' None [1, 0, 1, 0] Join { left: "a", right: "b", Outer }"#),
     ("join a b --sorted",               On,  r#"',' None [1, 0, 0, 1] Join { left: "a", right: "b", Outer }"#),
-    ("diff a b --format csv --sorted",  On,  r#"',' None [1, 0, 0, 1] Diff { old: "a", new: "b" }"#),
+    ("diff a b --format csv --sorted",  On,  r#"',' None [1, 0, 0, 1] Diff { old: "a", new: "b", how: Csv }"#),
     ("join a b --kind semi --sorted",   On,  r#"',' None [1, 0, 0, 1] Join { left: "a", right: "b", Semi }"#),
     ("join --kind=anti a b --key id,x", On,  r#"',' Some("id,x") [1, 0, 0, 0] Join { left: "a", right: "b", Anti }"#),
     ("join --group a --keep-order --no-header --delimiter=| b --key=2",
@@ -268,7 +273,7 @@ static LETTERS: [Asked; 15] = [
     ("diff a b -q",                 On,  r#"',' None [1, 0, 0, 0] Diff { old: "a", new: "b", format: Csv }, status"#),
     ("diff a b --quiet --format table --color always",
                                     On,  r#"',' None [1, 0, 0, 0] Diff { old: "a", new: "b", format: Csv }, status"#),
-    ("diff a b -q --sorted",        On,  r#"',' None [1, 0, 0, 1] Diff { old: "a", new: "b" }, status"#),
+    ("diff a b -q --sorted",        On,  r#"',' None [1, 0, 0, 1] Diff { old: "a", new: "b", how: Csv }, status"#),
     ("apply a b -q",                On,  r#"',' None [1, 0, 0, 0] Apply { old: "a", changes: "b" }, status"#),
     ("merge a b c --quiet",         On,  r#"',' None [1, 0, 0, 0] Merge { base: "a", ours: "b", theirs: "c", how: Merging { unit: Row, conflicts: Report, tolerance: None } }, status"#),
     ("join a b -q",                 On,  "wrong"),
@@ -286,10 +291,10 @@ fn letter_stands_for_its_option(rt: HostRuntime) -> Result<(), Fail> {
 }
 
 const NO_ONLY: &str =
-    "keyed: --only: not with --format csv or --sorted: a part of the changes is no patch that apply takes\n";
+    "keyed: --only: not with --format csv: a part of the changes is no patch that apply takes\n";
 
 #[rattlefmt::skip]
-static VIEWS: [Asked; 52] = [
+static VIEWS: [Asked; 61] = [
     ("diff a b --only x,y"             , Off, r#"',' None [1, 0, 0, 0] Diff { old: "a", new: "b", how: Comparing { format: Report(Table { colours: Off }), view: View { columns: Only("x,y"), rows: All }, tolerance: None } }"#),
     ("diff a b --ignore x --limit 3"   , On, r#"',' None [1, 0, 0, 0] Diff { old: "a", new: "b", how: Comparing { format: Report(Table { colours: On }), view: View { columns: AllBut("x"), rows: First(3) }, tolerance: None } }"#),
     ("diff a b --summary"              , On, r#"',' None [1, 0, 0, 0] Diff { old: "a", new: "b", how: Comparing { format: Report(Table { colours: On }), view: View { columns: All, rows: Nothing }, tolerance: None } }"#),
@@ -301,20 +306,27 @@ static VIEWS: [Asked; 52] = [
     ("diff a b --limit x"              , On, "keyed: --limit: not a number of rows\n"),
     ("diff a b --limit=-1"             , On, "keyed: --limit: not a number of rows\n"),
     ("diff a b --format csv --only x"  , On, NO_ONLY),
-    ("diff a b --format csv --ignore x", On, "keyed: --ignore: not with --format csv or --sorted: a part of the changes is no patch that apply takes\n"),
-    ("diff a b --format csv --summary" , On, "keyed: --summary: not with --format csv or --sorted: a part of the changes is no patch that apply takes\n"),
-    ("diff a b --format csv --limit 2" , On, "keyed: --limit: not with --format csv or --sorted: a part of the changes is no patch that apply takes\n"),
-    ("diff a b --sorted --only x -q"   , On, NO_ONLY),
+    ("diff a b --format csv --ignore x", On, "keyed: --ignore: not with --format csv: a part of the changes is no patch that apply takes\n"),
+    ("diff a b --format csv --summary" , On, "keyed: --summary: not with --format csv: a part of the changes is no patch that apply takes\n"),
+    ("diff a b --format csv --limit 2" , On, "keyed: --limit: not with --format csv: a part of the changes is no patch that apply takes\n"),
+    ("diff a b --sorted --only x -q"   , On, r#"',' None [1, 0, 0, 1] Diff { old: "a", new: "b", how: Json { columns: Only("x"), tolerance: None } }, status"#),
     ("diff a b --format json --limit 2", On, "keyed: --limit: not with --format json, of which each line is a row: head takes the first ones\n"),
-    ("diff a b --format json --sorted", On, SORTED_TABLE),
-    ("diff a b --no-heading --format json", On, "keyed: diff --no-heading needs --format csv\n"),
-    ("diff a b --no-heading --only x"  , On, "keyed: diff --no-heading needs --format csv\n"),
+    ("diff a b --format json --sorted", On, r#"',' None [1, 0, 0, 1] Diff { old: "a", new: "b", how: Json { columns: All, tolerance: None } }"#),
+    ("diff a b --format json --sorted --ignore x", On, r#"',' None [1, 0, 0, 1] Diff { old: "a", new: "b", how: Json { columns: AllBut("x"), tolerance: None } }"#),
+    ("diff a b --format json --sorted --summary", On, "keyed: --summary: not with --sorted, whose counts go to the standard error: give > /dev/null\n"),
+    ("diff a b --format json --sorted --limit 2", On, "keyed: --limit: not with --format json, of which each line is a row: head takes the first ones\n"),
+    ("diff a b --format csv --sorted --only x", On, NO_ONLY),
+    ("diff a b --sorted --only x"      , On, SORTED_TABLE),
+    ("diff a b --format markdown --sorted", On, SORTED_TABLE),
+    ("diff a b --format html --sorted" , On, SORTED_TABLE),
+    ("diff a b --no-heading --format json", On, "keyed: --no-heading needs --format csv\n"),
+    ("diff a b --no-heading --only x"  , On, "keyed: --no-heading needs --format csv\n"),
     ("diff a b --only x,x"             , On, "keyed: --only: the column x twice\n"),
     ("diff a b --ignore \"x"           , On, "keyed: --ignore: not one record of CSV\n"),
     ("diff a b --only x=y"             , On, "keyed: --only: two names of a column: an = of a name is ==\n"),
     ("apply a b --format csv"          , On, "wrong"),
     ("merge a b c --format csv"        , On, "wrong"),
-    ("join a b --format json"          , On, "wrong"),
+    ("join a b --format markdown"      , On, "wrong"),
     ("diff a b --rename x=y,u=v"       , On, r#"',' None [1, 0, 0, 0] Diff { old: "a", new: "b", format: Report(Table { colours: On }) } renaming x=y,u=v"#),
     ("apply a b --rename x=y"          , On, r#"',' None [1, 0, 0, 0] Apply { old: "a", changes: "b" } renaming x=y"#),
     ("merge a b c --rename x=y"        , On, r#"',' None [1, 0, 0, 0] Merge { base: "a", ours: "b", theirs: "c", how: Merging { unit: Row, conflicts: Report, tolerance: None } } renaming x=y"#),
@@ -329,8 +341,10 @@ static VIEWS: [Asked; 52] = [
     ("diff a b --numbers"              , On, r#"',' None [1, 0, 0, 0] Diff { old: "a", new: "b", how: Comparing { format: Report(Table { colours: On }), view: View { columns: All, rows: All }, tolerance: Some(Decimal { is_negative: false, whole: [48], fraction: [], exponent: 0 }) } }"#),
     ("diff a b -q --numbers --tolerance .5", On, r#"',' None [1, 0, 0, 0] Diff { old: "a", new: "b", how: Comparing { format: Report(Table { colours: On }), view: View { columns: All, rows: All }, tolerance: Some(Decimal { is_negative: false, whole: [], fraction: [53], exponent: 0 }) } }, status"#),
     ("merge a b c --numbers --tolerance 1e-3", On, r#"',' None [1, 0, 0, 0] Merge { base: "a", ours: "b", theirs: "c", how: Merging { unit: Row, conflicts: Report, tolerance: Some(Decimal { is_negative: false, whole: [49], fraction: [], exponent: -3 }) } }"#),
-    ("diff a b --numbers --format csv" , On, "keyed: --numbers: not with --format csv or --sorted: the changes that apply takes are of cells as they stand\n"),
-    ("diff a b --numbers --sorted -q"  , On, "keyed: --numbers: not with --format csv or --sorted: the changes that apply takes are of cells as they stand\n"),
+    ("diff a b --numbers --format csv" , On, "keyed: --numbers: not with --format csv: the changes that apply takes are of cells as they stand\n"),
+    ("diff a b --numbers --sorted -q"  , On, r#"',' None [1, 0, 0, 1] Diff { old: "a", new: "b", how: Json { columns: All, tolerance: Some(Decimal { is_negative: false, whole: [48], fraction: [], exponent: 0 }) } }, status"#),
+    ("diff a b --numbers --sorted --format json", On, r#"',' None [1, 0, 0, 1] Diff { old: "a", new: "b", how: Json { columns: All, tolerance: Some(Decimal { is_negative: false, whole: [48], fraction: [], exponent: 0 }) } }"#),
+    ("diff a b --numbers --sorted --format csv", On, "keyed: --numbers: not with --format csv: the changes that apply takes are of cells as they stand\n"),
     ("diff a b --numbers -g"           , On, "wrong"),
     ("merge a b c --numbers -g"        , On, "wrong"),
     ("diff a b --tolerance 1"          , On, "keyed: --tolerance: needs --numbers\n"),
@@ -351,13 +365,15 @@ fn option_says_what_is_shown(rt: HostRuntime) -> Result<(), Fail> {
 }
 
 #[rattlefmt::skip]
-static LOOKUPS: [Asked; 14] = [
-    ("lookup a b",                      On, r#"',' None [1] a b Left "left." "right.""#),
-    ("lookup - b --kind inner",         On, r#"',' None [1] - b Inner "left." "right.""#),
-    ("lookup a - --kind=anti -H -k 3=1", On, r#"',' Some("3=1") [0] a - Anti "left." "right.""#),
+static LOOKUPS: [Asked; 16] = [
+    ("lookup a b",                      On, r#"',' None [1] a b Left "left." "right." Csv"#),
+    ("lookup - b --kind inner",         On, r#"',' None [1] - b Inner "left." "right." Csv"#),
+    ("lookup a - --kind=anti -H -k 3=1", On, r#"',' Some("3=1") [0] a - Anti "left." "right." Csv"#),
     ("lookup a.tsv b --kind left --prefix l_, -k x=y,z",
-                                        On, r#"'\t' Some("x=y,z") [1] a.tsv b Left "l_" """#),
-    ("lookup -d; a b",                  On, r#"';' None [1] a b Left "left." "right.""#),
+                                        On, r#"'\t' Some("x=y,z") [1] a.tsv b Left "l_" "" Csv"#),
+    ("lookup -d; a b",                  On, r#"';' None [1] a b Left "left." "right." Csv"#),
+    ("lookup a b --format json",        On, r#"',' None [1] a b Left "left." "right." Json"#),
+    ("lookup a b --format csv --kind anti", On, r#"',' None [1] a b Anti "left." "right." Csv"#),
     ("lookup a",                        On, "wrong"),
     ("lookup a b c",                    On, "wrong"),
     ("lookup a b --kind outer",         On, "wrong"),
@@ -402,13 +418,17 @@ fn overlay_takes_files(rt: HostRuntime) -> Result<(), Fail> {
 const NO_PREFIX: &str = "keyed: --prefix: not two texts with a comma between them\n";
 
 #[rattlefmt::skip]
-static NAMES: [Asked; 8] = [
+static NAMES: [Asked; 10] = [
     ("join a b --prefix l_,r_", On,
-        r#"',' None [1, 0, 0, 0] Join { left: "a", right: "b", how: Joining { kind: Outer, names: JoinNames { left: "l_", right: "r_", side: "side" } } }"#),
+        r#"',' None [1, 0, 0, 0] Join { left: "a", right: "b", how: Joining { kind: Outer, names: JoinNames { left: "l_", right: "r_", side: "side" }, format: Csv } }"#),
     ("join a b --prefix=,r --kind left --sorted", On,
-        r#"',' None [1, 0, 0, 1] Join { left: "a", right: "b", how: Joining { kind: Left, names: JoinNames { left: "", right: "r", side: "side" } } }"#),
+        r#"',' None [1, 0, 0, 1] Join { left: "a", right: "b", how: Joining { kind: Left, names: JoinNames { left: "", right: "r", side: "side" }, format: Csv } }"#),
     ("join a b --side where", On,
-        r#"',' None [1, 0, 0, 0] Join { left: "a", right: "b", how: Joining { kind: Outer, names: JoinNames { left: "left.", right: "right.", side: "where" } } }"#),
+        r#"',' None [1, 0, 0, 0] Join { left: "a", right: "b", how: Joining { kind: Outer, names: JoinNames { left: "left.", right: "right.", side: "where" }, format: Csv } }"#),
+    ("join a b --format json",    On,
+        r#"',' None [1, 0, 0, 0] Join { left: "a", right: "b", how: Joining { kind: Outer, names: JoinNames { left: "left.", right: "right.", side: "side" }, format: Json } }"#),
+    ("join a b --sorted --format json --kind semi", On,
+        r#"',' None [1, 0, 0, 1] Join { left: "a", right: "b", how: Joining { kind: Semi, names: JoinNames { left: "left.", right: "right.", side: "side" }, format: Json } }"#),
     ("join a b --prefix l_",      On, NO_PREFIX),
     ("join a b --prefix l,m,r",   On, NO_PREFIX),
     ("diff a b --prefix l_,r_",   On, "wrong"),
@@ -439,10 +459,10 @@ fn delimiter_is_one_byte_that_parts_cells(rt: HostRuntime) -> Result<(), Fail> {
     expect(&rt, &DELIMITERS)
 }
 
-const SORTED_TABLE: &str = "keyed: diff --sorted needs --format csv\n";
+const SORTED_TABLE: &str = "keyed: diff --sorted needs --format csv or json\n";
 
 #[rattlefmt::skip]
-static REFUSED: [Asked; 16] = [
+static REFUSED: [Asked; 20] = [
     ("compare a b",                    On,  "wrong"),
     ("diff a",                         On,  "wrong"),
     ("diff a b c",                     On,  "wrong"),
@@ -450,7 +470,11 @@ static REFUSED: [Asked; 16] = [
     ("diff a b --color red",           On,  "wrong"),
     ("diff a b --format xml",          On,  "wrong"),
     ("join a b --kind cross",          On,  "wrong"),
-    ("join a b --format csv",          On,  "wrong"),
+    ("join a b --format table",        On,  "wrong"),
+    ("lookup a b --format html",       On,  "wrong"),
+    ("overlay a b --format json",      On,  "wrong"),
+    ("apply a b --format csv",         On,  "wrong"),
+    ("merge a b c --format csv",       On,  "wrong"),
     ("apply a b --sorted",             On,  "wrong"),
     ("join a b --sorted --group",      On,  "wrong"),
     ("diff a b --sorted",              On,  SORTED_TABLE),

@@ -9,7 +9,7 @@ use std::test::Fail;
 type Row = (&'static str, &'static str);
 
 #[rattlefmt::skip]
-static LINES: [Row; 28] = [
+static LINES: [Row; 34] = [
     ("cut l r --into d --parts 4", "Two { left: \"l\", right: \"r\", second: Rows } Parts(4) d None , ,true"),
     ("cut l r --into d --parts 1", "Two { left: \"l\", right: \"r\", second: Rows } Parts(1) d None , ,true"),
     ("cut l r --into d --parts 999", "Two { left: \"l\", right: \"r\", second: Rows } Parts(999) d None , ,true"),
@@ -37,7 +37,13 @@ static LINES: [Row; 28] = [
     ("join l r --no-heading", "LeftOut"),
     ("overlay l r --no-heading", "LeftOut"),
     ("diff l r --format csv", "Written"),
-    ("diff l r --no-heading", "keyed: diff --no-heading needs --format csv\n"),
+    ("lookup l r --no-heading", "LeftOut"),
+    ("diff l r --no-heading --sorted -q", "LeftOut"),
+    ("diff l r --no-heading", "keyed: --no-heading needs --format csv\n"),
+    ("diff l r --no-heading --format json --sorted", "keyed: --no-heading needs --format csv\n"),
+    ("join l r --no-heading --format json", "keyed: --no-heading needs --format csv\n"),
+    ("join l r --no-heading --format json --sorted", "keyed: --no-heading needs --format csv\n"),
+    ("lookup l r --no-heading --format json", "keyed: --no-heading needs --format csv\n"),
 ];
 
 // What a command line asks for.

@@ -1,11 +1,11 @@
 //! Each command on tables that are texts, and on readers and writers. What the tests know of the calls of `keyed_commands` stands here.
 
 use keyed_commands::{
-    Answer, Colours, Command as AnyCommand, Comparing, Delimiter, Fault, Finding, Form, Format,
-    JoinNames, Joining, Kind, Layer, Look, LookupKind, LookupRequest, Merging, NamedFile, Outcome,
-    OverlayRequest, Reading, Reason, Request, Settings, SortedRequest, Stream, apply, at, diff,
-    diff_sorted, join, join_sorted, lookup, merge, overlay, stream_request, write_command,
-    write_request, write_whole,
+    Answer, Colours, Command as AnyCommand, Comparing, Delimiter, Fault, Finding, Finished, Form,
+    Format, JoinNames, Joining, Kind, Layer, Look, LookupKind, LookupRequest, Merging, NamedFile,
+    Outcome, OverlayRequest, Reading, Reason, Request, RowFormat, Settings, SortedChanges,
+    SortedRequest, Stream, apply, at, diff, diff_sorted, join, join_sorted, lookup, merge, overlay,
+    stream_request, write_command, write_request, write_whole,
 };
 use std::alloc::{AllocError, Global};
 use std::io::{Read, Write};
@@ -114,6 +114,7 @@ pub const COMMANDS: [Command; 8] = [
 pub const FOUND: Finding<'static> = Finding {
     kind: LookupKind::Left,
     names: JoinNames::PLAIN,
+    format: RowFormat::Csv,
 };
 
 impl Command {
@@ -182,7 +183,10 @@ pub fn write_answer<'a, R: Read + Drop, W: Write>(
             let how = Comparing::whole(Format::Csv);
             write_whole_answer(diff(alloc, settings, how, old, new), output)
         }
-        Command::SortedDiff => diff_sorted(alloc, settings.layout(), old, new, output),
+        Command::SortedDiff => {
+            let how = SortedChanges::Csv;
+            Ok(diff_sorted(alloc, settings.layout(), how, old, new, output)?.status)
+        }
         Command::Apply => {
             let changes = named("changes", new);
             write_whole_answer(apply(alloc, settings, old, changes), output)
@@ -202,14 +206,8 @@ pub fn write_answer<'a, R: Read + Drop, W: Write>(
         }
         Command::SortedJoin => {
             let (left, right) = (named("left", old), named("right", new));
-            join_sorted(
-                alloc,
-                settings.layout(),
-                Joining::of(Kind::Outer),
-                left,
-                right,
-                output,
-            )
+            let how = Joining::of(Kind::Outer);
+            Ok(join_sorted(alloc, settings.layout(), how, left, right, output)?.status)
         }
         Command::Lookup => {
             let (left, right) = (named("left", old), named("right", new));
@@ -283,8 +281,9 @@ pub fn write_answer_of_files<'a, R: Files + Input + AllocGlobal, W: Write>(
             let request = SortedRequest::Diff {
                 old: first,
                 new: next,
+                how: SortedChanges::Csv,
             };
-            stream_request(rt, settings.layout(), request, output)
+            Ok(stream_request(rt, settings.layout(), request, output)?.status)
         }
         Command::SortedJoin => {
             let request = SortedRequest::Join {
@@ -292,7 +291,7 @@ pub fn write_answer_of_files<'a, R: Files + Input + AllocGlobal, W: Write>(
                 right: next,
                 how: Joining::of(Kind::Outer),
             };
-            stream_request(rt, settings.layout(), request, output)
+            Ok(stream_request(rt, settings.layout(), request, output)?.status)
         }
         Command::Lookup => {
             let request = LookupRequest {
@@ -301,7 +300,7 @@ pub fn write_answer_of_files<'a, R: Files + Input + AllocGlobal, W: Write>(
                 how: FOUND,
             };
             let layout = settings.layout();
-            write_command(rt, AnyCommand::Lookup { layout, request }, output)
+            Ok(write_command(rt, AnyCommand::Lookup { layout, request }, output)?.status)
         }
         Command::Overlay => {
             let files = at(first, two_files(rt.alloc(), first, next))?;
@@ -309,7 +308,7 @@ pub fn write_answer_of_files<'a, R: Files + Input + AllocGlobal, W: Write>(
                 files,
                 layer: Layer::Rows,
             };
-            write_command(rt, AnyCommand::Overlay { settings, request }, output)
+            Ok(write_command(rt, AnyCommand::Overlay { settings, request }, output)?.status)
         }
         _ => write_request(rt, settings, command.of(files), output),
     }
@@ -443,10 +442,11 @@ pub fn joined_in_parts<'a>(
 ) -> Result<Answer, Fault<'a>> {
     let mut bytes = Vec::new(alloc);
     let (left, right) = (stream("left", left), stream("right", right));
-    let status = join_sorted(
+    let how = Joining::of(kind);
+    let Finished { status, .. } = join_sorted(
         alloc,
         settings.layout(),
-        Joining::of(kind),
+        how,
         left,
         right,
         &mut bytes,

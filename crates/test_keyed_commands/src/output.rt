@@ -18,7 +18,10 @@ fn came_of(
 ) -> Result<String, AllocError> {
     let made = Made::new(alloc);
     let mut output: Vec<u8> = Vec::new(alloc);
-    let outcome = write_into_file(&Disk::new(alloc, &made), command, file, &mut output);
+    let outcome = match write_into_file(&Disk::new(alloc, &made), command, file, &mut output) {
+        Ok(finished) => Ok(finished.status),
+        Err(fault) => Err(fault),
+    };
     let came = show_outcome(alloc, outcome)?;
     show_made(alloc, &came, made, &output)
 }

@@ -87,10 +87,10 @@ fn delimiter_is_one_byte(rt: HostRuntime) -> Result<(), Fail> {
 
 #[rattlefmt::skip]
 static SORTED: [Case<'static>; 4] = [
-    ("diff|old|new|--sorted",                2, "", "keyed: diff --sorted needs --format csv\n"),
-    ("diff|old|new|--sorted|--format|table", 2, "", "keyed: diff --sorted needs --format csv\n"),
-    ("diff|old|new|--sorted|--delimiter|\t", 2, "", "keyed: diff --sorted needs --format csv\n"),
-    ("diff|none|none|--sorted",              2, "", "keyed: diff --sorted needs --format csv\n"),
+    ("diff|old|new|--sorted",                2, "", "keyed: diff --sorted needs --format csv or json\n"),
+    ("diff|old|new|--sorted|--format|table", 2, "", "keyed: diff --sorted needs --format csv or json\n"),
+    ("diff|old|new|--sorted|--delimiter|\t", 2, "", "keyed: diff --sorted needs --format csv or json\n"),
+    ("diff|none|none|--sorted",              2, "", "keyed: diff --sorted needs --format csv or json\n"),
 ];
 
 /// Tables that are read as their keys rise are not lined up, for which all rows must be known.
@@ -107,7 +107,7 @@ Commands:
   diff       Prints the rows that changed. Status 0: none did, 1: some did, 2: trouble.
   apply      Prints a table with changes made to it. Status 0: all fit, 1: some do not, 2: trouble.
   merge      Prints two versions of a table merged over their base. Status 0: merged, 1: rows in conflict, 2: trouble.
-  join       Prints two tables joined by key as CSV. Status 0, or 2: trouble.
+  join       Prints two tables joined by key. Status 0, or 2: trouble.
   lookup     Prints each row of a table with the row of another that has its key. Status 0, or 2: trouble.
   overlay    Prints tables laid one over the other. Status 0, or 2: trouble.
   cut        Cuts tables into parts by ranges of their keys. Status 0: cut, 1: a part takes more memory than asked for, 2: trouble.
@@ -147,6 +147,7 @@ Options:
   -g, --group                    Keys may repeat: rows with the same key are a group
   -o, --output <FILE>            The file that the answer goes into, once it is whole; it may be one of those that are read
       --no-heading               CSV has no names of columns, so that it can stand behind other CSV
+      --no-progress              No line on the terminal says how many lines are read
   -h, --help                     Print help
 ";
 

@@ -33,7 +33,7 @@ static ANSWERS: [Case<'static>; 31] = [
         "         id  name\nadded    13  medlar\nchanged  2   pear -> quince\nremoved  7   fig\n\
          1 added, 1 removed, 1 changed, 0 the same\n", ""),
     ("diff|old|new|--format|csv", 1, "change,id,name\n+,13,medlar\n-,2,pear\n+,2,quince\n-,7,fig\n", ""),
-    ("diff|old|new|--format|csv|--sorted", 1, "change,id,name\n+,13,medlar\n-,2,pear\n+,2,quince\n-,7,fig\n", ""),
+    ("diff|old|new|--format|csv|--sorted", 1, "change,id,name\n+,13,medlar\n-,2,pear\n+,2,quince\n-,7,fig\n", "1 added, 1 removed, 1 changed, 0 the same\n"),
     ("diff|new|old|--format|csv|--keep-order", 1, "change,id,name\n-,13,medlar\n-,2,quince\n+,2,pear\n+,7,fig\n", ""),
     ("apply|old|changes", 0, "id,name\n13,medlar\n2,quince\n", ""),
     ("apply|old|changes|--keep-order", 0, "id,name\n2,quince\n13,medlar\n", ""),
@@ -62,13 +62,13 @@ static ANSWERS: [Case<'static>; 31] = [
     ("merge|yours|mine|theirs too|--keep-order", 1,
         "        id  size\nbase    7   b\nours    7   a\ntheirs  7   c\nbase    2   b\nours    2   a\ntheirs  2   c\n", ""),
     ("join|old|new", 0, "side,id,left.name,right.name\nright,13,,medlar\nboth,2,pear,quince\nleft,7,fig,\n", ""),
-    ("join|old|new|--sorted", 0, "side,id,left.name,right.name\nright,13,,medlar\nboth,2,pear,quince\nleft,7,fig,\n", ""),
+    ("join|old|new|--sorted", 0, "side,id,left.name,right.name\nright,13,,medlar\nboth,2,pear,quince\nleft,7,fig,\n", "rows: 2 in LEFT, 2 in RIGHT\n"),
     ("join|old|new|--kind|inner", 0, "id,left.name,right.name\n2,pear,quince\n", ""),
     ("join|old|new|--kind|left", 0, "id,left.name,right.name\n2,pear,quince\n7,fig,\n", ""),
-    ("join|old|new|--kind|right|--sorted", 0, "id,left.name,right.name\n13,,medlar\n2,pear,quince\n", ""),
+    ("join|old|new|--kind|right|--sorted", 0, "id,left.name,right.name\n13,,medlar\n2,pear,quince\n", "rows: 2 in LEFT, 2 in RIGHT\n"),
     ("join|old|new|--kind|semi", 0, "id,name\n2,pear\n", ""),
     ("join|old|new|--kind|anti", 0, "id,name\n7,fig\n", ""),
-    ("join|new|old|--kind|anti|--sorted", 0, "id,name\n13,medlar\n", ""),
+    ("join|new|old|--kind|anti|--sorted", 0, "id,name\n13,medlar\n", "rows: 2 in LEFT, 2 in RIGHT\n"),
     ("diff|by two|by two later|--format|csv|--key|a,b", 1,
         "change,b,v,a\n-,2,q,x\n+,2,s,x\n-,1,r,y\n+,2,t,y\n", ""),
     ("join|by two|by two later|--kind|inner|--key|b,a", 0, "b,a,left.v,right.v\n1,x,p,p\n2,x,q,s\n", ""),
@@ -83,7 +83,7 @@ fn command_takes_its_files_in_order(rt: HostRuntime) -> Result<(), Fail> {
 
 // The same answers, with the standard input in the place of one file after the other. Returns how many times that was asked.
 fn ask_of_stdin(alloc: Global, case: &Case<'_>) -> Result<usize, Fail> {
-    let (line, status, output, _) = *case;
+    let (line, status, output, said) = *case;
     let mut asked: usize = 0;
     for (name, text) in FILES.files {
         let given = Given {
@@ -98,7 +98,7 @@ fn ask_of_stdin(alloc: Global, case: &Case<'_>) -> Result<usize, Fail> {
             let want = Run {
                 status,
                 output: Vec::from_slice(alloc, output.as_bytes())?,
-                said: String::new(alloc),
+                said: String::from_str(alloc, said)?,
             };
             expect_run(alloc, &given, world, &want)?;
             asked = asked.saturating_add(1);

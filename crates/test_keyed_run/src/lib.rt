@@ -37,6 +37,8 @@ mod reading;
 #[cfg(test)]
 mod renames;
 #[cfg(test)]
+mod row_formats;
+#[cfg(test)]
 mod runs;
 #[cfg(test)]
 mod shapes;

@@ -29,7 +29,7 @@ static SHOWN: [Case<'static>; 8] = [
          keyed: broken: Input/output error (os error 5)\n"),
     ("diff|none|old", 2, "", "keyed: none: No such file or directory (os error 2)\n"),
     ("diff|old|new|--summary|--no-progress", 1, "1 added, 0 removed, 1 changed, 1 the same\n", ""),
-    ("join|old|new|--kind|anti|--no-progress|--sorted", 0, "id,name\n", ""),
+    ("join|old|new|--kind|anti|--no-progress|--sorted", 0, "id,name\n", "rows: 2 in LEFT, 3 in RIGHT\n"),
     ("git-diff|new|old|0|0|old|0|0", 0, "keyed diff new\n0 added, 0 removed, 0 changed, 2 the same\n", ""),
 ];
 

@@ -98,7 +98,7 @@ fn quotes_that_are_not_in_order_are_named(rt: HostRuntime) -> Result<(), Fail> {
 static EMPTY: [Case<'static>; 20] = [
     ("diff|none|good", 1, "       id  name\nadded  1   x\nadded  2   y\n2 added, 0 removed, 0 changed, 0 the same\n", ""),
     ("diff|good|blank|--format|csv",           1, "change,id,name\n-,1,x\n-,2,y\n", ""),
-    ("diff|mark|good|--format|csv|--sorted",   1, "change,id,name\n+,1,x\n+,2,y\n", ""),
+    ("diff|mark|good|--format|csv|--sorted",   1, "change,id,name\n+,1,x\n+,2,y\n", "2 added, 0 removed, 0 changed, 0 the same\n"),
     ("diff|none|blank",                        0, "0 added, 0 removed, 0 changed, 0 the same\n", ""),
     ("diff|none|none|--format|csv",            0, "change\n", ""),
     ("apply|none|changes",                     0, "id,name\n1,x\n", ""),
@@ -108,7 +108,7 @@ static EMPTY: [Case<'static>; 20] = [
     ("merge|good|none|good",                   0, "id,name\n", ""),
     ("merge|none|none|none",                   0, "", ""),
     ("join|none|good",                         0, "side,id,left.name,right.name\nright,1,,x\nright,2,,y\n", ""),
-    ("join|none|good|--sorted",                0, "side,id,left.name,right.name\nright,1,,x\nright,2,,y\n", ""),
+    ("join|none|good|--sorted",                0, "side,id,left.name,right.name\nright,1,,x\nright,2,,y\n", "rows: 0 in LEFT, 2 in RIGHT\n"),
     ("join|good|none|--kind|left",             0, "id,left.name,right.name\n1,x,\n2,y,\n", ""),
     ("join|good|blank|--kind|anti",            0, "id,name\n1,x\n2,y\n", ""),
     ("join|none|good|--kind|semi",             0, "id,name\n", ""),
@@ -193,7 +193,7 @@ fn names_of_columns_are_told_apart(rt: HostRuntime) -> Result<(), Fail> {
 static DELIMITERS: [Case<'static>; 10] = [
     ("diff|old.tsv|new.csv|--format|csv",       1, "change\tid\tname\n-\t1\ta,b\n+\t1\t\"x\ty\"\n", ""),
     ("join|new.csv|old.tsv|--kind|inner",       0, "id,left.name,right.name\n1,x\ty,\"a,b\"\n", ""),
-    ("join|old.tsv|new.csv|--kind|inner|--sorted", 0, "id\tleft.name\tright.name\n1\ta,b\t\"x\ty\"\n", ""),
+    ("join|old.tsv|new.csv|--kind|inner|--sorted", 0, "id\tleft.name\tright.name\n1\ta,b\t\"x\ty\"\n", "rows: 1 in LEFT, 1 in RIGHT\n"),
     ("merge|old.tsv|old.tsv|theirs.tab",        0, "id\tname\n1\ta,b\n2\tz\n", ""),
     ("join|one.tsv|none|--kind|anti|--delimiter|,|--key|id\tname", 0, "id\tname\n1\ta\n", ""),
     ("join|tabs|none|--kind|anti|--delimiter|tab|--key|name", 0, "id\tname\n1\ta\n", ""),

@@ -242,10 +242,10 @@ static NAMES: [Case<'static>; 10] = [
     ("join|clashes|clashes too|--side|from|--prefix|l_,r_", 0,
         "from,id,l_a,left.a,side,r_a\nboth,1,p,q,r,s\n", ""),
     ("join|clashes|clashes too|--side|from|--prefix|,r_|--sorted", 0,
-        "from,id,a,left.a,side,r_a\nboth,1,p,q,r,s\n", ""),
+        "from,id,a,left.a,side,r_a\nboth,1,p,q,r,s\n", "rows: 1 in LEFT, 1 in RIGHT\n"),
     ("join|clashes|clashes too|--kind|inner|--prefix|x,x", 2, "",
         "keyed: clashes too: the join has two columns xa: give another by --prefix\n"),
-    ("join|clashes|clashes too|--kind|left|--prefix|x,y|--sorted", 0, "id,xa,left.a,side,ya\n1,p,q,r,s\n", ""),
+    ("join|clashes|clashes too|--kind|left|--prefix|x,y|--sorted", 0, "id,xa,left.a,side,ya\n1,p,q,r,s\n", "rows: 1 in LEFT, 1 in RIGHT\n"),
     ("join|clashes|clashes too|--kind|semi", 0, "id,a,left.a,side\n1,p,q,r\n", ""),
     ("join|clashes|clashes too|--prefix|x", 2, "", "keyed: --prefix: not two texts with a comma between them\n"),
 ];

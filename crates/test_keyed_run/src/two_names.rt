@@ -32,7 +32,7 @@ static FILES: World = World {
 #[rattlefmt::skip]
 static JOINS: [Case<'static>; 13] = [
     ("join|sides|sides too|-k|a=c,b", 0, "side,a,b,v,w\nleft,1,x,p,\nboth,1,y,q,r\nright,2,y,,s\n", ""),
-    ("join|sides|sides too|-k|a=c,b|--sorted", 0, "side,a,b,v,w\nleft,1,x,p,\nboth,1,y,q,r\nright,2,y,,s\n", ""),
+    ("join|sides|sides too|-k|a=c,b|--sorted", 0, "side,a,b,v,w\nleft,1,x,p,\nboth,1,y,q,r\nright,2,y,,s\n", "rows: 2 in LEFT, 2 in RIGHT\n"),
     ("join|sides|sides too|-k|b,a=c|--kind|inner", 0, "b,a,v,w\ny,1,q,r\n", ""),
     ("join|sides|sides too|-k|a=c,b|--kind|anti", 0, "a,b,v\n1,x,p\n", ""),
     // The right table has a column of the name of the left key.
@@ -44,7 +44,7 @@ static JOINS: [Case<'static>; 13] = [
     ("join|customers|none|-k|id=customer|--kind|left", 0, "id,left.name,right.name\n1,Ada,\n2,Bo,\n", ""),
     ("join|none|customers|-k|customer=id|--kind|right", 0, "id,left.name,right.name\n1,,Ada\n2,,Bo\n", ""),
     ("join|rows|rows too|-H|-k|2=1", 0, "left,1,x,\nboth,2,y,p\nright,3,,q\n", ""),
-    ("join|rows|rows too|-H|-k|2=1|--sorted|--kind|inner", 0, "2,y,p\n", ""),
+    ("join|rows|rows too|-H|-k|2=1|--sorted|--kind|inner", 0, "2,y,p\n", "rows: 2 in LEFT, 2 in RIGHT\n"),
     ("join|equals|equals later|-k|a==b,==|--kind|inner", 0, "a=b,=,left.v,right.v\n1,2,p,q\n", ""),
 ];
 
@@ -59,7 +59,7 @@ const CHANGES: &str = "change,name,id,price\n-,fig,7,2\n+,quince,7,2\n-,nut,8,3\
 #[rattlefmt::skip]
 static CHANGED: [Case<'static>; 7] = [
     ("diff|old|new|-k|code=id|--format|csv", 1, CHANGES, ""),
-    ("diff|old|new|-k|code=id|--format|csv|--sorted", 1, CHANGES, ""),
+    ("diff|old|new|-k|code=id|--format|csv|--sorted", 1, CHANGES, "1 added, 1 removed, 1 changed, 1 the same\n"),
     ("diff|old|new|-k|code=id", 1,
         "columns in another order\n         id  name           price\nchanged  7   fig -> quince  2\n\
          removed  8   nut            3\nadded    9   medlar         4\n1 added, 1 removed, 1 changed, 1 the same\n", ""),
