@@ -124,6 +124,20 @@ fn inner(output: &mut Output, left: &str, right: &str) -> Outcome<()> {
     })
 }
 
+// Each row of a table in its order, with the row of another that has its key: the other one is held.
+fn lookup(output: &mut Output, left: &str, right: &str) -> Outcome<()> {
+    let (header, right) = read(right)?;
+    let none = ByteRecord::from(vec![""; header.len()]);
+    let mut reader = open(left)?;
+    output.write_record(reader.byte_headers()?.iter().chain(header.iter().skip(1)))?;
+    let mut row = ByteRecord::new();
+    while reader.read_byte_record(&mut row)? {
+        let found = right.get(&row[0]).unwrap_or(&none);
+        output.write_record(row.iter().chain(found.iter().skip(1)))?;
+    }
+    Ok(())
+}
+
 // The changes as `diff` writes them, made to a table.
 fn apply(output: &mut Output, old: &str, changes: &str) -> Outcome<()> {
     let (header, mut table) = read(old)?;
@@ -183,9 +197,10 @@ fn run(words: &[&str]) -> Outcome<()> {
         ["diff", old, new] => diff(&mut output, old, new)?,
         ["outer", left, right] => outer(&mut output, left, right)?,
         ["inner", left, right] => inner(&mut output, left, right)?,
+        ["lookup", left, right] => lookup(&mut output, left, right)?,
         ["apply", old, changes] => apply(&mut output, old, changes)?,
         ["merge", base, ours, theirs] => merge(&mut output, base, ours, theirs)?,
-        _ => return Err("by_hand diff|outer|inner|apply|merge FILE..".into()),
+        _ => return Err("by_hand diff|outer|inner|lookup|apply|merge FILE..".into()),
     }
     output.flush()?;
     Ok(())
