@@ -1,4 +1,12 @@
-//! A number as it is written, and its digits by their places.
+//! A number as it is written: which bytes are one, and its digits by their places.
+ghost use Rattle.std.specs.Prelude.{◌≡◌, ◌+◌, ◌*◌, ◌^◌, ◌<◌, ◌≤◌, cond, get_or, length, option_map, Some, IfSome, None, ◌&&◌, nat_lt};
+ghost use Rattle.std.specs.List.{before_first, position};
+ghost use Rattle.keyed_numbers.specs.Digits.{digits_value, value_of};
+ghost use Rattle.keyed_numbers.specs.Numbers.{are_digits, behind_first, has_minus, is_either, number_in, power_in, power_of, unsigned};
+ghost use Rattle.keyed_numbers.specs.Decimals.{number_of};
+
+// The power of ten that stands for 10 to the power 0: powers are counted from -9,999, which is the least.
+const ONES: u16 = 9999;
 
 /// A number as it is written: a sign, digits, a point, digits behind it, and a power of ten, of which all but one digit may be left out.
 #[derive(Clone, Copy, Debug)]
@@ -7,7 +15,8 @@ pub struct Decimal<'a> {
     // The digits before the point, and those behind it.
     whole: &'a [u8],
     fraction: &'a [u8],
-    exponent: i64,
+    // The power of ten, counted from -9,999.
+    power: u16,
 }
 
 impl Decimal<'static> {
@@ -16,7 +25,7 @@ impl Decimal<'static> {
         is_negative: false,
         whole: b"0",
         fraction: b"",
-        exponent: 0,
+        power: 9999,
     };
 }
 
@@ -28,21 +37,20 @@ impl<'a> Decimal<'a> {
     /// assert!(rt; Decimal::parse(b"-1.50").is_some() && Decimal::parse(b"2e-3").is_some());
     /// assert!(rt; Decimal::parse(b"1,5").is_none() && Decimal::parse(b".").is_none());
     /// ```
-    pub fn parse(bytes: &'a [u8]) -> Option<Self> {
+    pub fn parse(bytes: &'a [u8]) -> Option<Self>
+        ensures { option_map number_of result ≡ number_in bytes.now }
+    {
         let (is_negative, unsigned) = without_sign(bytes);
-        let (digits, power) = parted(unsigned, b"eE");
-        let (whole, fraction) = parted(digits, b".");
+        let (digits, power) = parted(unsigned, b'e', b'E');
+        let power = power_of(power)?;
+        let (whole, fraction) = parted(digits, b'.', b'.');
         let fraction = fraction.unwrap_or(b"");
-        let exponent = match power {
-            Some(power) => exponent_of(power)?,
-            None => 0,
-        };
-        if are_digits(whole) && are_digits(fraction) && !(whole.is_empty() && fraction.is_empty()) {
+        if are_digits(whole) && are_digits(fraction) && has_any(whole, fraction) {
             Some(Decimal {
                 is_negative,
                 whole,
                 fraction,
-                exponent,
+                power,
             })
         } else {
             None
@@ -59,43 +67,72 @@ impl<'a> Decimal<'a> {
                 .any(|digit| *digit != b'0')
     }
 
-    // 1, or -1 where a minus stands before the digits.
-    pub(crate) fn sign(self) -> i64 {
-        if self.is_negative { -1 } else { 1 }
+    // Whether a minus stands before the digits.
+    pub(crate) fn has_minus(self) -> bool
+        ensures { result ≡ (number_of self.entry).is_negative }
+    {
+        self.is_negative
     }
 
-    // The place above that of the first digit: 0 is that of the ones, 1 that of the tens.
-    pub(crate) fn top(self) -> i64 {
-        self.exponent.saturating_add(self.whole.len() as i64)
+    // The place above that of the first digit, counted from 9,999 places below the point.
+    pub(crate) fn top(self) -> u128
+        ensures value { result ≡ (number_of self.entry).top }
+        ensures bound { result < 2 ^ 65 }
+    {
+        self.power as u128 + self.whole.len() as u128
     }
 
-    // The place of the last digit.
-    pub(crate) fn bottom(self) -> i64 {
-        self.exponent.saturating_sub(self.fraction.len() as i64)
+    // How many digits there are.
+    pub(crate) fn count(self) -> u128
+        ensures value { result ≡ length (number_of self.entry).digits }
+        ensures bound { result < 2 ^ 65 }
+    {
+        self.whole.len() as u128 + self.fraction.len() as u128
     }
 
-    // The digit at a place, which is 0 where none stands.
-    pub(crate) fn digit_at(self, place: i64) -> i64 {
-        let from_point = place.saturating_sub(self.exponent);
-        let digit = if from_point >= 0 {
-            let behind = (from_point as usize).saturating_add(1);
-            self.whole
-                .len()
-                .checked_sub(behind)
-                .and_then(|place| self.whole.get(place))
+    // The value of the digit at a place behind the first one, or 0 where none stands.
+    pub(crate) fn digit(self, place: u128) -> u64
+        ensures value { result ≡ value_of (get_or (number_of self.entry).digits place 0) }
+        ensures bound { result ≤ 9 }
+    {
+        let count = self.whole.len() as u128;
+        if place < count {
+            value_at(self.whole, place)
         } else {
-            self.fraction
-                .get(from_point.saturating_add(1).saturating_neg() as usize)
-        };
-        match digit {
-            Some(digit) => digit.saturating_sub(b'0') as i64,
-            None => 0,
+            value_at(self.fraction, place - count)
         }
     }
 }
 
+// The value of the digit at a place, or 0 where there is none.
+fn value_at(digits: &[u8], place: u128) -> u64
+    ensures value { result ≡ value_of (get_or digits.now place 0) }
+    ensures bound { result ≤ 9 }
+{
+    if place < digits.len() as u128 {
+        value_of(digits[place as usize])
+    } else {
+        0
+    }
+}
+
+// The value of a digit, or 0 of a byte that is none.
+fn value_of(byte: u8) -> u64
+    ensures value { result ≡ value_of byte }
+    ensures bound { result ≤ 9 }
+{
+    if byte.is_ascii_digit() {
+        (byte - b'0') as u64
+    } else {
+        0
+    }
+}
+
 // Whether a minus stands before bytes, and what stands behind a sign.
-fn without_sign(bytes: &[u8]) -> (bool, &[u8]) {
+fn without_sign(bytes: &[u8]) -> (bool, &[u8])
+    ensures minus { result.0 ≡ has_minus bytes.now }
+    ensures rest { result.1.now ≡ unsigned bytes.now }
+{
     match bytes {
         [b'-', rest @ ..] => (true, rest),
         [b'+', rest @ ..] => (false, rest),
@@ -103,38 +140,85 @@ fn without_sign(bytes: &[u8]) -> (bool, &[u8]) {
     }
 }
 
-// What stands before the first byte that is one of these, and what stands behind it.
-fn parted<'a>(bytes: &'a [u8], marks: &[u8]) -> (&'a [u8], Option<&'a [u8]>) {
-    for (place, byte) in bytes.iter().enumerate() {
-        if marks.contains(byte) {
-            let before = bytes.get(..place).unwrap_or(bytes);
-            return match bytes.get(place..) {
-                Some([_, behind @ ..]) => (before, Some(behind)),
-                _ => (before, None),
-            };
-        }
+// What stands before the first byte that is one of two, and what stands behind it, if there is one.
+fn parted(bytes: &[u8], mark: u8, other: u8) -> (&[u8], Option<&[u8]>)
+    ensures before { result.0.now ≡ before_first (is_either mark other) bytes.now }
+    ensures behind { option_map (λ rest. rest.now) result.1 ≡ behind_first (is_either mark other) bytes.now }
+{
+    match place_of(bytes, mark, other) {
+        Some(place) => (&bytes[..place], Some(&bytes[place + 1..])),
+        None => (bytes, None),
     }
-    (bytes, None)
 }
 
-fn are_digits(bytes: &[u8]) -> bool {
+// Where the first byte stands that is one of two.
+fn place_of(bytes: &[u8], mark: u8, other: u8) -> Option<usize>
+    ensures { result ≡ position (is_either mark other) bytes.now }
+{
+    bytes
+        .iter()
+        .position(|byte| *byte == mark || *byte == other)
+}
+
+fn are_digits(bytes: &[u8]) -> bool
+    ensures { result ≡ are_digits bytes.now }
+{
     bytes.iter().all(|byte| byte.is_ascii_digit())
 }
 
+// Whether one of two lists of bytes has any.
+fn has_any(bytes: &[u8], others: &[u8]) -> bool
+    ensures { result ≡ nat_lt 0 (length bytes.now + length others.now) }
+{
+    !bytes.is_empty() || !others.is_empty()
+}
+
+// The power of ten that bytes are, if they are one, or 10 to the power 0 where there are none.
+fn power_of(bytes: Option<&[u8]>) -> Option<u16>
+    ensures { result ≡ power_of (option_map (λ power. power.now) bytes.entry) }
+{
+    match bytes {
+        Some(bytes) => power_in(bytes),
+        None => Some(ONES),
+    }
+}
+
 // The power of ten that bytes are, if they are one: a sign or none, and one to four digits.
-fn exponent_of(bytes: &[u8]) -> Option<i64> {
+fn power_in(bytes: &[u8]) -> Option<u16>
+    ensures { result ≡ power_in bytes.now }
+{
     let (is_negative, digits) = without_sign(bytes);
-    if digits.is_empty() || digits.len() > 4 || !are_digits(digits) {
+    let value = value_of_few(digits)?;
+    Some(if is_negative {
+        ONES - value
+    } else {
+        ONES + value
+    })
+}
+
+// The number that one to four digits are, or None where bytes are no such.
+fn value_of_few(digits: &[u8]) -> Option<u16>
+    ensures value { result ≡ cond (are_digits digits.now && nat_lt 0 (length digits.now) && nat_lt (length digits.now) 5)
+        (Some (digits_value digits.now)) None }
+    ensures bound { IfSome result (λ value. value ≤ 9999) }
+{
+    if !are_digits(digits) {
         return None;
     }
-    let mut exponent: i64 = 0;
-    for digit in digits {
-        let value = digit.saturating_sub(b'0') as i64;
-        exponent = exponent.saturating_mul(10).saturating_add(value);
+    match digits {
+        [a] => Some(value_of_four(b'0', b'0', b'0', *a)),
+        [a, b] => Some(value_of_four(b'0', b'0', *a, *b)),
+        [a, b, c] => Some(value_of_four(b'0', *a, *b, *c)),
+        [a, b, c, d] => Some(value_of_four(*a, *b, *c, *d)),
+        _ => None,
     }
-    Some(if is_negative {
-        exponent.saturating_neg()
-    } else {
-        exponent
-    })
+}
+
+// The number that four digits are.
+fn value_of_four(a: u8, b: u8, c: u8, d: u8) -> u16
+    ensures value { result ≡ 1000 * value_of a + 100 * value_of b + 10 * value_of c + value_of d }
+    ensures bound { result ≤ 9999 }
+{
+    let value = 1000 * value_of(a) + 100 * value_of(b) + 10 * value_of(c) + value_of(d);
+    value as u16
 }

@@ -3,6 +3,7 @@
 //! A number is what `Decimal::parse` takes. Nothing is rounded, and no memory is taken.
 #![tactic(auto)]
 
+mod aligned;
 mod decimal;
 mod near;
 

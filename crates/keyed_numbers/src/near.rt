@@ -1,5 +1,11 @@
 //! Numbers whose values are the same, or as near to one another as may be.
+ghost use Rattle.std.specs.Prelude.{◌≡◌, ◌+◌, ◌-◌, ◌^◌, ◌<◌, ◌&&◌, nat_le, None, Some};
+ghost use Rattle.keyed_numbers.specs.Digits.{positional};
+ghost use Rattle.keyed_numbers.specs.Numbers.{depth, is_near, top_of};
+ghost use Rattle.keyed_numbers.specs.Decimals.{are_same_by_value, number_of, same_cell};
+ghost use Rattle.keyed_numbers.specs.AlignedDigits.{digit_of};
 
+use crate::aligned::{Aligned, Sum, is_at_most};
 use crate::decimal::Decimal;
 
 /// Whether two cells are the same: byte by byte or, where a tolerance is given and both are numbers, by value, with no more than it between
@@ -8,68 +14,124 @@ use crate::decimal::Decimal;
 /// ```
 /// assert!(rt; is_same_cell(Some(Decimal::ZERO), b"1.50", b"+1.5") && !is_same_cell(None, b"1.50", b"1.5"));
 /// ```
-pub fn is_same_cell(tolerance: Option<Decimal<'_>>, cell: &[u8], other: &[u8]) -> bool {
-    if cell == other {
-        return true;
-    }
-    match tolerance {
-        Some(tolerance) => match (Decimal::parse(cell), Decimal::parse(other)) {
-            (Some(number), Some(next)) => is_near(number, next, tolerance),
-            _ => false,
+pub fn is_same_cell(tolerance: Option<Decimal<'_>>, cell: &[u8], other: &[u8]) -> bool
+    ensures { result ≡ same_cell tolerance.entry cell.now other.now }
+{
+    cell == other || are_same_by_value(tolerance, cell, other)
+}
+
+// Whether two cells are numbers that are the same by value, where a tolerance is given.
+fn are_same_by_value(tolerance: Option<Decimal<'_>>, cell: &[u8], other: &[u8]) -> bool
+    ensures { result ≡ are_same_by_value tolerance.entry cell.now other.now }
+{
+    let Some(tolerance) = tolerance else {
+        return false;
+    };
+    match Decimal::parse(cell) {
+        Some(number) => match Decimal::parse(other) {
+            Some(next) => is_near(tolerance, number, next),
+            None => false,
         },
         None => false,
     }
 }
 
 // Whether no more than a tolerance is between two numbers.
-fn is_near(number: Decimal<'_>, other: Decimal<'_>, tolerance: Decimal<'_>) -> bool {
-    let (sign, next) = (number.sign(), other.sign());
-    let above = [
-        (sign, number),
-        (next.saturating_neg(), other),
-        (-1, tolerance),
-    ];
-    let below = [
-        (sign.saturating_neg(), number),
-        (next, other),
-        (-1, tolerance),
-    ];
-    !is_positive(&above) && !is_positive(&below)
-}
-
-// A number with the sign that it has in a sum, whatever its own.
-type Term<'a> = (i64, Decimal<'a>);
-
-// Whether the sum of three numbers is above 0. It is made digit by digit from the first place of any of them: all places behind a place
-// come to less than three of it, so that the sum has its sign once it is more than three.
-fn is_positive(terms: &[Term<'_>; 3]) -> bool {
-    let [first, next, last] = *terms;
-    let top = first.1.top().max(next.1.top()).max(last.1.top());
-    let bottom = first.1.bottom().min(next.1.bottom()).min(last.1.bottom());
-    let mut sum: i64 = 0;
-    for step in 1..=top.saturating_sub(bottom) {
-        let place = top.saturating_sub(step);
-        let digits = digit_of(first, place)
-            .saturating_add(digit_of(next, place))
-            .saturating_add(digit_of(last, place));
-        sum = sum.saturating_mul(10).saturating_add(digits);
-        if sum > 3 {
-            return true;
-        }
-        if sum < -3 {
-            return false;
-        }
-    }
-    sum > 0
-}
-
-// The digit of a term at a place, with its sign.
-fn digit_of(term: Term<'_>, place: i64) -> i64 {
-    let (sign, number) = term;
-    let digit = number.digit_at(place);
-    if sign < 0 {
-        digit.saturating_neg()
+fn is_near(tolerance: Decimal<'_>, number: Decimal<'_>, other: Decimal<'_>) -> bool
+    ensures { result ≡ is_near (number_of tolerance.entry) (number_of number.entry) (number_of other.entry) }
+{
+    let top = top_of(number, other, tolerance);
+    let depth = depth(top, number)
+        .max(depth(top, other))
+        .max(depth(top, tolerance));
+    let three = Three {
+        number: below(top, number),
+        other: below(top, other),
+        tolerance: below(top, tolerance),
+    };
+    if number.has_minus() == other.has_minus() {
+        is_difference_within(depth, three)
     } else {
-        digit
+        is_sum_within(depth, three)
+    }
+}
+
+// Two numbers, and a tolerance.
+#[derive(Clone, Copy)]
+struct Three<'a> {
+    number: Aligned<'a>,
+    other: Aligned<'a>,
+    tolerance: Aligned<'a>,
+}
+
+// Whether no more than the tolerance is between two numbers without their signs.
+fn is_difference_within(depth: u128, three: Three<'_>) -> bool
+    ensures { result ≡ (nat_le (positional (digit_of three.entry.number) depth)
+        (positional (digit_of three.entry.other) depth + positional (digit_of three.entry.tolerance) depth)
+        && nat_le (positional (digit_of three.entry.other) depth)
+        (positional (digit_of three.entry.number) depth + positional (digit_of three.entry.tolerance) depth)) }
+{
+    let Three {
+        number,
+        other,
+        tolerance,
+    } = three;
+    is_at_most(depth, alone(number), both(other, tolerance))
+        && is_at_most(depth, alone(other), both(number, tolerance))
+}
+
+// Whether two numbers without their signs come to no more than the tolerance.
+fn is_sum_within(depth: u128, three: Three<'_>) -> bool
+    ensures { result ≡ nat_le (positional (digit_of three.entry.number) depth + positional (digit_of three.entry.other) depth)
+        (positional (digit_of three.entry.tolerance) depth) }
+{
+    is_at_most(
+        depth,
+        both(three.number, three.other),
+        alone(three.tolerance),
+    )
+}
+
+fn alone(first: Aligned<'_>) -> Sum<'_>
+    ensures first { result.first ≡ first.entry }
+    ensures next { result.next ≡ None }
+{
+    Sum { first, next: None }
+}
+
+fn both<'a>(first: Aligned<'a>, next: Aligned<'a>) -> Sum<'a>
+    ensures first { result.first ≡ first.entry }
+    ensures next { result.next ≡ Some next.entry }
+{
+    Sum {
+        first,
+        next: Some(next),
+    }
+}
+
+// The place above the first digit of any of three numbers.
+fn top_of(number: Decimal<'_>, other: Decimal<'_>, tolerance: Decimal<'_>) -> u128
+    ensures value { result ≡ top_of (number_of number.entry) (number_of other.entry) (number_of tolerance.entry) }
+    ensures bound { result < 2 ^ 65 }
+{
+    number.top().max(other.top()).max(tolerance.top())
+}
+
+// How many places below a top the last digit of a number stands.
+fn depth(top: u128, number: Decimal<'_>) -> u128
+    requires { top < 2 ^ 65 }
+    ensures { result ≡ depth top (number_of number.entry) }
+{
+    top.saturating_sub(number.top()) + number.count()
+}
+
+// A number below a top.
+fn below(top: u128, number: Decimal<'_>) -> Aligned<'_>
+    ensures zeros { result.zeros ≡ top - (number_of number.entry).top }
+    ensures number { result.number ≡ number.entry }
+{
+    Aligned {
+        zeros: top.saturating_sub(number.top()),
+        number,
     }
 }

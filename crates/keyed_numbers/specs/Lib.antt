@@ -1,0 +1,4 @@
+pub mod Digits
+pub mod Numbers
+pub mod Decimals
+pub mod AlignedDigits
