@@ -1,7 +1,6 @@
 -- Names of columns, each once.
-use Rattle.std.proofs.Common.{◌≡◌, ◌∙◌, ◌+◌, ℕ, Bool, Bor, true, false, cond, List, [], ◌∷◌, ◌++◌, None, Some, arith, drop, filter, length, map, nat_eq, refl, sym, ap, ap₂, append_assoc, subst, take}
+use Rattle.std.proofs.Common.{◌≡◌, ◌∙◌, ◌+◌, ℕ, Bool, Bor, true, false, cond, List, [], ◌∷◌, ◌++◌, None, Some, arith, drop, filter, map, nat_eq, refl, sym, ap, ap₂, append_assoc, subst, take}
 use Rattle.std.specs.Prelude.{◌&&◌, ◌||◌, not, slice_get}
-use Rattle.std.specs.Cmp.{IsEquivalence}
 use Rattle.std.specs.Cmp.Lexicographic.{nat_list_eq_equiv, pointwise}
 use Rattle.std.specs.List.{list_any}
 use Rattle.std.proofs.lemmas.List.{append-nil, map-append}
@@ -13,7 +12,7 @@ use Rattle.std.proofs.lemmas.Map.Steps.{list_any_congr}
 use Rattle.indexmap.specs.IndexSet.{insert_all, insert_key}
 use Rattle.keyed_files.specs.ChangedColumns.{marked_between}
 use Rattle.keyed_files.specs.ColumnNames.{HaveNames, all_names, distinct, has_name, is_beside, key_first, place_under_key}
-use Rattle.keyed_files.specs.Keys.{AreGiven}
+use Rattle.keyed_files.specs.KeyText.{AreNamesOf, GivesNames}
 use Rattle.keyed_files.specs.Names.{is_kept, names_in}
 use Rattle.keyed_files.specs.NewColumns.{HasOnce, HasSeen, PutsColumn, SeesNames}
 use Rattle.keyed_files.specs.declared.columns.Place.TheVariants as at
@@ -182,9 +181,13 @@ once-more old new name h is behind put =
       once = ap distinct put ∙ distinct-push old.names name ∙ ap (λ l. insert_key (pointwise nat_eq) l name) (h.once ∙ sym h.seen) ∙ sym is ∙ seen;
     }
 
-pub given-one : (first others : List (List ℕ)) (name : List ℕ) → first ≡ name ∷ [] → others ≡ name ∷ [] → AreGiven first others
+pub given-one : (first others : List (List ℕ)) (name : List ℕ) → first ≡ name ∷ [] → others ≡ name ∷ [] → GivesNames name (name, name) → AreNamesOf (name ∷ []) first others
 unfolding distinct
-given-one first others name e f = record { alike = ap length e ∙ sym (ap length f); first_once = ap distinct e ∙ sym e; others_once = ap distinct f ∙ sym f }
+given-one first others name e f gives = record {
+  given = record { names = (name, name) ∷ []; given = (gives, tt); are_first = e; are_others = f };
+  first_once = ap distinct e ∙ sym e;
+  others_once = ap distinct f ∙ sym f;
+}
 
 -- names that are found at once are those that were put there
 pub has-same : (names others : List (List ℕ)) → names ≡ insert_all (pointwise nat_eq) [] others → (name : List ℕ) → has_name names name ≡ has_name others name

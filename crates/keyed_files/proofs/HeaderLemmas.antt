@@ -1,5 +1,5 @@
 -- The names of a header, one after the other.
-use Rattle.std.proofs.Common.{◌≡◌, ◌∙◌, ◌+◌, ◌-◌, ◌<◌, ◌≤◌, ℕ, List, [], ◌∷◌, ◌++◌, Bool, true, false, arith, drop, take, length, length-drop, get_or, map, nat_eq, refl, sym, ap, zero, suc}
+use Rattle.std.proofs.Common.{◌≡◌, ◌∙◌, ◌+◌, ◌-◌, ◌<◌, ◌≤◌, ℕ, List, [], ◌∷◌, ◌++◌, Bool, true, false, arith, drop, take, length, length-drop, get_or, nat_eq, refl, sym, ap, zero, suc}
 use Rattle.std.specs.Prelude.{◌||◌, unwrap_or}
 use Rattle.std.specs.Cmp.Lexicographic.{pointwise}
 use Rattle.std.specs.List.{list_any}
@@ -29,7 +29,7 @@ pub names-behind : (fields : List (List ℕ)) (i : ℕ) → i < length fields �
 unfolding repeats
 names-behind fields i lt h = rw (take_more fields i [] lt) (or-second _ _ (rw (drop_more fields i [] lt) at h))
 
-field-is : (fields : List (List ℕ)) (i : ℕ) → unwrap_or (field_at fields i) [] ≡ get_or fields i []
+pub field-is : (fields : List (List ℕ)) (i : ℕ) → unwrap_or (field_at fields i) [] ≡ get_or fields i []
 unfolding field_at
 field-is [] i = refl
 field-is (x ∷ xs) zero = refl

@@ -1,8 +1,8 @@
 -- Laws of columns: their names, and their cells picked and put back.
-use Rattle.std.proofs.Common.{◌≡◌, ◌∙◌, ◌+◌, ◌<◌, ℕ, suc, zero, Bool, true, false, cond, List, [], ◌∷◌, ◌++◌, None, Option, Some, arith, filter, length, length-append, map, nat_eq, refl, sym, ap, ap₂, append_assoc, get_or, subst, take}
+use Rattle.std.proofs.Common.{◌≡◌, ◌∙◌, ◌+◌, ℕ, suc, zero, Bool, true, false, cond, List, [], ◌∷◌, ◌++◌, None, Option, Some, arith, filter, length, length-append, map, nat_eq, refl, sym, ap, ap₂, append_assoc, get_or, subst, take}
 use Rattle.std.specs.Prelude.{◌&&◌, ◌||◌, is_none, nat_lt, not, option_map, slice_get, unwrap_or}
 use Rattle.std.specs.Cmp.Lexicographic.{bytes_decides, nat_list_eq_equiv, pointwise}
-use Rattle.std.specs.List.{AllByRecursion, IsDistinct, list_any, position, position_or_len}
+use Rattle.std.specs.List.{AllByRecursion, IsDistinct, list_any, position_or_len}
 use Rattle.std.proofs.lemmas.Bool.Decides.{nat_tests}
 use Rattle.std.proofs.lemmas.List.{append-nil}
 use Rattle.std.proofs.lemmas.List.Quantifiers.{position-Some}
@@ -10,14 +10,13 @@ use Rattle.std.proofs.lemmas.Option.{slice_get-get_or, slice_get-map}
 use Rattle.csv.specs.Records.{field_at}
 use Rattle.indexmap.specs.IndexSet.{insert_all}
 use Rattle.keyed_files.specs.ColumnLaws.{KeepsNamesLaw, NamesOnceLaw, PlacesCellsLaw, PutsBackLaw, WritesNamesLaw}
-use Rattle.keyed_files.specs.ColumnNames.{AreColumns, WriteNames, all_names, column_names, distinct, has_name, is_beside, place_by, place_under_key}
+use Rattle.keyed_files.specs.ColumnNames.{AreColumns, all_names, column_names, distinct, is_beside, place_by, place_under_key}
 use Rattle.keyed_files.specs.Names.{place_in, repeats}
 use Rattle.keyed_files.specs.Picked.{cell_at}
-use Rattle.keyed_files.specs.Reading.{cell_under, row_under}
+use Rattle.keyed_files.specs.Reading.{cell_under}
 use Rattle.keyed_files.specs.Rows.{cell_placed, placed, rest_behind}
 use Rattle.keyed_files.specs.declared.columns.Columns.{Columns}
 use Rattle.keyed_files.specs.declared.columns.Place.{Place}
-use Rattle.keyed_files.specs.declared.source.Content.{Content}
 use Rattle.keyed_files.specs.declared.source.Content.TheVariants as content
 use Rattle.keyed_files.proofs.ColumnLemmas.{distinct-inserted, inserted}
 use Rattle.keyed_files.proofs.NameLemmas.{all_names as in_all, none_at}

@@ -1,5 +1,5 @@
 -- Lists of names whose elements are read in another way.
-use Rattle.std.proofs.Common.{◌≡◌, ◌∙◌, ℕ, suc, Option, Some, None, arith, Bool, true, false, cond, List, [], ◌∷◌, ◌++◌, ◌+◌, length, map, nat_eq, position, refl, sym, ap, true≢false}
+use Rattle.std.proofs.Common.{◌≡◌, ◌∙◌, ℕ, suc, Some, None, arith, Bool, true, false, cond, List, [], ◌∷◌, ◌++◌, ◌+◌, length, map, nat_eq, position, refl, sym, ap, true≢false}
 use Rattle.std.specs.Prelude.{◌||◌, is_none, is_some, nat_lt, not}
 use Rattle.std.specs.Cmp.{IsEquivalence}
 use Rattle.std.specs.Cmp.Lexicographic.{nat_list_eq_equiv, pointwise}

@@ -1,5 +1,5 @@
 -- The columns of the table that changes make of another, of two versions merged, and of changes as their header marks them.
-use Rattle.std.specs.Prelude.{◌≡◌, ◌==◌, ◌||◌, ◌&&◌, ℕ, Bool, false, not, List, [], ◌∷◌, ◌++◌, filter, map, nat_eq, if◌then◌else◌}
+use Rattle.std.specs.Prelude.{◌==◌, ◌||◌, ◌&&◌, ℕ, Bool, false, not, List, [], ◌∷◌, ◌++◌, filter, map, nat_eq, if◌then◌else◌}
 use Rattle.std.specs.Cmp.Lexicographic.{pointwise}
 use Rattle.std.specs.List.{list_all, zip}
 use Rattle.keyed_files.specs.ColumnNames.{WriteNames, column_names, has_name, or_header}

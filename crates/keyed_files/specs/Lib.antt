@@ -6,6 +6,7 @@ pub mod Encodings
 pub mod Explained
 pub mod Headers
 pub mod JoinedRows
+pub mod KeyText
 pub mod Keys
 pub mod Lines
 pub mod Lost

@@ -159,13 +159,13 @@ pub fn picked_columns(
 // The same columns with those alone, beside the key, that a text names, or does not name.
 fn columns_picked(
     alloc: Global,
-    record: &str,
+    text: &str,
     keeps: bool,
     columns: Columns,
 ) -> Result<Columns, Reason>
-    ensures { IfOk result (λ kept. ArePicked keeps columns kept) }
+    ensures { IfOk result (λ kept. ArePicked text.now keeps columns kept) }
 {
-    let given = key_names(alloc, record)?;
+    let given = key_names(alloc, text)?;
     check_known(alloc, &columns, &given.first)?;
     let names = Names::of_cells(alloc, &given.first)?;
     let kept = columns_among(alloc, &names, keeps, columns)?;

@@ -232,7 +232,7 @@ fn names_there(alloc: Global, record: &ByteRecord, before: usize) -> Result<Name
 }
 
 // The cell of a row at a place, or an empty one behind the last.
-fn cell_of(row: &ByteRecord, place: usize) -> &[u8]
+pub(crate) fn cell_of(row: &ByteRecord, place: usize) -> &[u8]
     ensures { result.now ≡ unwrap_or (field_at (fields_of row.now) place) [] }
 {
     row.get(place).unwrap_or(b"")

@@ -1,15 +1,20 @@
 //! The names of the columns that are the key, as they are given.
-ghost use Rattle.std.specs.Prelude.{◌≡◌, ◌++◌, ◌∷◌, [], IfOk, OnOk, option_and_then, option_map, slice_get};
-ghost use Rattle.keyed_files.specs.Keys.{AreGiven};
+ghost use Rattle.std.specs.Prelude.{◌≡◌, ◌==◌, ◌++◌, ◌∷◌, [], IfOk, OnOk, false, option_and_then, option_map, slice_get};
+ghost use Rattle.std.specs.Prelude.{true};
+ghost use Rattle.csv.specs.Records.{fields_of};
+ghost use Rattle.keyed_text.specs.Streams.{GivesRow};
+ghost use Rattle.keyed_files.specs.KeyText.{AreNamesIn, AreNamesOf, EndsNames, GivesNames, HasNames, ReadsByte};
+ghost use Rattle.keyed_files.specs.KeyText.{begins_well, doubled, other_in, read_of, text_left};
 ghost use Rattle.keyed_files.specs.Names.{place_in, renamed};
 ghost use Rattle.keyed_files.specs.NewColumns.{HasOnce};
 
 use crate::columns::place_of;
 use crate::fault::Reason;
+use crate::header::cell_of;
 use crate::names::Names;
-use csv::{ByteRecord, Reader, ReaderBuilder};
+use csv::ByteRecord;
 use keyed_rows::Cells;
-use keyed_text::{Marks, Strict};
+use keyed_text::{Marks, RowReader, Strict};
 use std::alloc::{AllocError, Global};
 
 // How such a text is parted.
@@ -75,22 +80,20 @@ impl KeyNames {
 /// assert!(rt; names.first.get(1) == Some(b"year") && names.others.get(1) == Some(b"year"));
 /// ```
 pub fn key_names(alloc: Global, text: &str) -> Result<KeyNames, Reason>
-    ensures { IfOk result (λ names. AreGiven names.first names.others) }
+    ensures { IfOk result (λ names. AreNamesIn text.now names.first names.others) }
 {
     if text.is_empty() {
         let names = no_name(alloc)?;
         return Ok(names);
     }
-    let mut reader = ReaderBuilder::new()
-        .has_headers(false)
-        .flexible(true)
-        .from_reader(alloc, Strict::new(text.as_bytes(), COMMAS));
-    let mut record = ByteRecord::new(alloc);
-    if !read_key(&mut reader, &mut record)? {
+    let strict = Strict::new(text.as_bytes(), COMMAS);
+    let mut rows = RowReader::new(alloc, strict, COMMAS);
+    let mut row = ByteRecord::new(alloc);
+    if !read_key(&mut rows, &mut row)? {
         return Err(Reason::KeyNoRecord);
     }
-    let names = names_of(alloc, &record)?;
-    if read_key(&mut reader, &mut record)? {
+    let names = names_of(alloc, &row)?;
+    if read_key(&mut rows, &mut row)? {
         return Err(Reason::KeyNoRecord);
     }
     Ok(names)
@@ -98,30 +101,33 @@ pub fn key_names(alloc: Global, text: &str) -> Result<KeyNames, Reason>
 
 // One name in each table, which is empty.
 fn no_name(alloc: Global) -> Result<KeyNames, AllocError>
-    ensures { IfOk result (λ names. AreGiven names.first names.others) }
+    ensures { IfOk result (λ names. AreNamesOf ([] ∷ []) names.first names.others) }
 {
     let names = KeyNames::alike(Cells::from_slices(alloc, &[b""])?)?;
     Ok(names)
 }
 
 // Reads a record, or says that there is none.
-fn read_key(reader: &mut Reader<Strict<&[u8]>>, record: &mut ByteRecord) -> Result<bool, Reason> {
-    let outcome = reader.read_byte_record(record);
-    if reader.get_ref().quote_fault().is_some() {
+fn read_key(rows: &mut RowReader<Strict<&[u8]>>, row: &mut ByteRecord) -> Result<bool, Reason>
+    ensures { IfOk result (λ found. GivesRow text_left rows.old rows.new found (fields_of row.new)) }
+{
+    let outcome = rows.read_row(row);
+    if rows.get_ref().quote_fault().is_some() {
         return Err(Reason::KeyNoRecord);
     }
-    Ok(outcome?)
+    let found = outcome?;
+    Ok(found)
 }
 
 // The names that the cells of a record give, no two of which are the same in one table.
-fn names_of(alloc: Global, record: &ByteRecord) -> Result<KeyNames, Reason>
-    ensures { IfOk result (λ names. AreGiven names.first names.others) }
+fn names_of(alloc: Global, row: &ByteRecord) -> Result<KeyNames, Reason>
+    ensures { IfOk result (λ names. AreNamesOf (fields_of row.now) names.first names.others) }
 {
     let mut first = NewNames::new(alloc);
     let mut others = NewNames::new(alloc);
-    for cell in record.iter() {
-        let column = names_of_cell(alloc, cell)?;
-        others.put(alloc, column.other.as_ref().unwrap_or(&column.first))?;
+    for place in 0..row.len() {
+        let column = names_of_cell(alloc, cell_of(row, place))?;
+        others.put(alloc, column.other())?;
         first.put(alloc, &column.first)?;
     }
     Ok(KeyNames {
@@ -160,16 +166,51 @@ impl NewNames {
     }
 }
 
-// The name of a column in the first table, and its name in the others where that is another.
+// The name of a column in the first table, and its name in the others where that is another, as far as its cell is read.
 #[derive(Drop)]
 struct TwoNames {
     first: Vec<u8>,
     other: Option<Vec<u8>>,
+    // Whether an `=` has come that is one of a name if another comes next.
+    waits: bool,
 }
 
 impl TwoNames {
+    // Nothing is read.
+    fn new(alloc: Global) -> Self
+        ensures { HasNames [] result }
+    {
+        TwoNames {
+            first: Vec::new(alloc),
+            other: None,
+            waits: false,
+        }
+    }
+
+    // Reads the next byte, and returns whether there are two names at most.
+    fn read(&mut self, alloc: Global, byte: u8) -> Result<bool, AllocError>
+        ensures { IfOk result (λ goes. goes ≡ true → ReadsByte self.old self.new byte) }
+    {
+        let is_equal = byte == b'=';
+        if self.waits == is_equal {
+            self.put(byte)?;
+            Ok(true)
+        } else if is_equal {
+            self.waits = true;
+            Ok(true)
+        } else {
+            self.begin_other(alloc, byte)
+        }
+    }
+
     // Puts a byte behind the name that is read.
-    fn put(&mut self, byte: u8) -> Result<(), AllocError> {
+    fn put(&mut self, byte: u8) -> Result<(), AllocError>
+        ensures waits { self.new.waits ≡ false }
+        ensures read { OnOk result (read_of self.new ≡ read_of self.old ++ doubled (byte ∷ [])) }
+        ensures begun { OnOk result (begins_well (option_map (λ name. name.items) self.old.other) ≡ true
+            → begins_well (option_map (λ name. name.items) self.new.other) ≡ true) }
+    {
+        self.waits = false;
         match &mut self.other {
             Some(name) => name.push(byte)?,
             None => self.first.push(byte)?,
@@ -177,37 +218,58 @@ impl TwoNames {
         Ok(())
     }
 
-    // Begins the name in the others, unless it is begun: then it returns false.
-    fn begin_other(&mut self, alloc: Global) -> bool {
+    // Begins the name in the others with this byte, unless it is begun: then it returns false.
+    fn begin_other(&mut self, alloc: Global, byte: u8) -> Result<bool, AllocError>
+        requires waits { self.old.waits ≡ true }
+        requires byte { (byte == 61) ≡ false }
+        ensures { IfOk result (λ goes. goes ≡ true → ReadsByte self.old self.new byte) }
+    {
+        if self.other.is_some() {
+            return Ok(false);
+        }
+        let mut name = Vec::new(alloc);
+        name.push(byte)?;
+        self.other = Some(name);
+        self.waits = false;
+        Ok(true)
+    }
+
+    // Ends the names, and returns whether there are two at most.
+    fn end(&mut self, alloc: Global) -> bool
+        ensures { result ≡ true → EndsNames self.old self.new }
+    {
+        if !self.waits {
+            return true;
+        }
         if self.other.is_some() {
             return false;
         }
         self.other = Some(Vec::new(alloc));
         true
     }
+
+    // The name in the other tables.
+    fn other(&self) -> &[u8]
+        ensures { result.now ≡ other_in self.now }
+    {
+        match &self.other {
+            Some(name) => name,
+            None => &self.first,
+        }
+    }
 }
 
 // The names that a cell gives, with one `=` between them. Two are one of a name.
-fn names_of_cell(alloc: Global, cell: &[u8]) -> Result<TwoNames, Reason> {
-    let mut names = TwoNames {
-        first: Vec::new(alloc),
-        other: None,
-    };
-    // Whether an `=` has come that is one of a name if another comes next.
-    let mut waits = false;
+fn names_of_cell(alloc: Global, cell: &[u8]) -> Result<TwoNames, Reason>
+    ensures { IfOk result (λ names. GivesNames cell.now (names.first.items, other_in names)) }
+{
+    let mut names = TwoNames::new(alloc);
     for byte in cell {
-        let parts = waits && *byte != b'=';
-        if parts && !names.begin_other(alloc) {
+        if !names.read(alloc, *byte)? {
             return Err(Reason::ManyNames(Vec::from_slice(alloc, cell)?));
         }
-        if waits || *byte != b'=' {
-            names.put(*byte)?;
-            waits = false;
-        } else {
-            waits = true;
-        }
     }
-    if waits && !names.begin_other(alloc) {
+    if !names.end(alloc) {
         return Err(Reason::ManyNames(Vec::from_slice(alloc, cell)?));
     }
     Ok(names)

@@ -1,5 +1,5 @@
 use Rattle.std.proofs.Common.{◌≡◌, ◌∙◌, ◌+◌, ◌∷◌, ◌++◌, [], ap, drop, sym}
-use Rattle.std.specs.Prelude.{None, Some, option_map, slice_get}
+use Rattle.std.specs.Prelude.{None, Some, slice_get}
 use Rattle.std.proofs.lemmas.List.{drop_more}
 use Rattle.keyed_files.proofs.ColumnLemmas.{first-later, first-there}
 use Rattle.keyed_files.proofs.columns.first_name.Goals as goal

@@ -1,10 +1,12 @@
-use Rattle.std.proofs.Common.{◌≡◌, length}
+use Rattle.std.proofs.Common.{take}
+use Rattle.csv.specs.Records.{fields_of}
+use Rattle.keyed_files.specs.KeyText.{GiveNames}
 use Rattle.keyed_files.specs.NewColumns.{HasOnce}
 use Rattle.keyed_files.proofs.key_record.names_of.Given as goal
 
-abbrev pub invariant-loop-cell : goal.invariant-loop-cell
-invariant-loop-cell l = record {
+abbrev pub invariant-loop-place : goal.invariant-loop-place
+invariant-loop-place l = record {
   first : HasOnce l.first;
   others : HasOnce l.others;
-  alike : length l.first.names ≡ length l.others.names;
+  given : GiveNames (take l.place (fields_of l.row)) l.first.names l.others.names;
 }
