@@ -10,7 +10,7 @@ use Rattle.std.proofs.lemmas.List.Folds.{list_any-append}
 use Rattle.std.proofs.lemmas.List.FromFn.{map-range_with_len_more}
 use Rattle.std.proofs.lemmas.Map.Steps.{list_any_congr}
 use Rattle.indexmap.specs.IndexSet.{insert_all, insert_key}
-use Rattle.keyed_files.specs.ChangedColumns.{marked_between}
+use Rattle.keyed_files.specs.ChangedColumns.{comes_in, marked_between, stays_in}
 use Rattle.keyed_files.specs.ColumnNames.{HaveNames, all_names, distinct, has_name, is_beside, key_first, place_under_key}
 use Rattle.keyed_files.specs.KeyText.{AreNamesOf, GivesNames}
 use Rattle.keyed_files.specs.Names.{is_kept, names_in}
@@ -223,12 +223,14 @@ marked-same before after old new b a names =
 
 -- names of two versions, found at once
 pub staying-same : (before beside base next : List (List ℕ)) → before ≡ insert_all (pointwise nat_eq) [] base → beside ≡ insert_all (pointwise nat_eq) [] next
-    → (xs : List (List ℕ)) → filter (λ name. has_name beside name || not (has_name before name)) xs ≡ filter (λ name. has_name next name || not (has_name base name)) xs
-staying-same before beside base next b n xs = filter_agree _ _ (λ name. ap₂ (λ p q. p || not q) (has-same beside next n name) (has-same before base b name)) xs
+    → (xs : List (List ℕ)) → filter (stays_in before beside) xs ≡ filter (stays_in base next) xs
+staying-same before beside base next b n xs =
+    filter_agree (stays_in before beside) (stays_in base next) (λ name. ap₂ (λ p q. p || not q) (has-same beside next n name) (has-same before base b name)) xs
 
 pub added-same : (before there base first : List (List ℕ)) → before ≡ insert_all (pointwise nat_eq) [] base → there ≡ insert_all (pointwise nat_eq) [] first
-    → (xs : List (List ℕ)) → filter (λ name. not (has_name there name) && not (has_name before name)) xs ≡ filter (λ name. not (has_name first name) && not (has_name base name)) xs
-added-same before there base first b f xs = filter_agree _ _ (λ name. ap₂ (λ p q. not p && not q) (has-same there first f name) (has-same before base b name)) xs
+    → (xs : List (List ℕ)) → filter (comes_in before there) xs ≡ filter (comes_in base first) xs
+added-same before there base first b f xs =
+    filter_agree (comes_in before there) (comes_in base first) (λ name. ap₂ (λ p q. not p && not q) (has-same there first f name) (has-same before base b name)) xs
 
 -- the last of two tests
 pub led-if : (a b p q r : Bool) → a ≡ p → a ≡ false → b ≡ q → b ≡ false → b ≡ (p || (q && not r))

@@ -39,10 +39,17 @@ changed_names old changes gone = filter (λ name. not (has_name gone name)) chan
 abbrev pub AreChangedColumns : List (List ℕ) → List (List ℕ) → List (List ℕ) → List (List ℕ) → Columns → Type 0
 AreChangedColumns key old changes gone columns = WriteNames key (changed_names old changes gone) (changes ∷ old ∷ gone ∷ []) columns
 
+-- whether a column of a version stays in a merge: the other version did not drop it
+abbrev pub stays_in : List (List ℕ) → List (List ℕ) → List ℕ → Bool
+stays_in base other name = has_name other name || not (has_name base name)
+
+-- whether a column of a version comes behind those of the other one: it is new, and not in the other one
+abbrev pub comes_in : List (List ℕ) → List (List ℕ) → List ℕ → Bool
+comes_in base other name = not (has_name other name) && not (has_name base name)
+
 -- the names of two versions without those that one of them dropped: those of the first, and then those that the next one alone has
 abbrev pub merged_names : List (List ℕ) → List (List ℕ) → List (List ℕ) → List (List ℕ)
-merged_names base first next = filter (λ name. has_name next name || not (has_name base name)) first
-    ++ filter (λ name. not (has_name first name) && not (has_name base name)) next
+merged_names base first next = filter (stays_in base next) first ++ filter (comes_in base first) next
 
 -- the names that another header has too
 abbrev pub shared : List (List ℕ) → List (List ℕ) → List (List ℕ)

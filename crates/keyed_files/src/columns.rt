@@ -175,7 +175,8 @@ fn columns_picked(
 // Tells of the first of these names that is that of no column.
 fn check_known(alloc: Global, columns: &Columns, given: &Cells) -> Result<(), Reason>
     ensures { OnOk result
-        (list_all (λ name. has_name columns.now.key name || has_name columns.now.rest name) given.now ≡ true) }
+        (list_all (λ name. has_name columns.now.key name || has_name columns.now.rest name) given.now
+        ≡ true) }
 {
     for name in given {
         if !columns.has(name) {
@@ -202,7 +203,8 @@ fn columns_among(
     columns: Columns,
 ) -> Result<Columns, AllocError>
     ensures key { IfOk result (λ kept. kept.key ≡ columns.key) }
-    ensures rest { IfOk result (λ kept. kept.rest ≡ filter (is_kept keeps (names_in names.now)) columns.rest) }
+    ensures rest { IfOk result
+        (λ kept. kept.rest ≡ filter (is_kept keeps (names_in names.now)) columns.rest) }
     ensures order { IfOk result
         (λ kept. kept.order.items ≡ key_first (length columns.key) (length kept.rest)) }
 {

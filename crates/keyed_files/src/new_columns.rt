@@ -1,10 +1,10 @@
 //! The columns of the table that changes make of another, and of two versions merged: which are written, and in which order.
-ghost use Rattle.std.specs.Prelude.{◌≡◌, ◌++◌, ◌∷◌, ◌||◌, ◌&&◌, [], IfOk, OnOk, drop, filter, length, map, not};
+ghost use Rattle.std.specs.Prelude.{◌≡◌, ◌++◌, ◌∷◌, [], IfOk, OnOk, drop, filter, map};
 ghost use Rattle.std.specs.List.{list_any};
-ghost use Rattle.keyed_files.specs.ChangedColumns.{AreChangedColumns, AreMergedColumns, fate_between};
-ghost use Rattle.keyed_files.specs.ChangedColumns.{is_led_by_theirs, marked_between};
-ghost use Rattle.keyed_files.specs.ChangedColumns.{marked_names, merged_names, names_merged};
-ghost use Rattle.keyed_files.specs.ColumnNames.{WriteNames, has_name};
+ghost use Rattle.keyed_files.specs.ChangedColumns.{AreChangedColumns, AreMergedColumns, comes_in};
+ghost use Rattle.keyed_files.specs.ChangedColumns.{fate_between, is_led_by_theirs, marked_between};
+ghost use Rattle.keyed_files.specs.ChangedColumns.{marked_names, merged_names, names_merged, stays_in};
+ghost use Rattle.keyed_files.specs.ColumnNames.{WriteNames};
 ghost use Rattle.keyed_files.specs.Lost.{count_written, is_filled, is_rest, loses_cells};
 ghost use Rattle.keyed_files.specs.Names.{names_in};
 
@@ -176,8 +176,8 @@ fn put_kept(
     before: &Names,
     beside: &Names,
 ) -> Result<(), AllocError>
-    ensures { OnOk result (names.new ≡ names.old
-        ++ filter (λ name. has_name (names_in beside.now) name || not (has_name (names_in before.now) name)) header.now) }
+    ensures { OnOk result (names.new
+        ≡ names.old ++ filter (stays_in (names_in before.now) (names_in beside.now)) header.now) }
 {
     for name in header {
         if beside.has(name) || !before.has(name) {
@@ -194,8 +194,8 @@ fn put_added(
     before: &Names,
     there: &Names,
 ) -> Result<(), AllocError>
-    ensures { OnOk result (names.new ≡ names.old
-        ++ filter (λ name. not (has_name (names_in there.now) name) && not (has_name (names_in before.now) name)) header.now) }
+    ensures { OnOk result (names.new
+        ≡ names.old ++ filter (comes_in (names_in before.now) (names_in there.now)) header.now) }
 {
     for name in header {
         if !there.has(name) && !before.has(name) {

@@ -1,10 +1,8 @@
 use Rattle.std.proofs.Common.{◌≡◌, ◌++◌, filter}
-use Rattle.std.specs.Prelude.{◌&&◌, not}
-use Rattle.keyed_files.specs.ColumnNames.{has_name}
+use Rattle.keyed_files.specs.ChangedColumns.{comes_in}
 use Rattle.keyed_files.specs.Names.{names_in}
 use Rattle.keyed_files.proofs.new_columns.put_added.Given as goal
 
 abbrev pub invariant-loop-name : goal.invariant-loop-name
 invariant-loop-name l =
-    l.names ++ filter (λ name. not (has_name (names_in l.there) name) && not (has_name (names_in l.before) name)) l.name-iterator
-    ≡ l.fn.names ++ filter (λ name. not (has_name (names_in l.there) name) && not (has_name (names_in l.before) name)) l.header
+    l.names ++ filter (comes_in (names_in l.before) (names_in l.there)) l.name-iterator ≡ l.fn.names ++ filter (comes_in (names_in l.before) (names_in l.there)) l.header
