@@ -1,25 +1,8 @@
--- The columns that go, and the cells that are lost with them.
-use Rattle.std.specs.Prelude.{◌&&◌, ◌==◌, ℕ, Bool, true, false, not, List, drop, filter, length, ltb}
+-- The cells that are lost with columns that go.
+use Rattle.std.specs.Prelude.{◌&&◌, ℕ, Bool, List, length, ltb}
 use Rattle.std.specs.List.{list_any}
+use Rattle.keyed_files.specs.Lost.{count_written, loses_cells}
 use Rattle.keyed_files.specs.declared.columns.Columns.{Columns}
-use Rattle.keyed_files.specs.declared.columns.Place.{Place}
-use Rattle.keyed_files.specs.declared.columns.Place.TheVariants as at
-
--- whether the cell of a column is none of the key
-abbrev pub is_rest : Place → Bool
-is_rest (at.Key place) = false
-is_rest at.Rest = true
-
--- how many of the cells behind a key are written; those behind them are of columns that go
-abbrev pub count_written : Columns → ℕ
-count_written columns = length (filter is_rest columns.order.items)
-
-abbrev pub is_filled : List ℕ → Bool
-is_filled cell = not (length cell == 0)
-
--- whether a row of a group has a cell that is not empty behind so many
-abbrev pub loses_cells : ℕ → List (List (List ℕ)) → Bool
-loses_cells written rows = list_any (λ row. list_any is_filled (drop written row)) rows
 
 -- whether a column goes and one of the rows has a cell there that is not empty
 abbrev pub loses : {K : Type 0} → Columns → List (K × List (List (List ℕ))) → Bool
