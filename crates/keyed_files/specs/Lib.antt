@@ -4,6 +4,7 @@ pub mod ColumnNames
 pub mod Delimiters
 pub mod Encodings
 pub mod Explained
+pub mod FoundRows
 pub mod Headers
 pub mod JoinedRows
 pub mod KeyText

@@ -115,7 +115,7 @@ impl Written {
     }
 
     // Puts an empty cell for each of these names.
-    fn put_absent(&mut self, names: &Cells) -> Result<(), Reason>
+    pub(crate) fn put_absent(&mut self, names: &Cells) -> Result<(), Reason>
         ensures { OnOk result (PutsCells self.old self.new (map (λ name. []) names.now)) }
     {
         for _name in names {

@@ -1,4 +1,8 @@
 //! What is wanted of a table whose rows are looked up in another, and the rows that come of it, written as CSV.
+ghost use Rattle.std.specs.Prelude.{[], ◌∷◌, OnOk, option_map};
+ghost use Rattle.keyed_files.specs.FoundRows.{found_cells, found_row};
+ghost use Rattle.keyed_files.specs.Rows.{placed};
+ghost use Rattle.keyed_files.specs.Writing.{PutsCells, PutsRows};
 
 use crate::columns::{Columns, JoinColumns, Place};
 use crate::fault::{Fault, Reason};
@@ -95,17 +99,29 @@ impl Written {
         key: &Key,
         rest: &Cells,
         found: Option<&Cells>,
-    ) -> Result<(), Reason> {
-        self.put_in_order(&columns.left, key, rest)?;
+    ) -> Result<(), Reason>
+        ensures { OnOk result (PutsRows self.old self.new
+            (found_row columns.now key.now rest.now (option_map (λ cells. cells.now) found.entry) ∷ [])) }
+    {
+        self.put_placed(&columns.left.order, key, rest)?;
+        self.put_found_cells(columns, found)?;
+        self.end_row()?;
+        Ok(())
+    }
+
+    // Puts the cells that were found, or as many empty ones.
+    fn put_found_cells(
+        &mut self,
+        columns: &JoinColumns,
+        found: Option<&Cells>,
+    ) -> Result<(), Reason>
+        ensures { OnOk result (PutsCells self.old self.new
+            (found_cells columns.now (option_map (λ cells. cells.now) found.entry))) }
+    {
         match found {
-            Some(cells) => self.put(cells)?,
-            None => {
-                for _ in &columns.right.rest {
-                    self.put_cell(b"")?;
-                }
-            }
+            Some(cells) => self.put(cells),
+            None => self.put_absent(&columns.right.rest),
         }
-        self.end_row()
     }
 
     /// Puts a row of the left table that was not found.
@@ -113,21 +129,11 @@ impl Written {
     /// # Errors
     ///
     /// Returns the errors of `put_found`.
-    pub fn put_lone(&mut self, columns: &Columns, key: &Key, rest: &Cells) -> Result<(), Reason> {
-        self.put_in_order(columns, key, rest)?;
-        self.end_row()
-    }
-
-    // Puts the cells of a row in the order of its columns.
-    fn put_in_order(&mut self, columns: &Columns, key: &Key, rest: &Cells) -> Result<(), Reason> {
-        let mut rest = rest.iter();
-        for place in &columns.order {
-            let cell = match place {
-                Place::Key(place) => key.iter().nth(*place),
-                Place::Rest => rest.next(),
-            };
-            self.put_cell(cell.unwrap_or(b""))?;
-        }
+    pub fn put_lone(&mut self, columns: &Columns, key: &Key, rest: &Cells) -> Result<(), Reason>
+        ensures { OnOk result (PutsRows self.old self.new (placed columns.now.order.items key.now rest.now ∷ [])) }
+    {
+        self.put_placed(&columns.order, key, rest)?;
+        self.end_row()?;
         Ok(())
     }
 }

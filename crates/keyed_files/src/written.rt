@@ -93,7 +93,12 @@ impl Written {
     }
 
     // Puts the cells of a whole row in an order of columns.
-    fn put_placed(&mut self, order: &[Place], key: &Key, rest: &Cells) -> Result<(), Reason>
+    pub(crate) fn put_placed(
+        &mut self,
+        order: &[Place],
+        key: &Key,
+        rest: &Cells,
+    ) -> Result<(), Reason>
         ensures { OnOk result (PutsCells self.old self.new (placed order.now key.now rest.now)) }
     {
         let mut cells = PlacedCells::new(key, rest);
