@@ -1,10 +1,10 @@
 //! A table laid over another: by row, or by cell.
-ghost use Rattle.std.specs.Prelude.{◌≡◌, ℕ, List, IfOk, map};
+ghost use Rattle.std.specs.Prelude.{◌≡◌, ◌∷◌, [], ℕ, List, IfOk, map, option_map, unwrap_or};
 ghost use Rattle.std.specs.Map.{keys_of};
 ghost use Rattle.eob_both.specs.declared.either_or_both.EitherOrBoth.{EitherOrBoth};
 ghost use Rattle.eob_lists.specs.Join.{IsJoin};
 ghost use Rattle.eob_lists.specs.JoinLaws.{overlaid};
-ghost use Rattle.keyed_tables.specs.Laid.{IsLaidBy, upper_cell};
+ghost use Rattle.keyed_tables.specs.Laid.{IsLaidBy, filled, filled_cells, filled_rows, upper_cell};
 
 use crate::table::Rows;
 use eob_lists::EitherOrBoth;
@@ -40,7 +40,8 @@ pub fn filled_over(
     below: Rows<Key, Group>,
     above: Rows<Key, Group>,
 ) -> Result<Rows<Key, Group>, AllocError>
-    ensures { IfOk result (λ rows. (zs : List (List (List ℕ) × EitherOrBoth (List (List (List ℕ))) (List (List (List ℕ)))))
+    ensures cells { IfOk result (λ rows. IsLaidBy ⟦<Key as Ord>⟧.cmp filled below.pairs.items above.pairs.items rows.pairs.items) }
+    ensures keys { IfOk result (λ rows. (zs : List (List (List ℕ) × EitherOrBoth (List (List (List ℕ))) (List (List (List ℕ)))))
         × IsJoin ⟦<Key as Ord>⟧.cmp below.pairs.items above.pairs.items zs
         × (keys_of rows.pairs.items ≡ keys_of zs)) }
 {
@@ -80,7 +81,7 @@ fn filled_rows(
     alloc: Global,
     joined: Vec<(Key, EitherOrBoth<Group, Group>)>,
 ) -> Result<Vec<(Key, Group)>, AllocError>
-    ensures { IfOk result (λ rows. keys_of rows.items ≡ keys_of joined.items) }
+    ensures { IfOk result (λ rows. rows.items ≡ map (λ row. (row.0, filled row.1)) joined.items) }
 {
     let mut rows = Vec::new(alloc);
     for row in joined {
@@ -94,7 +95,7 @@ fn filled_row(
     alloc: Global,
     row: (Key, EitherOrBoth<Group, Group>),
 ) -> Result<(Key, Group), AllocError>
-    ensures { IfOk result (λ filled. filled.0 ≡ row.0) }
+    ensures { IfOk result (λ made. made ≡ (row.0, filled row.1)) }
 {
     let (key, values) = row;
     match values {
@@ -108,7 +109,9 @@ fn filled_row(
 }
 
 // The cells of two groups of one row, or else the upper group.
-fn filled_group(alloc: Global, below: &Group, above: Group) -> Result<Group, AllocError> {
+fn filled_group(alloc: Global, below: &Group, above: Group) -> Result<Group, AllocError>
+    ensures { IfOk result (λ group. group ≡ filled_rows below.now above) }
+{
     match filled_only(alloc, below.rows(), above.rows())? {
         Some(cells) => Ok(Group::new(cells)),
         None => Ok(above),
@@ -116,11 +119,9 @@ fn filled_group(alloc: Global, below: &Group, above: Group) -> Result<Group, All
 }
 
 // The cells of two rows, where there is one of each.
-fn filled_only(
-    alloc: Global,
-    below: &[Cells],
-    above: &[Cells],
-) -> Result<Option<Cells>, AllocError> {
+fn filled_only(alloc: Global, below: &[Cells], above: &[Cells]) -> Result<Option<Cells>, AllocError>
+    ensures { IfOk result (λ made. filled_rows below.now above.now ≡ unwrap_or (option_map (λ cells. cells ∷ []) made) above.now) }
+{
     if let [row] = below {
         if let [over] = above {
             let cells = filled_cells(alloc, row, over)?;
@@ -131,7 +132,9 @@ fn filled_only(
 }
 
 // Each cell of the upper row, or of the lower one where that is empty.
-fn filled_cells(alloc: Global, below: &Cells, above: &Cells) -> Result<Cells, AllocError> {
+fn filled_cells(alloc: Global, below: &Cells, above: &Cells) -> Result<Cells, AllocError>
+    ensures { IfOk result (λ cells. cells ≡ filled_cells below.now above.now) }
+{
     let mut cells = Cells::new(alloc);
     for (cell, over) in below.iter().zip(above.iter()) {
         cells.push(upper_of(cell, over))?;

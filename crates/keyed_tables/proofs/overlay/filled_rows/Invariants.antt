@@ -1,6 +1,6 @@
 use Rattle.std.proofs.Common.{◌≡◌, ◌++◌, map}
-use Rattle.std.specs.Map.{keys_of}
+use Rattle.keyed_tables.specs.Laid.{filled}
 use Rattle.keyed_tables.proofs.overlay.filled_rows.Given as goal
 
 abbrev pub invariant-loop-row : goal.invariant-loop-row
-invariant-loop-row l = keys_of l.rows.items ++ keys_of l.row-iterator.rest.items ≡ keys_of l.fn.joined.items
+invariant-loop-row l = l.rows.items ++ map (λ row. (row.0, filled row.1)) l.row-iterator.rest.items ≡ map (λ row. (row.0, filled row.1)) l.fn.joined.items
