@@ -4,6 +4,7 @@ pub mod ComeLemmas
 pub mod JoinLemmas
 pub mod KeyLemmas
 pub mod LawLemmas
+pub mod LookupLemmas
 pub mod ReadLemmas
 pub mod SignedLemmas
 pub mod TextAnswerLemmas

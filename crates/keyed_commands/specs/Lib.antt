@@ -6,6 +6,7 @@ pub mod ComeOut
 pub mod JoinAnswers
 pub mod Keys
 pub mod Laws
+pub mod LookupAnswers
 pub mod Lost
 pub mod MergedTexts
 pub mod TablesRead

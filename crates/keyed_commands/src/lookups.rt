@@ -1,13 +1,19 @@
 //! Rows of a table looked up in another by key. The right table is held, by key; the left one is read row by row, and never held.
-ghost use Rattle.std.specs.Prelude.{◌≡◌, IfOk, None, OnOk, map};
-ghost use Rattle.std.specs.HashMap.{get_by};
+ghost use Rattle.std.specs.Prelude.{◌≡◌, ◌++◌, ◌∷◌, [], List, ℕ, IfOk, None, OnOk, map, option_map};
+ghost use Rattle.std.specs.HashMap.{IsUnique, get_by};
 ghost use Rattle.eob_joins.specs.Lookup.{shown_lookup, with_found};
+ghost use Rattle.keyed_files.specs.Reading.{ReadsRest, ReadsRows};
+ghost use Rattle.keyed_files.specs.Writing.{PutsRows, Wrote, quoted_text};
+ghost use Rattle.keyed_files.specs.declared.request.RowFormat.TheVariants.{Csv};
+ghost use Rattle.keyed_commands.specs.JoinAnswers.{heading_of_join};
+ghost use Rattle.keyed_commands.specs.LookupAnswers.{LooksUpStreams, ReadsPart, WritesBehind, WritesPart, WritesRest};
+ghost use Rattle.keyed_commands.specs.LookupAnswers.{as_rows, found_under, held_rows, key_eq, lookup_rows, rows_of, shown_row, shown_rows};
 
 use eob_joins::{LookupRow, lookup_join};
 use indexmap::IndexMap;
 use keyed_files::{
     Columns, Content, Fault, Finding, Form, JoinColumns, Layout, LookupKind, Opened, Places,
-    Reason, RowFormat, Stream, Two, Written, at, lookup_header, quote_first,
+    Reason, RowFormat, Source, Stream, Two, Written, at, lookup_header, quote_first,
 };
 use keyed_reports::{JsonSides, put_json_row};
 use keyed_rows::{Cells, Key, ReadRow, RepeatedKey};
@@ -42,7 +48,11 @@ pub fn lookup<'a, R: Read + Drop, W: Write>(
     left: Stream<'a, R>,
     right: Stream<'a, R>,
     output: &mut W,
-) -> Result<u8, Fault<'a>> {
+) -> Result<u8, Fault<'a>>
+    ensures status { IfOk result (λ status. status ≡ 0) }
+    ensures text { OnOk result (how.entry.format ≡ Csv → LooksUpStreams R.remaining layout.entry how.entry.kind
+        left.entry right.entry (W.contents output.old) (W.contents output.new)) }
+{
     let mut sides = Two::new(alloc, layout.form, Content::Rows, left, right)?;
     let columns = sides.join_columns(alloc, layout.key)?;
     let places = at(sides.first.file, sides.first.source.places(&columns.left))?;
@@ -55,15 +65,16 @@ pub fn lookup<'a, R: Read + Drop, W: Write>(
         alloc,
         form: layout.form,
         kind: how.kind,
-        format: how.format,
         columns: &columns,
         found,
     };
-    let header = match how.format {
-        RowFormat::Csv => Some(at(right_file, lookup_header(alloc, how, &columns))?),
-        RowFormat::Json => None,
-    };
-    write_parts(&work, header, &places, &mut sides.first, output)
+    match how.format {
+        RowFormat::Csv => {
+            let header = at(right_file, lookup_header(alloc, how, &columns))?;
+            write_found(&work, &header, &places, &mut sides.first, output)
+        }
+        RowFormat::Json => write_json(&work, &places, &mut sides.first, output),
+    }
 }
 
 // What is looked up, where, and how it is written.
@@ -72,7 +83,6 @@ struct LookupWork<'c> {
     alloc: Global,
     form: Form,
     kind: LookupKind,
-    format: RowFormat,
     columns: &'c JoinColumns,
     found: FoundByKey,
 }
@@ -82,21 +92,41 @@ fn read_found<R: Read + Drop>(
     alloc: Global,
     right: &mut Opened<'_, R>,
     columns: &Columns,
-) -> Result<FoundByKey, Reason> {
+) -> Result<FoundByKey, Reason>
+    ensures rows { IfOk result (λ found.
+        ReadsRows R.remaining columns.now right.old.source.value [] (held_rows found.entries)) }
+    ensures unique { IfOk result (λ found. IsUnique key_eq found) }
+{
     let places = right.source.places(columns)?;
     let mut found: FoundByKey = IndexMap::new(alloc);
+    read_rest(&mut right.source, &places, &mut found)?;
+    Ok(found)
+}
+
+// Reads the rows that a source has left, behind those that are there. No input has more of them than a number counts.
+fn read_rest<R: Read + Drop>(
+    source: &mut Source<R>,
+    places: &Places,
+    found: &mut FoundByKey,
+) -> Result<(), Reason>
+    ensures read { OnOk result (ReadsRest R.remaining places.now source.old
+        (held_rows found.old.entries) (held_rows found.new.entries)) }
+    ensures unique { OnOk result (IsUnique key_eq found.old → IsUnique key_eq found.new) }
+{
     for _ in 0..u64::MAX {
-        match right.source.read_row(&places)? {
-            Some(row) => put_unique(&mut found, row)?,
-            None => break,
+        match source.read_row(places)? {
+            Some(row) => put_unique(found, row)?,
+            None => return Ok(()),
         }
     }
-    Ok(found)
+    Err(Reason::NoMemory)
 }
 
 // Puts a row under its key, under which none stands yet.
 fn put_unique(found: &mut FoundByKey, row: ReadRow) -> Result<(), Reason>
     ensures absent { OnOk result (get_by (⟦<Key as PartialEq>⟧.eq row.key) found.old ≡ None) }
+    ensures put { OnOk result (held_rows found.new.entries ≡ held_rows found.old.entries ++ row ∷ []) }
+    ensures unique { OnOk result (IsUnique key_eq found.new) }
 {
     if let Some(earlier) = found.get(&row.key) {
         return Err(Reason::RepeatedRight(RepeatedKey {
@@ -115,22 +145,65 @@ fn put_unique(found: &mut FoundByKey, row: ReadRow) -> Result<(), Reason>
     Ok(())
 }
 
-// Writes what is found of the rows of the left table, part by part, the first behind the header, if there is one.
-fn write_parts<'a, R: Read + Drop, W: Write>(
+// Writes what is found of the rows of the left table, behind the header.
+fn write_found<'a, R: Read + Drop, W: Write>(
     work: &LookupWork<'_>,
-    header: Option<Cells>,
+    header: &Cells,
     places: &Places,
     left: &mut Opened<'a, R>,
     output: &mut W,
-) -> Result<u8, Fault<'a>> {
-    // It stands before the first part alone.
-    let mut header = header;
+) -> Result<u8, Fault<'a>>
+    ensures status { IfOk result (λ status. status ≡ 0) }
+    ensures text { OnOk result (WritesBehind R.remaining work.now.form work.now.kind work.now.columns.now
+        (found_under work.now.found.entries) places.now (heading_of_join work.now.form header.now) left.old.source.value
+        (W.contents output.old) (W.contents output.new)) }
+{
+    let written = at(left.file, begin_lookup(work, header))?;
+    write_parts(work, places, left, written, output)
+}
+
+// Writes what is found of the rows that are left, part by part: the first part behind what is written already. No input has more parts than
+// a number counts.
+fn write_parts<'a, R: Read + Drop, W: Write>(
+    work: &LookupWork<'_>,
+    places: &Places,
+    left: &mut Opened<'a, R>,
+    mut written: Written,
+    output: &mut W,
+) -> Result<u8, Fault<'a>>
+    ensures status { IfOk result (λ status. status ≡ 0) }
+    ensures text { OnOk result (WritesRest R.remaining work.now.form work.now.kind work.now.columns.now
+        (found_under work.now.found.entries) places.now left.old.source.value written
+        (W.contents output.old) (W.contents output.new)) }
+{
     for _ in 0..u64::MAX {
-        let rows = at(left.file, read_part(work.alloc, left, places))?;
-        let is_last = rows.len() < PART;
-        let bytes = at(left.file, write_rows(work, header.take(), rows))?;
-        at("the standard output", output.write_all(&bytes))?;
+        let is_last = write_part(work, places, left, written, output)?;
         if is_last {
+            at("the standard output", output.flush())?;
+            return Ok(0);
+        }
+        written = Written::new(work.alloc, work.form);
+    }
+    Err(Fault {
+        file: left.file,
+        reason: Reason::NoMemory,
+    })
+}
+
+// Writes what is found of the rows of the left table as JSON, part by part.
+fn write_json<'a, R: Read + Drop, W: Write>(
+    work: &LookupWork<'_>,
+    places: &Places,
+    left: &mut Opened<'a, R>,
+    output: &mut W,
+) -> Result<u8, Fault<'a>>
+    ensures { IfOk result (λ status. status ≡ 0) }
+{
+    for _ in 0..u64::MAX {
+        let part = at(left.file, read_part(work.alloc, &mut left.source, places))?;
+        let bytes = at(left.file, part_as_json(work, part.rows))?;
+        at("the standard output", output.write_all(&bytes))?;
+        if part.is_last {
             break;
         }
     }
@@ -138,64 +211,94 @@ fn write_parts<'a, R: Read + Drop, W: Write>(
     Ok(0)
 }
 
+// Writes what is found of the next rows of the left table behind what is written already, and says whether they are the last ones.
+fn write_part<'a, R: Read + Drop, W: Write>(
+    work: &LookupWork<'_>,
+    places: &Places,
+    left: &mut Opened<'a, R>,
+    written: Written,
+    output: &mut W,
+) -> Result<bool, Fault<'a>>
+    ensures { IfOk result (λ is_last. WritesPart R.remaining work.now.form work.now.kind work.now.columns.now
+        (found_under work.now.found.entries) places.now is_last left.old.source.value left.new.source.value written
+        (W.contents output.old) (W.contents output.new)) }
+{
+    let part = at(left.file, read_part(work.alloc, &mut left.source, places))?;
+    let bytes = at(left.file, part_as_csv(work, written, part.rows))?;
+    at("the standard output", output.write_all(&bytes))?;
+    Ok(part.is_last)
+}
+
+// Rows of the left table that are looked up at once, and whether they are its last ones.
+#[derive(Drop)]
+struct Part {
+    rows: Vec<(Key, Cells)>,
+    is_last: bool,
+}
+
 // Reads the next rows of the left table, as many as are looked up at once, or as are there.
 fn read_part<R: Read + Drop>(
     alloc: Global,
-    left: &mut Opened<'_, R>,
+    source: &mut Source<R>,
     places: &Places,
-) -> Result<Vec<(Key, Cells)>, Reason> {
+) -> Result<Part, Reason>
+    ensures { IfOk result (λ part. ReadsPart R.remaining part.is_last places.now source.old source.new
+        (as_rows part.rows.items)) }
+{
     let mut rows = Vec::new(alloc);
     for _ in 0..PART {
-        match left.source.read_row(places)? {
+        match source.read_row(places)? {
             Some(row) => rows.push((row.key, row.cells))?,
-            None => break,
+            None => {
+                return Ok(Part {
+                    rows,
+                    is_last: true,
+                });
+            }
         }
     }
-    Ok(rows)
+    Ok(Part {
+        rows,
+        is_last: false,
+    })
 }
 
-// What is found of these rows, of CSV behind a header if one is given and tables have one.
-fn write_rows(
-    work: &LookupWork<'_>,
-    header: Option<Cells>,
-    rows: Vec<(Key, Cells)>,
-) -> Result<Vec<u8>, Reason> {
-    let rows = match look_up(work.alloc, rows, &work.found) {
-        Ok(rows) => rows,
-        Err(AllocError) => return Err(Reason::NoMemory),
-    };
-    match work.format {
-        RowFormat::Csv => rows_as_csv(work, header, &rows),
-        RowFormat::Json => Ok(rows_as_json(work, &rows)?),
-    }
-}
-
-// Rows with what is found of them as CSV.
-fn rows_as_csv(
-    work: &LookupWork<'_>,
-    header: Option<Cells>,
-    rows: &[LookupRow<'_, Key, Cells, Found>],
-) -> Result<Vec<u8>, Reason> {
+// The header, where tables have one.
+fn begin_lookup(work: &LookupWork<'_>, header: &Cells) -> Result<Written, Reason>
+    ensures { IfOk result (λ written. Wrote work.now.form (heading_of_join work.now.form header.now) written) }
+{
     let mut written = Written::new(work.alloc, work.form);
-    if let Some(header) = header {
-        if work.form.has_header {
-            written.put_join_heading(&header)?;
-        }
+    let has_header = work.form.has_header;
+    if has_header {
+        written.put_join_heading(header)?;
+        Ok(written)
+    } else {
+        Ok(written)
     }
-    for row in rows {
-        put_row(work, &mut written, row)?;
-    }
+}
+
+// What is found of these rows as CSV, behind what is written already.
+fn part_as_csv(
+    work: &LookupWork<'_>,
+    mut written: Written,
+    rows: Vec<(Key, Cells)>,
+) -> Result<Vec<u8>, Reason>
+    ensures { IfOk result (λ text. (pending : List (List (List ℕ))) → Wrote work.now.form pending written
+        → text.items ≡ quoted_text work.now.form (pending ++ lookup_rows work.now.columns.now work.now.kind
+        (found_under work.now.found.entries) rows.items)) }
+{
+    let rows = look_up(work.alloc, rows, &work.found)?;
+    put_rows(work, &mut written, rows)?;
     let bytes = written.finish()?;
-    Ok(quote_first(work.alloc, bytes, work.form.delimiter)?)
+    let given = quote_first(work.alloc, bytes, work.form.delimiter)?;
+    Ok(given)
 }
 
 // The same as JSON, a line a row.
-fn rows_as_json(
-    work: &LookupWork<'_>,
-    rows: &[LookupRow<'_, Key, Cells, Found>],
-) -> Result<Vec<u8>, AllocError> {
+fn part_as_json(work: &LookupWork<'_>, rows: Vec<(Key, Cells)>) -> Result<Vec<u8>, AllocError> {
+    let rows = look_up(work.alloc, rows, &work.found)?;
     let mut text = Vec::new(work.alloc);
-    for (key, cells, found) in rows {
+    for (key, cells, found) in &rows {
         if let Some(sides) = sides_of(work.kind, cells, *found) {
             put_json_row(work.alloc, &mut text, work.columns, key, sides)?;
         }
@@ -235,17 +338,49 @@ fn look_up<'f>(
     lookup_join(alloc, rows, found)
 }
 
+// Puts what is found of rows, in their order.
+fn put_rows(
+    work: &LookupWork<'_>,
+    written: &mut Written,
+    rows: Vec<LookupRow<'_, Key, Cells, Found>>,
+) -> Result<(), Reason>
+    ensures { OnOk result (PutsRows written.old written.new
+        (shown_rows work.now.columns.now work.now.kind (map shown_lookup rows.entry.items))) }
+{
+    for row in rows {
+        put_row(work, written, &row)?;
+    }
+    Ok(())
+}
+
 // Puts a row if it is one of this kind of look-up.
 fn put_row(
     work: &LookupWork<'_>,
     written: &mut Written,
     row: &LookupRow<'_, Key, Cells, Found>,
-) -> Result<(), Reason> {
+) -> Result<(), Reason>
+    ensures { OnOk result (PutsRows written.old written.new
+        (shown_row work.now.columns.now work.now.kind (shown_lookup row.now))) }
+{
     let (key, cells, found) = row;
     let found = match found {
         Some(found) => Some(&found.cells),
         None => None,
     };
+    put_found(work, written, key, cells, found)
+}
+
+// Puts a row with the cells that were found, or says nothing of it, as the kind of the look-up is.
+fn put_found(
+    work: &LookupWork<'_>,
+    written: &mut Written,
+    key: &Key,
+    cells: &Cells,
+    found: Option<&Cells>,
+) -> Result<(), Reason>
+    ensures { OnOk result (PutsRows written.old written.new
+        (rows_of work.now.columns.now work.now.kind key.now cells.now (option_map (λ cells. cells.now) found.entry))) }
+{
     match work.kind {
         LookupKind::Left => written.put_found(work.columns, key, cells, found),
         LookupKind::Inner => match found {
