@@ -10,3 +10,4 @@ pub mod LookupAnswers
 pub mod Lost
 pub mod MergedTexts
 pub mod TablesRead
+pub mod TextLaws
