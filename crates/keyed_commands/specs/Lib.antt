@@ -9,5 +9,6 @@ pub mod Laws
 pub mod LookupAnswers
 pub mod Lost
 pub mod MergedTexts
+pub mod OverlayAnswers
 pub mod TablesRead
 pub mod TextLaws

@@ -1,4 +1,5 @@
 //! From the files that a request names to its answer.
+ghost use Rattle.std.specs.Prelude.{◌≡◌, ◌++◌, ◌∷◌, [], OnOk};
 
 use crate::answers::{Answer, apply, diff, merge};
 use crate::finished::Finished;
@@ -99,7 +100,9 @@ pub fn answer_overlay<'a, R: Files + Input + AllocGlobal>(
 /// # Errors
 ///
 /// Returns `AllocError` if a request for memory was refused.
-pub fn put<T: Drop>(items: &mut Vec<T>, item: T) -> Result<(), AllocError> {
+pub fn put<T: Drop>(items: &mut Vec<T>, item: T) -> Result<(), AllocError>
+    ensures { OnOk result (items.new.items ≡ items.old.items ++ item ∷ []) }
+{
     items.push(item)?;
     Ok(())
 }

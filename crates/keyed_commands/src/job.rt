@@ -9,7 +9,7 @@ use crate::row_order::RowOrder;
 use eob_joins::Change;
 use keyed_files::{
     Columns, Fault, Form, JoinColumns, Layout, Look, Opened, Places, Reason, Settings, Sign,
-    SignedRow, Source, Two, at, write_table,
+    SignedRow, Source, Two, at,
 };
 use keyed_rows::{Group, Key, ReadRow, Release};
 use keyed_tables::{Order, Rows, grouped_rows, paired, unique_rows};
@@ -283,15 +283,6 @@ impl Job<'_, Columns> {
         let outcome = read_signed(changes, self.columns, &mut self.order, &mut gone, &mut come);
         at(changes.file, outcome)?;
         self.take_changes(changes.file, gone, come)
-    }
-
-    /// Rows as CSV.
-    ///
-    /// # Errors
-    ///
-    /// Returns the errors of `write_table`.
-    pub fn write_rows(&self, rows: Vec<(Key, Group)>) -> Result<Vec<u8>, Reason> {
-        write_table(self.alloc, self.form, self.columns, rows)
     }
 }
 

@@ -1,12 +1,20 @@
 //! Tables that are laid one over the other, the last one on top.
+ghost use Rattle.std.specs.Prelude.{◌≡◌, ◌∷◌, [], IfOk, OnOk, is_none, map, option_map, unwrap_or};
+ghost use Rattle.keyed_files.specs.Keys.{AreColumnsBy};
+ghost use Rattle.keyed_tables.specs.Arranged.{noted};
+ghost use Rattle.keyed_commands.specs.AppliedTexts.{IsInStyle};
+ghost use Rattle.keyed_commands.specs.OverlayAnswers.{AnswersRows, AreLaidOver, AreLayers, IsLayer, LaysTables};
+ghost use Rattle.keyed_commands.specs.OverlayAnswers.{OverlaysSources, OverlaysStreams, rows_laid};
+ghost use Rattle.keyed_commands.specs.TablesRead.{IsUnordered};
 
-use crate::answers::{Answer, Outcome};
+use crate::answers::Answer;
 use crate::as_written::Style;
 use crate::files::put;
 use crate::job::{Job, Table};
+use crate::tables::table_as_csv;
 use crate::watched::{Watched, watch};
 use keyed_files::{
-    Columns, Content, Fault, Layer, Opened, Reason, Settings, Stream, at, columns_of,
+    Columns, Content, Fault, Form, Layer, Opened, Reason, Settings, Stream, at, columns_of,
 };
 use keyed_rows::{Cells, Group, Key};
 use keyed_tables::{filled_over, laid_over};
@@ -25,35 +33,60 @@ pub fn overlay<'a, R: Read + Drop>(
     settings: Settings<'a>,
     layer: Layer,
     tables: Vec<Stream<'a, R>>,
-) -> Result<Answer, Fault<'a>> {
+) -> Result<Answer, Fault<'a>>
+    ensures { IfOk result (OverlaysStreams R.remaining settings.entry layer tables.entry.items) }
+{
     let opened = open_all(alloc, settings, tables)?;
     let file = first_file(&opened);
     let columns = at(file, columns_of_all(alloc, settings, &opened))?;
-    let mut job = Job::new(alloc, settings, &columns);
-    let laid = lay_all(&mut job, layer, opened)?;
-    at(file, answer_rows(&job, laid))
+    overlay_files(Job::new(alloc, settings, &columns), layer, file, opened)
 }
 
-// Tables that are laid one over the other, and how the first one is written.
-type Laid = Option<(Table, Style)>;
+fn overlay_files<'a, R: Read + Drop>(
+    mut job: Job<'_, Columns>,
+    layer: Layer,
+    file: &'a str,
+    tables: Vec<Opened<'a, Watched<R>>>,
+) -> Result<Answer, Fault<'a>>
+    ensures { IfOk result (OverlaysSources R.remaining layer job.entry tables.entry.items) }
+{
+    let laid = lay_all(&mut job, layer, tables)?;
+    at(file, answer_laid(&job, laid))
+}
 
 // Reads the headers of all tables. The columns of the key have in the first one the names that they have in the others.
 fn open_all<'a, R: Read + Drop>(
     alloc: Global,
     settings: Settings<'a>,
     tables: Vec<Stream<'a, R>>,
-) -> Result<Vec<Opened<'a, Watched<R>>>, Fault<'a>> {
-    let mut opened: Vec<Opened<'a, Watched<R>>> = Vec::new(alloc);
+) -> Result<Vec<Opened<'a, Watched<R>>>, Fault<'a>>
+    ensures { IfOk result (λ opened. AreLayers R.remaining settings.entry.form settings.entry.key
+        tables.entry.items opened.items) }
+{
+    let mut opened = Vec::new(alloc);
+    let mut key = settings.key;
     for stream in tables {
         let file = stream.file;
-        let stream = watch(settings.form, stream);
-        let mut table = Opened::new(alloc, settings.form, Content::Rows, stream)?;
-        if opened.is_empty() {
-            table.rename_key(alloc, settings.key)?;
-        }
+        let table = open_layer(alloc, settings.form, key, stream)?;
         at(file, put(&mut opened, table))?;
+        key = None;
     }
     Ok(opened)
+}
+
+// Reads the header of a table whose columns of the key, where it is set, get the names that they have in the others.
+fn open_layer<'a, R: Read + Drop>(
+    alloc: Global,
+    form: Form,
+    key: Option<&str>,
+    stream: Stream<'a, R>,
+) -> Result<Opened<'a, Watched<R>>, Fault<'a>>
+    ensures { IfOk result (IsLayer R.remaining form key.entry stream.entry) }
+{
+    let stream = watch(form, stream);
+    let mut table = Opened::new(alloc, form, Content::Rows, stream)?;
+    table.rename_key(alloc, key)?;
+    Ok(table)
 }
 
 // The file of the first table, if there is one.
@@ -69,15 +102,22 @@ fn columns_of_all<R>(
     alloc: Global,
     settings: Settings<'_>,
     opened: &[Opened<'_, R>],
-) -> Result<Columns, Reason> {
+) -> Result<Columns, Reason>
+    ensures { IfOk result (AreColumnsBy settings.entry.key (map (λ table. table.source.value.header.names) opened.now)
+        (map (λ table. table.source.value.header.names) opened.now)) }
+{
     let headers = headers_of(alloc, opened)?;
-    columns_of(alloc, settings.key, &headers)
+    let columns = columns_of(alloc, settings.key, &headers)?;
+    Ok(columns)
 }
 
 fn headers_of<'o, R>(
     alloc: Global,
     opened: &'o [Opened<'_, R>],
-) -> Result<Vec<&'o Cells>, AllocError> {
+) -> Result<Vec<&'o Cells>, AllocError>
+    ensures { IfOk result (λ headers. map (λ header. header.now) headers.items
+        ≡ map (λ table. table.source.value.header.names) opened.now) }
+{
     let mut headers = Vec::new(alloc);
     for table in opened {
         headers.push(table.header())?;
@@ -85,15 +125,31 @@ fn headers_of<'o, R>(
     Ok(headers)
 }
 
+// Tables that are laid one over the other, if there is one, and how the first one is written.
+#[derive(Drop)]
+struct Laid {
+    table: Option<Table>,
+    style: Option<Style>,
+}
+
 // Reads the tables one after the other, each laid over those before it.
+#[tactic(auto, using(crate::proofs::OverlayLemmas::none_rises))]
 fn lay_all<'a, R: Read + Drop>(
     job: &mut Job<'_, Columns>,
     layer: Layer,
     tables: Vec<Opened<'a, Watched<R>>>,
-) -> Result<Laid, Fault<'a>> {
-    let mut laid: Laid = None;
+) -> Result<Laid, Fault<'a>>
+    ensures laid { IfOk result (λ laid. LaysTables R.remaining layer job.old.groups job.old.columns.now []
+        tables.entry.items (rows_laid laid)) }
+    ensures same { job.new ≡ record job.old { order = job.new.order; row_order = job.new.row_order } }
+    ensures unordered { OnOk result (IsUnordered job.old → IsUnordered job.new) }
+{
+    let mut laid = Laid {
+        table: None,
+        style: None,
+    };
     for table in tables {
-        laid = Some(lay(job, layer, laid, table)?);
+        laid = lay(job, layer, laid, table)?;
     }
     Ok(laid)
 }
@@ -104,38 +160,79 @@ fn lay<'a, R: Read + Drop>(
     layer: Layer,
     below: Laid,
     mut table: Opened<'a, Watched<R>>,
-) -> Result<(Table, Style), Fault<'a>> {
+) -> Result<Laid, Fault<'a>>
+    ensures laid { IfOk result (λ laid. LaysTables R.remaining layer job.old.groups job.old.columns.now (rows_laid below)
+        (table.entry ∷ []) (rows_laid laid)) }
+    ensures same { job.new ≡ record job.old { order = job.new.order; row_order = job.new.row_order } }
+    ensures unordered { OnOk result (IsUnordered job.old → IsUnordered job.new) }
+{
     let above = job.read_table(job.columns, &mut table)?;
+    let style = below.style.unwrap_or(table.source.get_ref().style());
+    let laid = at(table.file, lay_over(job.alloc, layer, below.table, above))?;
+    Ok(Laid {
+        table: Some(laid),
+        style: Some(style),
+    })
+}
+
+// A table over another, if there is one.
+fn lay_over(
+    alloc: Global,
+    layer: Layer,
+    below: Option<Table>,
+    above: Table,
+) -> Result<Table, AllocError>
+    ensures { IfOk result (λ laid. AreLaidOver layer
+        (unwrap_or (option_map (λ table. table.pairs.items) below) []) (above.pairs.items ∷ []) laid.pairs.items) }
+{
     match below {
-        Some((below, style)) => {
-            let laid = at(table.file, laid_by(job.alloc, layer, below, above))?;
-            Ok((laid, style))
+        Some(below) => {
+            let laid = laid_by(alloc, layer, below, above)?;
+            Ok(laid)
         }
-        None => Ok((above, table.source.get_ref().style())),
+        None => Ok(above),
     }
 }
 
-fn laid_by(alloc: Global, layer: Layer, below: Table, above: Table) -> Result<Table, AllocError> {
+fn laid_by(alloc: Global, layer: Layer, below: Table, above: Table) -> Result<Table, AllocError>
+    ensures { IfOk result (λ laid. AreLaidOver layer below.pairs.items (above.pairs.items ∷ []) laid.pairs.items) }
+{
     match layer {
         Layer::Rows => laid_over(alloc, below, above),
         Layer::Cells => filled_over(alloc, below, above),
     }
 }
 
-fn answer_rows(job: &Job<'_, Columns>, laid: Laid) -> Result<Answer, Reason> {
-    match laid {
-        Some((table, style)) => {
-            let answer = answer_table(job, job.arrange(table.pairs)?)?;
-            Ok(style.write_answer(job.alloc, answer)?)
-        }
-        None => answer_table(job, Vec::new(job.alloc)),
+// The rows of tables that are laid, written as the first table is.
+fn answer_laid(job: &Job<'_, Columns>, laid: Laid) -> Result<Answer, Reason>
+    ensures { IfOk result (AnswersRows job.now.form job.now.columns.now (noted job.now.order)
+        (is_none job.now.row_order.files) (rows_laid laid)) }
+{
+    let Laid { table, style } = laid;
+    let answer = table_as_csv(job, rows_of(job.alloc, table))?;
+    let written = in_style(job.alloc, style, answer)?;
+    Ok(written)
+}
+
+// The rows of a table, if there is one.
+fn rows_of(alloc: Global, table: Option<Table>) -> Vec<(Key, Group)>
+    ensures { result.items ≡ unwrap_or (option_map (λ table. table.pairs.items) table) [] }
+{
+    match table {
+        Some(table) => table.pairs,
+        None => Vec::new(alloc),
     }
 }
 
-fn answer_table(job: &Job<'_, Columns>, rows: Vec<(Key, Group)>) -> Result<Answer, Reason> {
-    Ok(Answer {
-        bytes: job.write_rows(rows)?,
-        status: 0,
-        outcome: Outcome::Made,
-    })
+// An answer with its rows in a style, if there is one.
+fn in_style(alloc: Global, style: Option<Style>, answer: Answer) -> Result<Answer, AllocError>
+    ensures { IfOk result (IsInStyle answer) }
+{
+    match style {
+        Some(style) => {
+            let written = style.write_answer(alloc, answer)?;
+            Ok(written)
+        }
+        None => Ok(answer),
+    }
 }

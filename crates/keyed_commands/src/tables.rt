@@ -181,8 +181,12 @@ fn report_lost(
     Ok(stopped(text))
 }
 
-// The rows as CSV.
-fn table_as_csv(job: &Job<'_, Columns>, rows: Vec<(Key, Group)>) -> Result<Answer, Reason>
+/// The rows as CSV, with status 0.
+///
+/// # Errors
+///
+/// Returns the errors of `write_table`.
+pub fn table_as_csv(job: &Job<'_, Columns>, rows: Vec<(Key, Group)>) -> Result<Answer, Reason>
     ensures text { IfOk result (λ answer. IsTableText job.now.form job.now.columns.now (noted job.now.order)
         (is_none job.now.row_order.files) rows.items answer.bytes.items) }
     ensures status { IfOk result (λ answer. answer.status ≡ 0) }

@@ -1,0 +1,148 @@
+-- Tables laid one after the other, and from the tables to their texts.
+use Rattle.std.proofs.Common.{◌≡◌, ◌∙◌, ℕ, Bool, Bor, false, List, [], ◌∷◌, Option, None, Some, ap, map, refl, subst, sym}
+use Rattle.std.specs.Prelude.{⊤, IfSome, option_map}
+use Rattle.std.specs.List.{AllZip}
+use Rattle.eob_both.specs.Places.{from_places}
+use Rattle.either_or_both.specs.Join.{Rising, value_under}
+use Rattle.eob_lists.proofs.MergeLemmas.{rising}
+use Rattle.keyed_files.specs.Keys.{AreColumnsBy}
+use Rattle.keyed_files.specs.Opening.{IsRenamed, form_of, text_of_stream}
+use Rattle.keyed_files.specs.Reading.{IsOpen}
+use Rattle.keyed_files.specs.declared.columns.Columns.{Columns}
+use Rattle.keyed_files.specs.declared.opened.Opened.{Opened}
+use Rattle.keyed_files.specs.declared.opened.Stream.{Stream}
+use Rattle.keyed_files.specs.declared.overlays.Layer.{Layer}
+use Rattle.keyed_files.specs.declared.overlays.Layer.TheVariants as layer
+use Rattle.keyed_files.specs.declared.request.Form.{Form}
+use Rattle.keyed_files.specs.declared.request.Settings.{Settings}
+use Rattle.keyed_files.specs.declared.source.Content.TheVariants.{Rows}
+use Rattle.keyed_files.specs.declared.source.Source.{Source}
+use Rattle.keyed_files.proofs.TableLemmas.{open-renamed}
+use Rattle.keyed_commands.specs.Answers.{TableRows, key_cmp}
+use Rattle.keyed_commands.specs.AppliedTexts.{watched_left}
+use Rattle.keyed_commands.specs.OverlayAnswers.{AnswersRows, AreLaidOver, AreLayers, AreNamed, IsLayer, LaysTables, OverlaysSources, OverlaysStreams, ReadTables, Said, SaysRows, laid_rows, laid_under}
+use Rattle.keyed_commands.specs.TablesRead.{IsUnordered}
+use Rattle.keyed_commands.specs.declared.answers.Answer.{Answer}
+use Rattle.keyed_commands.specs.declared.job.Job.{Job}
+use Rattle.keyed_commands.specs.declared.watched.Watched.{Watched}
+
+on_none : (layer : Layer) (m : Option (List (List (List ℕ)))) → option_map (laid_rows layer) (from_places None m) ≡ m
+on_none layer.Rows None = refl
+on_none layer.Rows (Some rows) = refl
+on_none layer.Cells None = refl
+on_none layer.Cells (Some rows) = refl
+
+-- the keys of no rows rise
+pub none_rises : Rising key_cmp {V = List (List (List ℕ))} []
+none_rises = rising key_cmp (λ k. ⊤) [] tt
+
+-- a table over none is as it was, and so is one over which none is laid
+pub laid_alone : (layer : Layer) (rows : TableRows) → Rising key_cmp rows → AreLaidOver layer [] (rows ∷ []) rows
+laid_alone layer rows rises = record { rises = rises; values = λ k. sym (on_none layer (value_under key_cmp rows k)) }
+
+none_laid : (layer : Layer) (rows : TableRows) → Rising key_cmp rows → AreLaidOver layer rows [] rows
+none_laid layer rows rises = record { rises = rises; values = λ k. refl }
+
+laid_then : (layer : Layer) (below table mid : TableRows) (tables : List TableRows) (rows : TableRows) → AreLaidOver layer below (table ∷ []) mid
+    → AreLaidOver layer mid tables rows → AreLaidOver layer below (table ∷ tables) rows
+laid_then layer below table mid tables rows one more = record {
+  rises = more.rises;
+  values = λ k. more.values k ∙ ap (λ m. laid_under layer m tables k) (one.values k);
+}
+
+module _ {R : Type 0} (rem : R → Option (List ℕ)) (layer : Layer) (groups : Bool) (columns : Columns) where
+  lays_one : (below mid : TableRows) (source : Opened (Watched R)) (ones : List TableRows) (sources : List (Opened (Watched R))) (rows : TableRows)
+      → ReadTables rem groups columns (source ∷ []) ones → AreLaidOver layer below ones mid → LaysTables rem layer groups columns mid sources rows
+      → LaysTables rem layer groups columns below (source ∷ sources) rows
+  lays_one below mid source [] sources rows read laid more = absurd read
+  lays_one below mid source (one ∷ []) sources rows read laid more = (one ∷ more.0, (read.0, more.1), laid_then layer below one mid more.0 rows laid more.2)
+  lays_one below mid source (one ∷ other ∷ ones) sources rows read laid more = absurd read.1
+
+  -- one more table is read and laid, and no more
+  pub lays_then : (below mid : TableRows) (source : Opened (Watched R)) (left sources : List (Opened (Watched R))) (rows : TableRows) → left ≡ source ∷ sources
+      → LaysTables rem layer groups columns below (source ∷ []) mid → LaysTables rem layer groups columns mid sources rows
+      → LaysTables rem layer groups columns below left rows
+  lays_then below mid source left sources rows is one more =
+      subst (λ l. LaysTables rem layer groups columns below l rows) (sym is) (lays_one below mid source one.0 sources rows one.1 one.2 more)
+
+  pub lays_none : (rows : TableRows) (left : List (Opened (Watched R))) → left ≡ [] → Rising key_cmp rows → LaysTables rem layer groups columns rows left rows
+  lays_none rows left is rises = subst (λ l. LaysTables rem layer groups columns rows l rows) (sym is) ([], tt, none_laid layer rows rises)
+
+-- columns of the headers of tables, under another word for these
+pub columns_alike : {R : Type 0} (key : Option (Bor (List ℕ))) (opened others : List (Opened R)) (columns : Columns) → others ≡ opened
+    → AreColumnsBy key (map (λ source. source.source.value.header.names) others) (map (λ source. source.source.value.header.names) others) columns
+    → AreColumnsBy key (map (λ source. source.source.value.header.names) opened) (map (λ source. source.source.value.header.names) opened) columns
+columns_alike {R} key opened others columns is are =
+    let P : List (Opened R) → Type 0 = λ l. AreColumnsBy key (map (λ source. source.source.value.header.names) l) (map (λ source. source.source.value.header.names) l) columns in
+    subst P is are
+
+module _ {R : Type 0} (rem : R → Option (List ℕ)) where
+  -- a source whose columns have got other names, of a stream that is watched
+  known_renamed : {A : Type 0} (key : Option A) (form : Form) (header : List (List ℕ)) (old new : Source (Watched R)) (m : Option (List ℕ)) → IsRenamed key old new
+      → IfSome m (λ t. IsOpen form Rows (watched_left rem) t header old) → IfSome m (λ t. IsOpen form Rows (watched_left rem) t header new)
+  known_renamed key form header old new None renamed known = tt
+  known_renamed key form header old new (Some t) renamed known = open-renamed (watched_left rem) key form Rows t header old new renamed known
+
+  pub layer_open : {A : Type 0} (key : Option A) (f f2 : Form) (header : List (List ℕ)) (old new : Source (Watched R)) (m m2 : Option (List ℕ)) → f2 ≡ f → m2 ≡ m
+      → IsRenamed key old new → IfSome m2 (λ t. IsOpen f2 Rows (watched_left rem) t header old) → IfSome m (λ t. IsOpen f Rows (watched_left rem) t header new)
+  layer_open key f f2 header old new m m2 ef em renamed known =
+      subst (λ m. IfSome m (λ t. IsOpen f Rows (watched_left rem) t header new)) em
+      (subst (λ f. IfSome m2 (λ t. IsOpen f Rows (watched_left rem) t header new)) ef (known_renamed key f2 header old new m2 renamed known))
+
+  -- one more stream is opened behind others, and no more
+  pub layers_then : {A : Type 0} (form : Form) (key : Option A) (stream : Stream R) (left streams : List (Stream R)) (source : Opened (Watched R)) (more : List (Opened (Watched R)))
+      → left ≡ stream ∷ streams → IsLayer rem form key stream source → AreLayers rem {A = A} form None streams more → AreLayers rem form key left (source ∷ more)
+  layers_then form key stream left streams source more is one rest = subst (λ l. AreLayers rem form key l (source ∷ more)) (sym is) (one, rest)
+
+  pub layers_none : {A : Type 0} (form : Form) (key : Option A) (left : List (Stream R)) → left ≡ [] → AreLayers rem form key left []
+  layers_none form key left is = subst (λ l. AreLayers rem form key l []) (sym is) tt
+
+  module _ (settings : Settings) (columns : Columns) where
+    known_says : {P Q : List ℕ → Type 0} (m : Option (List ℕ)) → ((t : List ℕ) → P t → Q t) → IfSome m P → IfSome m Q
+    known_says None f known = tt
+    known_says (Some t) f known = f t known
+
+    -- what the texts of streams that are opened and read say
+    says_all : {A : Type 0} (key : Option A) (streams : List (Stream R)) (opened : List (Opened (Watched R))) (tables : List TableRows)
+        → AreLayers rem settings.form key streams opened → ReadTables rem settings.groups columns opened tables
+        → (said : List Said) × AreNamed key said × (map (λ table. table.names) said ≡ map (λ source. source.source.value.header.names) opened)
+        × (map (λ table. table.rows) said ≡ tables) × AllZip (SaysRows rem settings columns) streams said
+    says_all key [] [] [] layers read = ([], tt, refl, refl, tt)
+    says_all key [] [] (table ∷ tables) layers read = absurd read
+    says_all key [] (source ∷ opened) tables layers read = absurd layers
+    says_all key (stream ∷ streams) [] tables layers read = absurd layers
+    says_all key (stream ∷ streams) (source ∷ opened) [] layers read = absurd read
+    says_all {A} key (stream ∷ streams) (source ∷ opened) (table ∷ tables) layers read =
+        let rest = says_all {A = A} None streams opened tables layers.1 read.1 in
+        let header = layers.0.0 in (
+          record { header = header; names = source.source.value.header.names; rows = table } ∷ rest.0,
+          (layers.0.1, rest.1),
+          ap (λ l. source.source.value.header.names ∷ l) rest.2,
+          ap (λ l. table ∷ l) rest.3,
+          (known_says (text_of_stream rem settings.form stream) (λ text begun. read.0 (form_of settings.form stream) Rows text header begun) layers.0.2, rest.4),
+        )
+
+  -- several streams that are laid one over the other, of their texts
+  pub overlay_streams : (settings : Settings) (layer : Layer) (streams : List (Stream R)) (opened : List (Opened (Watched R))) (job : Job Columns) (answer : Answer)
+      → AreLayers rem settings.form settings.key streams opened
+      → job.form ≡ settings.form → job.groups ≡ settings.groups → (settings.keeps_order ≡ false → IsUnordered job)
+      → AreColumnsBy settings.key (map (λ source. source.source.value.header.names) opened) (map (λ source. source.source.value.header.names) opened) job.columns.now
+      → OverlaysSources rem layer job opened answer → OverlaysStreams rem settings layer streams answer
+  overlay_streams settings layer streams opened job answer layers form groups unordered columned read =
+      let said = says_all settings job.columns.now settings.key streams opened read.tables layers
+      (subst (λ g. ReadTables rem g job.columns.now opened read.tables) groups read.read) in
+      record {
+        columns = job.columns.now;
+        said = said.0;
+        named = said.1;
+        columned = subst (λ names. AreColumnsBy settings.key names names job.columns.now) (sym said.2) columned;
+        says = said.4;
+        overlaid = record {
+          rows = read.overlaid.rows;
+          keys = read.overlaid.keys;
+          by_cells = read.overlaid.by_cells;
+          laid = subst (λ tables. AreLaidOver layer [] tables read.overlaid.rows) (sym said.3) read.overlaid.laid;
+          answers = subst (λ f. AnswersRows f job.columns.now read.overlaid.keys read.overlaid.by_cells read.overlaid.rows answer) form read.overlaid.answers;
+          order = λ by_key. read.overlaid.order (unordered by_key);
+        };
+      }

@@ -1,0 +1,26 @@
+use Rattle.std.proofs.Common.{subst}
+use Rattle.std.specs.Prelude.{is_none}
+use Rattle.std.proofs.lemmas.Result.{IfOk-weaker}
+use Rattle.keyed_tables.specs.Arranged.{noted}
+use Rattle.keyed_commands.specs.OverlayAnswers.{AnswersRows, rows_laid}
+use Rattle.keyed_commands.proofs.layers.overlay_files.Goals as goal
+
+pub returns : goal.returns
+returns g c =
+    let laid = c.in_ok-laid.laid in
+    let job = c.lay_all.new.job in
+    let read = c.in_ok-laid.ensures in
+    IfOk-weaker c.at.result _ _
+    (λ answer is. record {
+      tables = read.laid.0;
+      read = read.laid.1;
+      overlaid = record {
+        rows = rows_laid laid;
+        keys = noted job.order;
+        by_cells = is_none job.row_order.files;
+        laid = read.laid.2;
+        answers = subst (λ j. AnswersRows j.form j.columns.now (noted job.order) (is_none job.row_order.files) (rows_laid laid) answer)
+            read.same (rw is at c.answer_laid.ensures);
+        order = λ unordered. let after = read.unordered unordered in (after.keys, after.rows);
+      };
+    }) c.at.ensures

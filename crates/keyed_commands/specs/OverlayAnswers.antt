@@ -1,0 +1,116 @@
+-- What `overlay` answers: tables laid one over the other, and their text.
+use Rattle.std.specs.Prelude.{◌≡◌, ⊤, ℕ, Bool, false, true, List, [], ◌∷◌, Option, None, IfSome, map, option_map, unwrap_or}
+use Rattle.std.specs.List.{AllZip}
+use Rattle.eob_both.specs.declared.either_or_both.EitherOrBoth.{EitherOrBoth}
+use Rattle.eob_both.specs.Places.{from_places}
+use Rattle.either_or_both.specs.Join.{value_under}
+use Rattle.eob_lists.specs.JoinLaws.{overlaid}
+use Rattle.eob_joins.specs.Tables.{Tabulates}
+use Rattle.keyed_tables.specs.Laid.{filled}
+use Rattle.keyed_files.specs.Keys.{AreColumnsBy}
+use Rattle.keyed_files.specs.Opening.{form_of, text_of_stream}
+use Rattle.keyed_files.specs.Reading.{IsOpen}
+use Rattle.keyed_files.specs.declared.columns.Columns.{Columns}
+use Rattle.keyed_files.specs.declared.opened.Opened.{Opened}
+use Rattle.keyed_files.specs.declared.opened.Stream.{Stream}
+use Rattle.keyed_files.specs.declared.overlays.Layer.{Layer}
+use Rattle.keyed_files.specs.declared.overlays.Layer.TheVariants as layer
+use Rattle.keyed_files.specs.declared.request.Form.{Form}
+use Rattle.keyed_files.specs.declared.request.Settings.{Settings}
+use Rattle.keyed_files.specs.declared.source.Content.TheVariants.{Rows}
+use Rattle.keyed_commands.specs.Answers.{IsTableText, TableRows, key_cmp}
+use Rattle.keyed_commands.specs.AppliedTexts.{IsInStyle, watched_left}
+use Rattle.keyed_commands.specs.TablesRead.{AreNames, IsUnordered, ReadsTable, SaysTable}
+use Rattle.keyed_commands.specs.declared.answers.Answer.{Answer}
+use Rattle.keyed_commands.specs.declared.answers.Outcome.TheVariants.{Made}
+use Rattle.keyed_commands.specs.declared.job.Job.{Job}
+use Rattle.keyed_commands.specs.declared.layers.Laid.{Laid}
+use Rattle.keyed_commands.specs.declared.watched.Watched.{Watched}
+
+-- what stands under a key that two tables have, one over the other: the rows of the upper one, or the cells of both
+abbrev pub laid_rows : Layer → EitherOrBoth (List (List (List ℕ))) (List (List (List ℕ))) → List (List (List ℕ))
+laid_rows layer.Rows rows = overlaid rows
+laid_rows layer.Cells rows = filled rows
+
+-- what stands under a key of tables that are laid one after the other over what is there
+abbrev pub laid_under : Layer → Option (List (List (List ℕ))) → List TableRows → List (List ℕ) → Option (List (List (List ℕ)))
+laid_under layer below [] key = below
+laid_under layer below (table ∷ tables) key = laid_under layer (option_map (laid_rows layer) (from_places below (value_under key_cmp table key))) tables key
+
+-- tables that are laid one after the other over one
+abbrev pub AreLaidOver : Layer → TableRows → List TableRows → TableRows → Type 0
+AreLaidOver layer below tables rows = Tabulates key_cmp rows (λ key. laid_under layer (value_under key_cmp below key) tables key)
+
+-- an answer with the rows of a table, in a style
+pub record AnswersRows (form : Form) (columns : Columns) (keys : Option (List (List (List ℕ)))) (by_cells : Bool) (rows : TableRows) (answer : Answer) : Type 0 where
+  pub made : Answer
+  pub text : IsTableText form columns keys by_cells rows made.bytes.items
+  pub styled : IsInStyle made answer
+  pub status : answer.status ≡ 0
+  pub outcome : answer.outcome ≡ Made
+
+-- the same of tables laid one over the other, the last one on top, with the order in which rows come out
+pub record OverlaidIn (layer : Layer) (form : Form) (columns : Columns) (unordered : Type 0) (tables : List TableRows) (answer : Answer) : Type 0 where
+  pub rows : TableRows
+  pub keys : Option (List (List (List ℕ)))
+  pub by_cells : Bool
+  pub laid : AreLaidOver layer [] tables rows
+  pub answers : AnswersRows form columns keys by_cells rows answer
+  pub order : unordered → (keys ≡ None) × (by_cells ≡ true)
+
+-- a table that a text says: its header, the names by which its columns are read, and its rows by key
+pub record Said : Type 0 where
+  pub header : List (List ℕ)
+  pub names : List (List ℕ)
+  pub rows : TableRows
+
+-- the names of the columns of tables: those of the key, where it is set, have other ones in the first table alone
+abbrev pub AreNamed : {A : Type 0} → Option A → List Said → Type 0
+AreNamed key [] = ⊤
+AreNamed {A} key (said ∷ more) = AreNames key said.header said.names × AreNamed {A = A} None more
+
+-- the rows of the tables that are laid so far, of which there may be none
+abbrev pub rows_laid : Laid → TableRows
+rows_laid laid = unwrap_or (option_map (λ table. table.pairs.items) laid.table) []
+
+module _ {R : Type 0} (remaining : R → Option (List ℕ)) where
+  -- the header of a stream is read, its columns are named, and its rows come next
+  abbrev pub IsLayer : {A : Type 0} → Form → Option A → Stream R → Opened (Watched R) → Type 0
+  IsLayer form key stream opened = (header : List (List ℕ)) × AreNames key header opened.source.value.header.names
+      × IfSome (text_of_stream remaining form stream) (λ text. IsOpen (form_of form stream) Rows (watched_left remaining) text header opened.source.value)
+
+  -- the same of each of several
+  abbrev pub AreLayers : {A : Type 0} → Form → Option A → List (Stream R) → List (Opened (Watched R)) → Type 0
+  AreLayers form key [] [] = ⊤
+  AreLayers form key [] (opened ∷ more) = ⊥
+  AreLayers form key (stream ∷ streams) [] = ⊥
+  AreLayers {A} form key (stream ∷ streams) (opened ∷ more) = IsLayer form key stream opened × AreLayers {A = A} form None streams more
+
+  -- a table is read of each of several sources
+  abbrev pub ReadTables : Bool → Columns → List (Opened (Watched R)) → List TableRows → Type 0
+  ReadTables groups columns opened tables = AllZip (λ source rows. ReadsTable (watched_left remaining) groups columns source.source.value rows) opened tables
+
+  -- and these are laid one after the other over one
+  abbrev pub LaysTables : Layer → Bool → Columns → TableRows → List (Opened (Watched R)) → TableRows → Type 0
+  LaysTables layer groups columns below opened rows = (tables : List TableRows) × ReadTables groups columns opened tables × AreLaidOver layer below tables rows
+
+  -- an answer to `overlay` of several sources: the text of their tables laid one over the other
+  pub record OverlaysSources (layer : Layer) (job : Job Columns) (opened : List (Opened (Watched R))) (answer : Answer) : Type 0 where
+    pub tables : List TableRows
+    pub read : ReadTables job.groups job.columns.now opened tables
+    pub overlaid : OverlaidIn layer job.form job.columns.now (IsUnordered job) tables answer
+
+  -- the text of a stream says a table under columns, where it is known
+  abbrev pub SaysRows : Settings → Columns → Stream R → Said → Type 0
+  SaysRows settings columns stream said = IfSome (text_of_stream remaining settings.form stream)
+      (λ text. SaysTable (form_of settings.form stream) Rows settings.groups text said.header said.names columns said.rows)
+
+  -- what `overlay` answers of several streams: each text that is known says its table, under the columns of all, and the answer is the text
+  -- of these tables laid one over the other
+  pub record OverlaysStreams (settings : Settings) (layer : Layer) (streams : List (Stream R)) (answer : Answer) : Type 0 where
+    pub columns : Columns
+    pub said : List Said
+    pub named : AreNamed settings.key said
+    pub columned : AreColumnsBy settings.key (map (λ table. table.names) said) (map (λ table. table.names) said) columns
+    pub says : AllZip (SaysRows settings columns) streams said
+    pub overlaid : OverlaidIn layer settings.form columns (settings.keeps_order ≡ false) (map (λ table. table.rows) said) answer
