@@ -1,0 +1,199 @@
+-- What `merge` answers of three texts that are known.
+use Rattle.std.proofs.Common.{◌≡◌, ◌∙◌, ℕ, Bool, Bor, false, true, List, [], ◌∷◌, filter, length, map, take, IsPermutation, Option, None, ap, subst, sym}
+use Rattle.std.specs.Prelude.{◌&&◌, MatchBool, ⊤, ltb}
+use Rattle.std.specs.List.{AllByRecursion, list_any}
+use Rattle.eob_lists.specs.Join.{Rising, value_under}
+use Rattle.eob_lists.proofs.MergeLemmas.{Up}
+use Rattle.eob_joins.specs.Settled.{Became, BecameOf, stuck_row}
+use Rattle.eob_joins.specs.Tables.{Tabulates, kept}
+use Rattle.eob_joins.specs.Versions.{clashes, merged, merged_place}
+use Rattle.keyed_files.specs.ChangedColumns.{AreMergedColumns, names_merged}
+use Rattle.keyed_files.specs.ColumnNames.{column_names, is_beside, or_header, place_under_key}
+use Rattle.keyed_files.specs.Keys.{AreMergedColumnsBy, first_name}
+use Rattle.keyed_files.specs.Lost.{is_rest, loses_cells}
+use Rattle.keyed_files.specs.declared.columns.Columns.{Columns}
+use Rattle.keyed_files.specs.declared.columns.Place.{Place}
+use Rattle.keyed_files.specs.declared.merging.Unit.{Unit}
+use Rattle.keyed_files.specs.declared.merging.Unit.TheVariants as unit
+use Rattle.keyed_files.specs.declared.request.Form.{Form}
+use Rattle.keyed_files.specs.declared.request.Settings.{Settings}
+use Rattle.keyed_tables.specs.Gathered.{alone}
+use Rattle.keyed_tables.specs.RowsByCell.{GivesRow, can_by_row}
+use Rattle.keyed_commands.specs.Answers.{AnswersTable, HasConflict, HasNoConflict, HasNoneStuck, HasStuck, IsTableText, Stops, TableRows, clashes_at, key_cmp, rows_eq, sticks_at}
+use Rattle.keyed_commands.specs.AppliedTexts.{IsInStyle}
+use Rattle.keyed_commands.specs.Lost.{loses}
+use Rattle.keyed_commands.specs.MergedTexts.{AnswersBy, AnswersByCell, AnswersByRow, MergesTexts}
+use Rattle.keyed_commands.specs.declared.answers.Answer.{Answer}
+use Rattle.keyed_commands.specs.declared.answers.Outcome.TheVariants.{Made}
+use Rattle.keyed_commands.proofs.AnswerLemmas.{key_exact, key_total}
+use Rattle.command_callers.specs.Answered.{IsTableInStyle}
+use Rattle.command_callers.proofs.KnownCells.{gives_once, merged_by_cell, none_stuck, settled_rows}
+use Rattle.command_callers.proofs.KnownJoins.{merged_rows, no_conflict, three}
+use Rattle.command_callers.proofs.KnownRows.{alone_rise}
+use Rattle.command_callers.proofs.KnownTables.{IsKnown, IsPlain, KeyedRows, header_is, names_are, plain_key, rows_by, table_is, table_text, table_text_is}
+
+-- whether rows lose cells, by the columns that are written and the names beside the key
+abbrev pub loses_by : List Place → (rest : List (List ℕ)) → TableRows → Bool
+loses_by order rest rows = ltb (length (filter is_rest order)) (length rest) && list_any (λ row. loses_cells (length (filter is_rest order)) row.1) rows
+
+-- an answer with a table of which no cell is lost
+pub styled_table : (form : Form) (columns : Columns) (keys : Option (List (List (List ℕ)))) (by_cells : Bool) (rows : TableRows) (made answer : Answer) (order : List Place) (key rest : List (List ℕ))
+    → columns.order.items ≡ order → columns.key ≡ key → columns.rest ≡ rest → (keys ≡ None) × (by_cells ≡ true) → loses_by order rest rows ≡ false
+    → AnswersTable form columns keys by_cells rows made → IsInStyle made answer → IsTableInStyle (table_text form order key rest rows) answer
+styled_table form columns keys by_cells rows made answer order key rest eo ek er plainly none h styled =
+    let keeps : loses columns rows ≡ false = ap (λ o. loses_by o columns.rest rows) eo ∙ ap (λ r. loses_by order r rows) er ∙ none in
+    let told : (made.status ≡ 0) × (made.outcome ≡ Made) × IsTableText form columns keys by_cells rows made.bytes.items =
+    subst (λ b. MatchBool b (Stops made) ((made.status ≡ 0) × (made.outcome ≡ Made) × IsTableText form columns keys by_cells rows made.bytes.items)) keeps h in
+    record {
+      made = made;
+      bytes = table_text_is form columns keys by_cells rows made.bytes.items order key rest eo ek er plainly told.2;
+      styled = styled;
+      status = styled.1.status ∙ told.0;
+      outcome = styled.1.outcome ∙ told.1;
+    }
+
+-- a report is as it was in any style
+pub styled_report : (made answer : Answer) → Stops made → IsInStyle made answer → Stops answer
+styled_report made answer stops styled = subst Stops (sym (styled.1.stopped stops.1)) stops
+
+-- the names of the columns of three versions
+abbrev pub merge_key : (base ours theirs : List (List ℕ)) → List (List ℕ)
+merge_key base ours theirs = first_name (base ∷ ours ∷ theirs ∷ [])
+
+abbrev pub merge_written : (base ours theirs : List (List ℕ)) → List (List ℕ)
+merge_written base ours theirs = names_merged base (or_header ours base) (or_header theirs base)
+
+abbrev pub merge_names : (base ours theirs : List (List ℕ)) → List (List ℕ)
+merge_names base ours theirs = column_names (merge_written base ours theirs ∷ base ∷ or_header ours base ∷ or_header theirs base ∷ [])
+
+abbrev pub merge_rest : (base ours theirs : List (List ℕ)) → List (List ℕ)
+merge_rest base ours theirs = filter (is_beside (merge_key base ours theirs)) (merge_names base ours theirs)
+
+abbrev pub merge_order : (base ours theirs : List (List ℕ)) → List Place
+merge_order base ours theirs = take (length (merge_written base ours theirs)) (map (place_under_key (merge_key base ours theirs)) (merge_names base ours theirs))
+
+abbrev Written : (base ours theirs : List (List ℕ)) → Columns → Type 0
+Written base ours theirs columns = AreMergedColumns (merge_key base ours theirs) base ours theirs columns
+
+merge_columns : (key : Option (Bor (List ℕ))) (base ours theirs : List (List ℕ)) (columns : Columns) → key ≡ None → AreMergedColumnsBy key base ours theirs columns
+    → Written base ours theirs columns
+merge_columns key base ours theirs columns e h =
+    subst (λ k. AreMergedColumns k base ours theirs columns) (plain_key key (base ∷ ours ∷ theirs ∷ []) h.first h.others e h.names).1 h.are
+
+module _ {settings : Settings} {by : Unit} {base_form ours_form theirs_form : Form} {base_text ours_text theirs_text : List ℕ} {answer : Answer}
+    (m : MergesTexts by settings base_form ours_form theirs_form base_text ours_text theirs_text answer) (plain : IsPlain settings)
+    (base_fields ours_fields theirs_fields : List (List ℕ)) (base_records ours_records theirs_records : List (List (List ℕ)))
+    (base_known : IsKnown base_form base_text base_fields base_records) (ours_known : IsKnown ours_form ours_text ours_fields ours_records)
+    (theirs_known : IsKnown theirs_form theirs_text theirs_fields theirs_records)
+    (base ours theirs : KeyedRows) (base_up : Up key_cmp (λ k. ⊤) base) (ours_up : Up key_cmp (λ k. ⊤) ours) (theirs_up : Up key_cmp (λ k. ⊤) theirs)
+    (base_moved : IsPermutation (rows_by base_fields (merge_key base_fields ours_fields theirs_fields) (merge_rest base_fields ours_fields theirs_fields) base_records) base)
+    (ours_moved : IsPermutation (rows_by ours_fields (merge_key base_fields ours_fields theirs_fields) (merge_rest base_fields ours_fields theirs_fields) ours_records) ours)
+    (theirs_moved : IsPermutation (rows_by theirs_fields (merge_key base_fields ours_fields theirs_fields) (merge_rest base_fields ours_fields theirs_fields) theirs_records) theirs) where
+  abbrev key : List (List ℕ)
+  key = merge_key base_fields ours_fields theirs_fields
+
+  abbrev rest : List (List ℕ)
+  rest = merge_rest base_fields ours_fields theirs_fields
+
+  abbrev order : List Place
+  order = merge_order base_fields ours_fields theirs_fields
+
+  base_names : m.names ≡ base_fields
+  base_names = names_are settings plain m.header m.names m.named ∙ header_is base_form base_text base_fields base_records base_known settings.groups m.header m.names m.columns m.base m.base_says
+
+  ours_names : m.ours_header ≡ ours_fields
+  ours_names = header_is ours_form ours_text ours_fields ours_records ours_known settings.groups m.ours_header m.ours_header m.columns m.ours m.ours_say
+
+  theirs_names : m.theirs_header ≡ theirs_fields
+  theirs_names = header_is theirs_form theirs_text theirs_fields theirs_records theirs_known settings.groups m.theirs_header m.theirs_header m.columns m.theirs m.theirs_say
+
+  columns_known : Written base_fields ours_fields theirs_fields m.columns
+  columns_known =
+      subst (λ n. Written n ours_fields theirs_fields m.columns) base_names
+      (subst (λ n. Written m.names n theirs_fields m.columns) ours_names
+      (subst (λ n. Written m.names m.ours_header n m.columns) theirs_names
+      (merge_columns settings.key m.names m.ours_header m.theirs_header m.columns plain.key m.columned)))
+
+  base_table : m.base ≡ map alone base
+  base_table =
+      table_is base_form base_text base_fields base_records base_known settings.groups m.header m.names m.columns m.base m.base_says
+      base_fields key rest base base_names columns_known.key columns_known.rest base_moved base_up
+
+  ours_table : m.ours ≡ map alone ours
+  ours_table =
+      table_is ours_form ours_text ours_fields ours_records ours_known settings.groups m.ours_header m.ours_header m.columns m.ours m.ours_say
+      ours_fields key rest ours ours_names columns_known.key columns_known.rest ours_moved ours_up
+
+  theirs_table : m.theirs ≡ map alone theirs
+  theirs_table =
+      table_is theirs_form theirs_text theirs_fields theirs_records theirs_known settings.groups m.theirs_header m.theirs_header m.columns m.theirs m.theirs_say
+      theirs_fields key rest theirs theirs_names columns_known.key columns_known.rest theirs_moved theirs_up
+
+  -- what holds of the three tables, and of what they are
+  of_tables : (P : TableRows → TableRows → TableRows → Type 0) → P m.base m.ours m.theirs → P (map alone base) (map alone ours) (map alone theirs)
+  of_tables P h =
+      subst (λ t. P t (map alone ours) (map alone theirs)) base_table (subst (λ t. P m.base t (map alone theirs)) ours_table (subst (λ t. P m.base m.ours t) theirs_table h))
+
+  from_tables : (P : TableRows → TableRows → TableRows → Type 0) → P (map alone base) (map alone ours) (map alone theirs) → P m.base m.ours m.theirs
+  from_tables P h =
+      subst (λ t. P t m.ours m.theirs) (sym base_table) (subst (λ t. P (map alone base) t m.theirs) (sym ours_table) (subst (λ t. P (map alone base) (map alone ours) t) (sym theirs_table) h))
+
+  by_row : by ≡ unit.Row → AnswersByRow settings.form m.columns m.merged.keys m.merged.by_cells m.base m.ours m.theirs m.merged.made
+  by_row is = subst (AnswersBy settings.form m.columns m.merged.keys m.merged.by_cells m.base m.ours m.theirs m.merged.made) is m.merged.merged
+
+  base_rises : Rising key_cmp (map alone base)
+  base_rises = alone_rise key_cmp key_total base base_up
+
+  ours_rise : Rising key_cmp (map alone ours)
+  ours_rise = alone_rise key_cmp key_total ours ours_up
+
+  theirs_rise : Rising key_cmp (map alone theirs)
+  theirs_rise = alone_rise key_cmp key_total theirs theirs_up
+
+  abbrev pub merged_three : TableRows
+  merged_three = kept (merged rows_eq) (three key_cmp (map alone base) (map alone ours) (map alone theirs))
+
+  -- where no row of the three is in conflict, the answer is the table of the merged rows
+  pub merge_whole : by ≡ unit.Row → AllByRecursion (λ z. clashes rows_eq z.1 ≡ false) (three key_cmp (map alone base) (map alone ours) (map alone theirs))
+      → loses_by order rest merged_three ≡ false → IsTableInStyle (table_text settings.form order key rest merged_three) answer
+  merge_whole is settled none =
+      let free : HasNoConflict m.base m.ours m.theirs =
+      from_tables HasNoConflict (no_conflict key_cmp key_total key_exact rows_eq (map alone base) (map alone ours) (map alone theirs) base_rises ours_rise theirs_rise settled) in
+      let told = (by_row is).whole free in
+      let are : told.0 ≡ merged_three =
+      merged_rows key_cmp key_total key_exact rows_eq (map alone base) (map alone ours) (map alone theirs) base_rises ours_rise theirs_rise told.0
+      (of_tables (λ b o t. Tabulates key_cmp told.0 (λ k. merged_place rows_eq (value_under key_cmp b k) (value_under key_cmp o k) (value_under key_cmp t k))) told.1) in
+      styled_table settings.form m.columns m.merged.keys m.merged.by_cells merged_three m.merged.made answer order key rest
+      columns_known.order columns_known.key columns_known.rest (m.merged.order plain.order) none
+      (subst (λ r. AnswersTable settings.form m.columns m.merged.keys m.merged.by_cells r m.merged.made) are told.2) m.merged.styled
+
+  -- and where one is, a report
+  pub merge_stops : by ≡ unit.Row → (k : List (List ℕ)) → clashes_at (map alone base) (map alone ours) (map alone theirs) k ≡ true → Stops answer
+  merge_stops is k clash = styled_report m.merged.made answer ((by_row is).conflict (from_tables HasConflict (k, clash))) m.merged.styled
+
+  by_cell : by ≡ unit.Cell → AnswersByCell settings.form m.columns m.merged.keys m.merged.by_cells m.base m.ours m.theirs m.merged.made
+  by_cell is = subst (AnswersBy settings.form m.columns m.merged.keys m.merged.by_cells m.base m.ours m.theirs m.merged.made) is m.merged.merged
+
+  -- the same of a merge by cell
+  abbrev pub merged_cells_of_three : TableRows
+  merged_cells_of_three = kept merged_by_cell (three key_cmp (map alone base) (map alone ours) (map alone theirs))
+
+  pub merge_cells : by ≡ unit.Cell
+      → AllByRecursion (λ z. stuck_row rows_eq can_by_row z.1 ≡ false) (three key_cmp (map alone base) (map alone ours) (map alone theirs))
+      → AllByRecursion (λ z. BecameOf rows_eq GivesRow z.1 (merged_by_cell z.1)) (three key_cmp (map alone base) (map alone ours) (map alone theirs))
+      → loses_by order rest merged_cells_of_three ≡ false → IsTableInStyle (table_text settings.form order key rest merged_cells_of_three) answer
+  merge_cells is settled became none =
+      let free : HasNoneStuck m.base m.ours m.theirs =
+      from_tables HasNoneStuck (none_stuck rows_eq GivesRow gives_once key_cmp key_total key_exact (map alone base) (map alone ours) (map alone theirs)
+      base_rises ours_rise theirs_rise can_by_row settled) in
+      let told = (by_cell is).whole free in
+      let are : told.0 ≡ merged_cells_of_three =
+      settled_rows rows_eq GivesRow gives_once key_cmp key_total key_exact (map alone base) (map alone ours) (map alone theirs) base_rises ours_rise theirs_rise
+      merged_by_cell became told.0 told.1
+      (of_tables (λ b o t. (k : List (List ℕ)) → Became rows_eq GivesRow (value_under key_cmp b k) (value_under key_cmp o k) (value_under key_cmp t k) (value_under key_cmp told.0 k)) told.2) in
+      styled_table settings.form m.columns m.merged.keys m.merged.by_cells merged_cells_of_three m.merged.made answer order key rest
+      columns_known.order columns_known.key columns_known.rest (m.merged.order plain.order) none
+      (subst (λ r. AnswersTable settings.form m.columns m.merged.keys m.merged.by_cells r m.merged.made) are told.3) m.merged.styled
+
+  pub merge_sticks : by ≡ unit.Cell → (k : List (List ℕ)) → sticks_at (map alone base) (map alone ours) (map alone theirs) k ≡ true → Stops answer
+  merge_sticks is k stuck = styled_report m.merged.made answer ((by_cell is).conflict (from_tables HasStuck (k, stuck))) m.merged.styled

@@ -1,0 +1,117 @@
+-- The table of a text whose records are known, and its columns.
+use Rattle.std.proofs.Common.{◌≡◌, ◌∙◌, ◌++◌, ℕ, Bool, Bor, true, false, List, [], ◌∷◌, length, map, nat_eq, IsPermutation, Option, None, Some, ap, subst, sym}
+use Rattle.std.specs.Prelude.{◌==◌, ◌&&◌, ◌||◌, ⊤, not, if◌then◌else◌}
+use Rattle.std.specs.Cmp.Lexicographic.{pointwise}
+use Rattle.eob_lists.proofs.MergeLemmas.{Up}
+use Rattle.keyed_files.specs.ColumnNames.{HaveNames, column_names}
+use Rattle.keyed_files.specs.Keys.{AreColumnsBy, AreKeyNames, first_name}
+use Rattle.keyed_files.specs.Names.{repeats}
+use Rattle.keyed_files.specs.Reading.{HeadedBy, behind_header, cell_under, parts_of, row_under}
+use Rattle.keyed_files.specs.Rows.{placed, table_rows}
+use Rattle.keyed_files.specs.Writing.{comment_of, delimiter_of, quoted_text}
+use Rattle.keyed_files.specs.declared.columns.Columns.{Columns}
+use Rattle.keyed_files.specs.declared.columns.Place.{Place}
+use Rattle.keyed_files.specs.declared.request.Form.{Form}
+use Rattle.keyed_files.specs.declared.request.Settings.{Settings}
+use Rattle.keyed_files.specs.declared.source.Content.TheVariants.{Rows}
+use Rattle.keyed_tables.specs.Arranged.{AreArranged}
+use Rattle.keyed_tables.specs.Gathered.{alone}
+use Rattle.keyed_text.specs.Texts.{AreRows}
+use Rattle.keyed_text.proofs.TextLemmas.{rows-once}
+use Rattle.keyed_commands.specs.Answers.{IsTableText, TableRows, key_cmp}
+use Rattle.keyed_commands.specs.ComeOut.{AlikeRows, ComesOut, HasGroups}
+use Rattle.keyed_commands.specs.TablesRead.{AreNames, AreNamesBy, SaysTable}
+use Rattle.keyed_commands.proofs.AnswerLemmas.{key_exact, key_total}
+use Rattle.command_callers.proofs.KnownRows.{gathered}
+
+-- rows by key
+abbrev pub KeyedRows : Type 0
+KeyedRows = List (List (List ℕ) × List (List ℕ))
+
+-- the settings of a command that reads tables by their first column, and writes rows in the order of their keys
+pub record IsPlain (settings : Settings) : Type 0 where
+  pub key : settings.key ≡ None
+  pub renames : settings.renames ≡ None
+  pub order : settings.keeps_order ≡ false
+
+plain_names : {A : Type 0} (key : Option A) (header names : List (List ℕ)) → key ≡ None → AreNames key header names → names ≡ header
+plain_names None header names e h = h
+plain_names (Some key) header names e h = absurd (cc)
+
+-- the names by which columns are read are then those of the header
+pub names_are : (settings : Settings) → IsPlain settings → (header names : List (List ℕ)) → AreNamesBy settings header names → names ≡ header
+names_are settings plain header names h = plain_names settings.renames h.0 names plain.renames h.2 ∙ plain_names settings.key header h.0 plain.key h.1
+
+-- and the key is the first column
+pub plain_key : (key : Option (Bor (List ℕ))) (headers : List (List (List ℕ))) (first others : List (List ℕ)) → key ≡ None → AreKeyNames key headers first others
+    → (first ≡ first_name headers) × (others ≡ first_name headers)
+plain_key None headers first others e h = h
+plain_key (Some key) headers first others e h = absurd (cc)
+
+pub columns_are : (key : Option (Bor (List ℕ))) (tables headers : List (List (List ℕ))) (columns : Columns) → key ≡ None → AreColumnsBy key tables headers columns
+    → HaveNames (first_name tables) (column_names headers) columns
+columns_are key tables headers columns e h = subst (λ k. HaveNames k (column_names headers) columns) (plain_key key tables h.first h.others e h.names).1 h.are
+
+-- a text in a form that is known: a header in which no name stands twice, and records
+pub record IsKnown (form : Form) (text : List ℕ) (fields : List (List ℕ)) (records : List (List (List ℕ))) : Type 0 where
+  pub headed : form.has_header ≡ true
+  pub rows : AreRows (delimiter_of form) (comment_of form) text (fields ∷ records)
+  pub once : repeats [] fields ≡ false
+
+pub known_text : (form : Form) (text literal : List ℕ) (fields : List (List ℕ)) (records : List (List (List ℕ))) → text ≡ literal → form.has_header ≡ true
+    → AreRows (delimiter_of form) (comment_of form) literal (fields ∷ records) → repeats [] fields ≡ false → IsKnown form text fields records
+known_text form text literal fields records e has are once =
+    record { headed = has; rows = subst (λ t. AreRows (delimiter_of form) (comment_of form) t (fields ∷ records)) (sym e) are; once = once }
+
+-- the rows of records under names, by key
+abbrev pub rows_by : (names key rest : List (List ℕ)) → List (List (List ℕ)) → KeyedRows
+rows_by names key rest records = map (λ fields. (map (cell_under Rows names fields) key, map (cell_under Rows names fields) rest)) records
+
+module _ (form : Form) (text : List ℕ) (fields : List (List ℕ)) (records : List (List (List ℕ))) (known : IsKnown form text fields records)
+    (groups : Bool) (header names : List (List ℕ)) (columns : Columns) (table : TableRows) (says : SaysTable form Rows groups text header names columns table) where
+  same_records : says.1.0 ≡ fields ∷ records
+  same_records = rows-once (delimiter_of form) (comment_of form) text says.1.0 (fields ∷ records) says.1.1 known.rows
+
+  -- the header is that of the text
+  pub header_is : header ≡ fields
+  header_is =
+      let headed : HeadedBy form.has_header Rows (fields ∷ records) header = subst (λ rs. HeadedBy form.has_header Rows rs header) same_records says.1.2 in
+      let named : HeadedBy true Rows (fields ∷ records) header = subst (λ b. HeadedBy b Rows (fields ∷ records) header) known.headed headed in
+      named known.once
+
+  -- the rows are those of its records
+  rows_are : map parts_of says.0 ≡ rows_by names columns.key columns.rest records
+  rows_are =
+      says.1.3 ∙ ap (λ rs. map (row_under Rows names columns) (behind_header form.has_header rs)) same_records
+      ∙ ap (λ b. map (row_under Rows names columns) (behind_header b (fields ∷ records))) known.headed
+
+  -- and where these are known and no two have one key, so is the table
+  pub table_is : (known_names key rest : List (List ℕ)) (rows : KeyedRows) → names ≡ known_names → columns.key ≡ key → columns.rest ≡ rest
+      → IsPermutation (rows_by known_names key rest records) rows → Up key_cmp (λ k. ⊤) rows → table ≡ map alone rows
+  table_is known_names key rest rows en ek er moved up =
+      let parts : map parts_of says.0 ≡ rows_by known_names key rest records =
+      rows_are ∙ ap (λ k. rows_by names k columns.rest records) ek ∙ ap (λ r. rows_by names key r records) er ∙ ap (λ n. rows_by n key rest records) en in
+      gathered key_cmp key_total key_exact rows (map parts_of says.0) table up (subst (λ l. IsPermutation l rows) (sym parts) moved) says.2.0
+
+-- rows that come out in the order of keys are those that were to
+pub came_out : {V : Type 0} (keys : Option (List (List (List ℕ)))) (by_cells : Bool) (P : V → V → Type 0) (xs ys : List (List (List ℕ) × V))
+    → (keys ≡ None) × (by_cells ≡ true) → ComesOut keys by_cells P xs ys → ys ≡ xs
+came_out {V} keys by_cells P xs ys order h =
+    let arranged : AreArranged (pointwise (pointwise nat_eq)) None xs h.0 = subst (λ k. AreArranged (pointwise (pointwise nat_eq)) k xs h.0) order.0 h.2 in
+    let grouped : HasGroups {K = List (List ℕ)} true P h.0 ys = subst (λ b. HasGroups {K = List (List ℕ)} b P h.0 ys) order.1 h.3 in
+    grouped ∙ arranged
+
+-- the text of a table
+abbrev pub heading_by : Form → List Place → (key rest : List (List ℕ)) → List (List (List ℕ))
+heading_by form order key rest = if form.has_header && (false || not (length order == 0)) then placed order key rest ∷ [] else []
+
+abbrev pub table_text : Form → List Place → (key rest : List (List ℕ)) → TableRows → List ℕ
+table_text form order key rest rows = quoted_text form (heading_by form order key rest ++ table_rows order rows)
+
+pub table_text_is : (form : Form) (columns : Columns) (keys : Option (List (List (List ℕ)))) (by_cells : Bool) (rows : TableRows) (text : List ℕ)
+    (order : List Place) (key rest : List (List ℕ)) → columns.order.items ≡ order → columns.key ≡ key → columns.rest ≡ rest
+    → (keys ≡ None) × (by_cells ≡ true) → IsTableText form columns keys by_cells rows text → text ≡ table_text form order key rest rows
+table_text_is form columns keys by_cells rows text order key rest eo ek er plainly h =
+    h.2 ∙ ap (λ l. table_text form columns.order.items columns.key columns.rest l) (came_out keys by_cells AlikeRows rows h.0 plainly h.1)
+    ∙ ap (λ o. table_text form o columns.key columns.rest rows) eo ∙ ap (λ k. table_text form order k columns.rest rows) ek
+    ∙ ap (λ r. table_text form order key r rows) er

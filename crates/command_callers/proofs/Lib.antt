@@ -1,0 +1,10 @@
+pub mod KeptOnce
+pub mod KnownRows
+pub mod KnownJoins
+pub mod KnownCells
+pub mod KnownTables
+pub mod KnownDiff
+pub mod KnownJoinText
+pub mod KnownMerge
+pub mod KnownApply
+pub mod Texts

@@ -1,0 +1,24 @@
+use Rattle.std.proofs.Common.{[], ◌∷◌, refl}
+use Rattle.std.proofs.lemmas.List.Sorted.{IsPermutation-refl}
+use Rattle.std.proofs.lemmas.Result.{IfOk-weaker}
+use Rattle.std.specs.Prelude.{codes}
+use Rattle.csv.specs.Records.{field_at}
+use Rattle.csv.specs.Writing.{escaped, fields_text, is_blank}
+use Rattle.keyed_files.specs.ColumnNames.{distinct}
+use Rattle.keyed_files.specs.Names.{repeats}
+use Rattle.keyed_files.specs.Rows.{placed}
+use Rattle.keyed_tables.proofs.CellRowLemmas.{merged_map}
+use Rattle.command_callers.proofs.KnownMerge.{merge_cells}
+use Rattle.command_callers.proofs.KnownTables.{known_text}
+use Rattle.command_callers.proofs.Texts.{id_a_b, one_x_w, one_x_y, one_z_y, with_x_w, with_x_y, with_z_y}
+use Rattle.command_callers.proofs.merged_by_cell.Goals as goal
+
+pub returns : goal.returns
+unfolding distinct escaped field_at fields_text is_blank placed repeats
+returns c =
+    IfOk-weaker c.merge.result _ _ (λ answer told.
+    merge_cells (told (record { as_written = refl; reports = refl })) (record { key = refl; renames = refl; order = refl }) id_a_b id_a_b id_a_b (one_x_y ∷ []) (one_z_y ∷ []) (one_x_w ∷ [])
+    (known_text _ _ _ _ _ c.as_slice.ensures refl with_x_y refl) (known_text _ _ _ _ _ c.as_slice-2.ensures refl with_z_y refl) (known_text _ _ _ _ _ c.as_slice-3.ensures refl with_x_w refl)
+    ((codes "1" ∷ [], codes "x" ∷ codes "y" ∷ []) ∷ []) ((codes "1" ∷ [], codes "z" ∷ codes "y" ∷ []) ∷ []) ((codes "1" ∷ [], codes "x" ∷ codes "w" ∷ []) ∷ []) (tt, tt) (tt, tt) (tt, tt)
+    (IsPermutation-refl _) (IsPermutation-refl _) (IsPermutation-refl _) refl (refl, tt)
+    (merged_map (codes "x" ∷ codes "y" ∷ []) (codes "z" ∷ codes "y" ∷ []) (codes "x" ∷ codes "w" ∷ []) (codes "z" ∷ codes "w" ∷ []) refl refl, tt) refl) c.merge.ensures
