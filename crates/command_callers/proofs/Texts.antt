@@ -44,6 +44,10 @@ pub with_x : AreRows 44 None (codes "id,a\n1,x\n") (id_a ∷ one_x ∷ [])
 unfolding csv_on_literals Reached
 with_x = (st.StartRecord, [], (_, refl, refl, (_, refl, refl, (refl, refl))), refl)
 
+pub with_semicolons : AreRows 59 None (codes "id;a\n1;x\n") (id_a ∷ one_x ∷ [])
+unfolding csv_on_literals Reached
+with_semicolons = (st.StartRecord, [], (_, refl, refl, (_, refl, refl, (refl, refl))), refl)
+
 pub with_y : AreRows 44 None (codes "id,a\n1,y\n") (id_a ∷ one_y ∷ [])
 unfolding csv_on_literals Reached
 with_y = (st.StartRecord, [], (_, refl, refl, (_, refl, refl, (refl, refl))), refl)

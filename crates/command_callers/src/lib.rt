@@ -119,6 +119,28 @@ pub fn same_table(alloc: Global) -> Result<Answer, Fault<'static>>
     diff(alloc, PLAIN, CHANGES, old, new)
 }
 
+/// Returns the changes between a table with semicolons and the same one with commas: none, with status 0.
+///
+/// # Errors
+///
+/// Returns the errors of `diff`.
+pub fn semicolons(alloc: Global) -> Result<Answer, Fault<'static>>
+    ensures status { IfOk result (λ answer. answer.status ≡ 0) }
+    ensures bytes { IfOk result (λ answer. answer.bytes.items ≡ codes "change,id,a\n") }
+{
+    let old = Stream {
+        file: "old.csv",
+        delimiter: Some(Delimiter::SEMICOLON),
+        reader: Ok(b"id;a\n1;x\n".as_slice()),
+    };
+    let new = Stream {
+        file: "new.csv",
+        delimiter: None,
+        reader: Ok(b"id,a\n1,x\n".as_slice()),
+    };
+    diff(alloc, PLAIN, CHANGES, old, new)
+}
+
 /// Returns the changes between two tables of which the new one has another column, and its rows in no order: the header marks the column,
 /// and the row that is in both is none of the changes.
 ///
