@@ -6,5 +6,5 @@
 use std::process::ExitCode;
 
 fn main(rt: HostRuntime) -> ExitCode {
-    ExitCode::from(keyed_run::run(&rt, &mut rt.stdout()))
+    ExitCode::from(keyed_run::run(&rt, &mut rt.stdout(), &rt.stderr()))
 }

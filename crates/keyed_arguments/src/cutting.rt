@@ -1,6 +1,7 @@
 //! What the words of a command line ask for where tables are cut.
 
 use crate::form::form_of;
+use crate::progress::put_progress;
 use crate::{FLAGS, ParseError, TEXTS, TEXTS_OF_TWO, file_of, flag, put, text};
 use clap::{Arg, ArgMatches, Command};
 use keyed_cut::{Cut, CutTables, Divided, LEAST_PARTS, MOST_PARTS, Second};
@@ -33,6 +34,7 @@ fn cut_command<'a>(alloc: Global) -> Result<Command<'a>, AllocError> {
             put(&mut args, flag(alloc, name, help))?;
         }
     }
+    put_progress(alloc, &mut args)?;
     let about = "Cuts tables into parts by ranges of their keys. \
          Status 0: cut, 1: a part takes more memory than asked for, 2: trouble.";
     Command::new(alloc, "cut").about(about).args(args)

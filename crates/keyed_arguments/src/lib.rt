@@ -8,6 +8,7 @@ mod merging;
 mod more;
 mod numbers;
 mod output;
+mod progress;
 mod renames;
 mod view;
 
@@ -24,6 +25,8 @@ use merging::{merging_of, put_merging};
 use more::{lookup_of, overlay_of};
 use numbers::put_numbers;
 use output::{heading_of, output_of, put_output};
+pub use progress::Progress;
+use progress::{progress_of, put_progress};
 use renames::{put_renames, renames_of};
 use std::alloc::{AllocError, Global};
 use std::{fmt, io};
@@ -65,9 +68,16 @@ pub enum Heading {
 #[derive(Debug, Drop)]
 pub enum Line<'a> {
     /// An answer, or what git does with tables.
-    Asked { asked: Asked<'a>, heading: Heading },
+    Asked {
+        asked: Asked<'a>,
+        heading: Heading,
+        progress: Progress,
+    },
     /// Tables cut into parts.
-    Cut(Cut<'a>),
+    Cut {
+        cut: Cut<'a>,
+        progress: Progress,
+    },
 }
 
 impl From<clap::Error> for ParseError {
@@ -141,11 +151,15 @@ pub fn parse<'a>(
 ) -> Result<Line<'a>, ParseError> {
     let matches = command(alloc)?.try_get_matches_from(words)?;
     match matches.subcommand() {
-        Some(("cut", matches)) => Ok(Line::Cut(cut_of(alloc, matches)?)),
+        Some(("cut", matches)) => Ok(Line::Cut {
+            cut: cut_of(alloc, matches)?,
+            progress: progress_of(matches),
+        }),
         Some((name, matches)) => match git_asked(alloc, name, matches, words, terminal)? {
             Some(asked) => Ok(Line::Asked {
                 asked,
                 heading: Heading::Written,
+                progress: Progress::LeftOut,
             }),
             None => answer_of(alloc, name, matches, terminal),
         },
@@ -172,6 +186,7 @@ fn answer_of<'a>(
             output: output_of(matches),
         },
         heading,
+        progress: progress_of(matches),
     })
 }
 
@@ -718,7 +733,8 @@ fn put_settings<'a>(
             put(args, flag(alloc, name, help))?;
         }
     }
-    put_output(alloc, args)
+    put_output(alloc, args)?;
+    put_progress(alloc, args)
 }
 
 // Whether a command has a flag. The rows of a look-up stand as in the left table, whose keys may repeat.

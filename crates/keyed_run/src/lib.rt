@@ -2,9 +2,12 @@
 //! status. What the command line asks for stands in the crate `keyed_arguments`, how a request is answered in `keyed_commands`.
 #![tactic(auto)]
 
+mod counted;
 mod heading;
+mod progress;
 mod words;
 
+use counted::{ClearedOutput, CountedRuntime};
 use heading::write_with_no_heading;
 use keyed_arguments::{Heading, Line, ParseError, parse};
 use keyed_commands::{
@@ -12,11 +15,12 @@ use keyed_commands::{
     write_git_merge, write_git_setup, write_git_unmerged, write_into_file,
 };
 use keyed_cut::{Cut, write_cut};
+use progress::ProgressLine;
 use std::alloc::{AllocError, Global};
 use std::env::FillError;
 use std::fs;
 use std::io::{IsTerminal, Write};
-use std::rt::{Env, Files};
+use std::rt::{Clock, Env, Files};
 use words::{Words, words_of};
 
 // The status of trouble.
@@ -30,17 +34,21 @@ const TROUBLE_FOR_GIT: u8 = 129;
 /// reader of the output has left is not said.
 ///
 /// A standard stream that is closed stays so: no file that is named takes its place.
-pub fn run<R: Files + Env + Input + Print + Eprint + AllocGlobal, W: Write + IsTerminal>(
-    rt: &R,
-    output: &mut W,
-) -> u8 {
+///
+/// Where `errors`, the standard error, is a terminal and a second has passed, a line of it says how many lines are read. It is written
+/// over, and gone before anything else is written there and once the run is over.
+pub fn run<
+    R: Files + Env + Input + Clock + Print + Eprint + AllocGlobal,
+    W: Write + IsTerminal,
+    E: IsTerminal,
+>(rt: &R, output: &mut W, errors: &E) -> u8 {
     // The next file that is opened has the least number that is free. The standard streams have 0 to 2, so three files that hold nothing
     // are open until the end, and take the numbers of those that are closed.
     let _first = fs::open(rt, "/dev/null");
     let _second = fs::open(rt, "/dev/null");
     let _third = fs::open(rt, "/dev/null");
     match words_of(rt) {
-        Ok(Words::Text(words)) => answer_words(rt, &words, output),
+        Ok(Words::Text(words)) => answer_words(rt, &words, output, errors),
         Ok(Words::NoText(said)) => {
             let _ = eprintln!(rt; "keyed: the command line: {said}");
             TROUBLE
@@ -49,21 +57,63 @@ pub fn run<R: Files + Env + Input + Print + Eprint + AllocGlobal, W: Write + IsT
     }
 }
 
-fn answer_words<R: Files + Env + Input + Print + Eprint + AllocGlobal, W: Write + IsTerminal>(
-    rt: &R,
-    words: &[String],
-    output: &mut W,
-) -> u8 {
+fn answer_words<
+    R: Files + Env + Input + Clock + Print + Eprint + AllocGlobal,
+    W: Write + IsTerminal,
+    E: IsTerminal,
+>(rt: &R, words: &[String], output: &mut W, errors: &E) -> u8 {
     let colours = if output.is_terminal() && !has_text(rt, "NO_COLOR") {
         Colours::On
     } else {
         Colours::Off
     };
     match parse(rt.alloc(), words, colours) {
-        Ok(Line::Asked { asked, heading }) => answer(rt, asked, heading, output),
-        Ok(Line::Cut(cut)) => cut_tables(rt, cut),
+        Ok(
+            Line::Asked {
+                asked,
+                heading,
+                progress,
+            },
+        ) => {
+            let line = ProgressLine::new(rt, progress, errors);
+            answer_counted(rt, &line, asked, heading, output)
+        }
+        Ok(Line::Cut { cut, progress }) => {
+            let line = ProgressLine::new(rt, progress, errors);
+            cut_counted(rt, &line, cut)
+        }
         Err(error) => refuse(rt, words, error),
     }
+}
+
+// Answers, says meanwhile how many lines are read, and returns the status.
+fn answer_counted<'r, R: Files + Input + Clock + Eprint + AllocGlobal, W: Write + IsTerminal>(
+    rt: &'r R,
+    line: &ProgressLine<'r, R>,
+    asked: Asked<'_>,
+    heading: Heading,
+    output: &mut W,
+) -> u8 {
+    let counted = CountedRuntime { rt, line };
+    let status = answer(
+        &counted,
+        asked,
+        heading,
+        &mut ClearedOutput::new(line, output),
+    );
+    line.clear();
+    status
+}
+
+// Cuts tables, says meanwhile how many lines are read, and returns the status.
+fn cut_counted<'r, R: Files + Clock + Eprint + AllocGlobal>(
+    rt: &'r R,
+    line: &ProgressLine<'r, R>,
+    cut: Cut<'_>,
+) -> u8 {
+    let status = cut_tables(&CountedRuntime { rt, line }, cut);
+    line.clear();
+    status
 }
 
 // Says why words make no command, and returns the status. What is said of them may repeat a word, and so is of the words as they are

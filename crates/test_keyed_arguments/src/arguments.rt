@@ -26,7 +26,7 @@ fn asked(alloc: Global, line: &str, terminal: Colours) -> Result<String, AllocEr
     let words = words_of(alloc, line)?;
     match parse(alloc, &words, terminal) {
         Ok(Line::Asked { asked, .. }) => show_asked(alloc, asked),
-        Ok(Line::Cut(cut)) => format!(in alloc; "{cut:?}"),
+        Ok(Line::Cut { cut, .. }) => format!(in alloc; "{cut:?}"),
         Err(error) => show_error(alloc, &error),
     }
 }

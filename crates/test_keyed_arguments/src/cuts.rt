@@ -54,7 +54,7 @@ fn asked(alloc: Global, line: &str) -> Result<String, AllocError> {
         words.push(word.to_string(alloc)?)?;
     }
     match parse(alloc, &words, Colours::Off) {
-        Ok(Line::Cut(cut)) => {
+        Ok(Line::Cut { cut, .. }) => {
             let form = cut.layout.form;
             let (tables, divided, into, key) = (cut.tables, cut.divided, cut.into, cut.layout.key);
             let (first, has_header) = (form.delimiter.byte() as char, form.has_header);

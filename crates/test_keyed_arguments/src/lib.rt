@@ -5,3 +5,5 @@
 mod arguments;
 #[cfg(test)]
 mod cuts;
+#[cfg(test)]
+mod progress;

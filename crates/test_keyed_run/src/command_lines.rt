@@ -147,6 +147,7 @@ Options:
   -g, --group                    Keys may repeat: rows with the same key are a group
   -o, --output <FILE>            The file that the answer goes into, once it is whole; it may be one of those that are read
       --no-heading               CSV has no names of columns, so that it can stand behind other CSV
+      --no-progress              No line on the terminal says how many lines are read
   -h, --help                     Print help
 ";
 

@@ -29,6 +29,8 @@ mod overlays;
 #[cfg(test)]
 mod process;
 #[cfg(test)]
+mod progress;
+#[cfg(test)]
 mod quiet;
 #[cfg(test)]
 mod reading;

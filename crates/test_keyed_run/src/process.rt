@@ -4,13 +4,14 @@ ghost use Rattle.std.specs.Prelude.{◌≡◌, ◌+◌, IfOk, string_len};
 ghost use Rattle.std.specs.Io.{WritesAtMost};
 
 use std::alloc::{Allocator, Global};
-use std::cell::RefCell;
+use std::cell::{Cell, RefCell};
 use std::env::FillError;
 use std::fmt::{Display, Write as WriteText};
 use std::fs::{Metadata, OpenFile, OpenOptions};
 use std::io;
 use std::io::{BufRead, ErrorKind, IsTerminal, Lines, Read, Seek, SeekFrom, Write};
-use std::rt::{Env, Files};
+use std::rt::{Clock, Env, Files};
+use std::time::Duration;
 
 /// What a process finds around it.
 #[derive(Clone, Copy)]
@@ -25,6 +26,8 @@ pub struct World {
     pub stdin: &'static [u8],
     /// Whether the standard output is a terminal.
     pub is_terminal: bool,
+    /// How many thousandths of a second are from one look at the clock to the next, where the standard error is a terminal.
+    pub on_terminal: Option<u64>,
     /// How many bytes the standard output takes before it is full. One with no room takes no help either.
     pub room: usize,
     /// Whether it is no full output, but one that a reader has left.
@@ -51,6 +54,7 @@ pub struct Process<'a> {
     alloc: Global,
     given: &'a Given,
     world: World,
+    looks: Cell<u64>,
     printed: RefCell<String>,
     said: RefCell<String>,
 }
@@ -62,6 +66,7 @@ impl<'a> Process<'a> {
             alloc,
             given,
             world,
+            looks: Cell::new(0),
             printed: RefCell::new(String::new(alloc)),
             said: RefCell::new(String::new(alloc)),
         }
@@ -112,6 +117,19 @@ impl Eprint for Process<'_> {
 
     fn eprintln<D: Display + Drop>(&self, value: D) -> io::Result<()> {
         put(&self.said, value, "\n")
+    }
+}
+
+impl Clock for Process<'_> {
+    fn monotonic(&self) -> io::Result<Duration> {
+        let looks = self.looks.get();
+        self.looks.set(looks.saturating_add(1));
+        let step = self.world.on_terminal.unwrap_or(0);
+        Ok(Duration::from_millis(looks.saturating_mul(step)))
+    }
+
+    fn since_1970(&self) -> io::Result<Duration> {
+        Err(io::Error::from(ErrorKind::Unsupported))
     }
 }
 
@@ -327,5 +345,15 @@ impl Write for Output {
 impl IsTerminal for Output {
     fn is_terminal(&self) -> bool {
         self.world.is_terminal
+    }
+}
+
+/// The standard error of a process, as far as it is or is no terminal.
+#[derive(Clone, Copy)]
+pub struct Errors(pub World);
+
+impl IsTerminal for Errors {
+    fn is_terminal(&self) -> bool {
+        self.0.on_terminal.is_some()
     }
 }

@@ -1,6 +1,6 @@
 //! Runs of the program on command lines, and what each is to write, to say and to end with.
 
-use crate::process::{Given, Output, Process, World};
+use crate::process::{Errors, Given, Output, Process, World};
 use std::alloc::{AllocError, Global};
 use std::test::Fail;
 
@@ -26,6 +26,7 @@ pub const PLAIN: World = World {
     files: &[],
     stdin: b"",
     is_terminal: false,
+    on_terminal: None,
     room: 1_000_000,
     is_left: false,
 };
@@ -68,7 +69,7 @@ pub fn files_of(alloc: Global, world: World) -> Result<Vec<(String, String)>, Al
 pub fn run_given(alloc: Global, given: &Given, world: World) -> Result<Run, AllocError> {
     let process = Process::new(alloc, given, world);
     let mut output = Output::new(alloc, world);
-    let status = keyed_run::run(&process, &mut output);
+    let status = keyed_run::run(&process, &mut output, &Errors(world));
     let (printed, said) = process.into_texts();
     output.bytes.extend_from_slice(printed.as_bytes())?;
     Ok(Run {
