@@ -1,12 +1,13 @@
 //! Tables read twice and written into the files of their parts.
+ghost use Rattle.std.specs.Prelude.{◌<◌, OnOk, length};
+ghost use Rattle.keyed_cut.specs.Dealt.{DealsRest};
 
-use crate::batches::{BATCH, deal_batch, read_batch};
 use crate::fault::{CutFault, CutReason};
 use crate::listing::listing_text;
 use crate::names::{draft_name, listing_name, part_name, stems_of};
 use crate::request::{Cut, Divided};
-use crate::sampling::{Sampled, sample_tables};
-use crate::sinks::{Count, Counts, Target, make_sinks};
+use crate::sampling::{Sampled, key_size, sample_tables, weight_of};
+use crate::sinks::{Count, Counts, Sinks, Target, make_sinks};
 use crate::tables::{Table, open_tables};
 use keyed_files::{Reason, Shown, ShownName};
 use keyed_parts::Boundaries;
@@ -123,18 +124,33 @@ fn cut_table<'a, R: Files + AllocGlobal>(
 ) -> Result<Counts, CutFault<'a>> {
     let alloc = rt.alloc();
     let header = table.part_header(alloc)?;
-    let mut sinks = make_sinks(rt, target, bounds.count_parts(), header)?;
+    let mut sinks = make_sinks(rt, target, bounds, header, table.count_cells())?;
+    deal_rows(alloc, target, bounds, table, &mut sinks)?;
+    sinks.end(alloc, target)
+}
+
+// Puts the rows that a table has left behind those of the parts of their keys. No input has more of them than a number counts.
+fn deal_rows<'a, F: Read + Drop, W: Write + Drop>(
+    alloc: Global,
+    target: Target<'a>,
+    bounds: &Boundaries<Key>,
+    table: &mut Table<'a, F>,
+    sinks: &mut Sinks<W>,
+) -> Result<(), CutFault<'a>>
+    requires { length bounds.now.keys.items < length sinks.old.writers.items }
+    ensures { OnOk result (DealsRest F.remaining W.contents bounds.now.keys.items table.old.places
+        sinks.old.columns table.old.opened.source.value sinks.old.writers.items sinks.new.writers.items) }
+{
     for _ in 0..u64::MAX {
-        let rows = read_batch(alloc, table)?;
-        let is_last = rows.len() < BATCH;
-        for (part, rows) in deal_batch(alloc, bounds, rows)?.iter().enumerate() {
-            sinks.put_rows(alloc, target, &table.columns, bounds, part, rows)?;
-        }
-        if is_last {
-            break;
+        match table.next_key()? {
+            Some(key) => {
+                let weight = weight_of(key_size(&key), table.row_size());
+                sinks.put_row(alloc, target, bounds, &key, table.row(), weight)?;
+            }
+            None => return Ok(()),
         }
     }
-    sinks.end(alloc, target)
+    Err(CutFault::NoMemory)
 }
 
 // Writes where the tables were cut: first under another name, so that the file is whole where it stands.

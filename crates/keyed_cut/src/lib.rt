@@ -2,10 +2,9 @@
 //! or side by side, and what they print, one after the other, is what they print of the whole (`law_cut_joins` of `eob_parts`).
 //!
 //! `write_cut` reads each table twice, in memory that does not grow: once for a sample of keys, from which boundaries are taken, and once
-//! to deal the rows. Which part a row is in, and that it is in that one alone, is proved in `keyed_parts`.
+//! to deal the rows. That a row goes into the part of its key, behind the rows there, and into no other part, is proved of `Sinks`.
 #![tactic(auto)]
 
-mod batches;
 mod cutting;
 mod fault;
 mod listing;

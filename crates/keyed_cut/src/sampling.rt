@@ -3,7 +3,7 @@
 use crate::fault::{CutFault, CutReason};
 use crate::listing::read_listing;
 use crate::request::{Cut, Divided, LEAST_PARTS, MOST_PARTS};
-use crate::tables::{PartRow, Table, Tables};
+use crate::tables::{Table, Tables};
 use keyed_parts::{Boundaries, Sample};
 use keyed_rows::{Cells, Key};
 use std::alloc::{AllocError, Global};
@@ -26,20 +26,21 @@ const ROW: u64 = 240;
 
 const SAMPLED: u64 = 80;
 
-/// How many bytes of memory a command takes for a row, about.
-pub fn weight_of(key: &Key, row: &PartRow) -> u64 {
-    let mut weight = ROW;
-    for cell in key.iter() {
-        weight = weight.saturating_add(size_of(cell));
-    }
-    for cell in &row.cells {
-        weight = weight.saturating_add(size_of(cell).saturating_mul(2));
-    }
-    weight
+/// How many bytes of memory a command takes for a row, about: what its key takes once, and what its other cells take twice. All its cells
+/// take so many bytes, of which the key has its own.
+pub fn weight_of(key: u64, all: u64) -> u64 {
+    let others = all.saturating_sub(key);
+    ROW.saturating_add(key)
+        .saturating_add(others.saturating_mul(2))
 }
 
-fn size_of(cell: &[u8]) -> u64 {
-    (cell.len() as u64).saturating_add(1)
+/// How many bytes the cells of a key take, each with one more.
+pub fn key_size(key: &Key) -> u64 {
+    let mut size = 0_u64;
+    for cell in key.iter() {
+        size = size.saturating_add(cell.len() as u64).saturating_add(1);
+    }
+    size
 }
 
 /// What the first reading found: how many rows each table has, and the boundaries.
@@ -130,27 +131,20 @@ fn read_table<'a, F: Read + Drop>(
 ) -> Result<u64, CutFault<'a>> {
     let mut rows = 0_u64;
     for _ in 0..u64::MAX {
-        match table.next_row()? {
-            Some((key, row)) => {
-                let weight = weight_of(&key, &row);
+        match table.next_key()? {
+            Some(key) => {
+                let size = key_size(&key);
+                let weight = weight_of(size, table.row_size());
                 reading.weight = reading.weight.saturating_add(weight);
-                let bytes = key_size(&key);
-                reading.sample.take(key, weight, bytes)?;
+                reading
+                    .sample
+                    .take(key, weight, SAMPLED.saturating_add(size))?;
                 rows = rows.saturating_add(1);
             }
             None => break,
         }
     }
     Ok(rows)
-}
-
-// How many bytes a key takes in the sample.
-fn key_size(key: &Key) -> u64 {
-    let mut size = SAMPLED;
-    for cell in key.iter() {
-        size = size.saturating_add(size_of(cell));
-    }
-    size
 }
 
 // How many parts there are: as many as are asked for, or so many that a part which is a fourth heavier than the mean takes no more memory

@@ -1,17 +1,29 @@
 //! The files of the parts of a table, while its rows are dealt into them.
+ghost use Rattle.std.specs.Prelude.{◌≡◌, ◌↔◌, ◌<◌, ◌+◌, ◌∷◌, ◌++◌, [], IfOk, IsTrue, OnOk, length};
+ghost use Rattle.std.specs.Prelude.{unwrap_or};
+ghost use Rattle.csv.specs.Records.{field_at, fields_of};
+ghost use Rattle.keyed_text.specs.Streams.{PutsCells, PutsRows};
+ghost use Rattle.keyed_parts.specs.Parts.{part_in};
+ghost use Rattle.keyed_cut.specs.Dealt.{PutsRowAt, fitted};
 
 use crate::fault::{CutFault, not_made};
 use crate::names::part_name;
-use crate::sampling::weight_of;
-use crate::tables::PartRow;
-use keyed_files::{Columns, Form, Place, Reason, quote_first};
+use csv::ByteRecord;
+use keyed_files::{Form, Reason, quote_first};
 use keyed_parts::Boundaries;
 use keyed_rows::{Cells, Key};
 use keyed_text::{Marks, RowWriter};
 use std::alloc::{AllocError, Global};
 use std::fs::File;
-use std::io::Write;
+use std::io::{BufWriter, Write};
 use std::rt::Files;
+
+// How many bytes wait for the files of all parts, and for that of one at least and at most.
+const ALL_ROOM: usize = 4_194_304;
+
+const LEAST_ROOM: usize = 16_384;
+
+const MOST_ROOM: usize = 65_536;
 
 /// What a part of a table has.
 #[derive(Clone, Copy, Drop)]
@@ -30,16 +42,39 @@ const NONE: Count = Count {
     has_others: false,
 };
 
+impl Count {
+    // Notes one more row of a part that begins at a boundary, by its key, and how many bytes of memory it takes.
+    fn note(&mut self, bound: Option<&Key>, key: &Key, weight: u64) {
+        self.rows = self.rows.saturating_add(1);
+        self.bytes = self.bytes.saturating_add(weight);
+        if !self.has_others {
+            self.has_others = bound != Some(key);
+        }
+    }
+}
+
 /// What the parts of a table have.
 #[derive(Drop)]
 pub struct Counts {
     pub parts: Vec<Count>,
 }
 
+impl Counts {
+    // Notes one more row of a part, by its key, and how many bytes of memory it takes.
+    fn note(&mut self, bounds: &Boundaries<Key>, part: usize, key: &Key, weight: u64) {
+        let bound = bounds.keys().get(part.wrapping_sub(1));
+        if let Some(count) = self.parts.get_mut(part) {
+            count.note(bound, key, weight);
+        }
+    }
+}
+
 /// The files of the parts of a table.
 #[derive(Drop)]
-pub struct Sinks<F: Write + Drop> {
-    writers: Vec<RowWriter<F>>,
+pub struct Sinks<W: Write + Drop> {
+    writers: Vec<RowWriter<W>>,
+    // How many cells each row has.
+    columns: usize,
     pub counts: Counts,
 }
 
@@ -73,7 +108,7 @@ fn header_text(alloc: Global, form: Form, header: &Cells) -> Result<Vec<u8>, Rea
     Ok(quote_first(alloc, text, form.delimiter)?)
 }
 
-/// Makes the files of the parts of a table, each with the header if there is one.
+/// Makes the files of the parts of a table, each with the header if there is one. Each row has so many cells.
 ///
 /// # Errors
 ///
@@ -81,29 +116,56 @@ fn header_text(alloc: Global, form: Form, header: &Cells) -> Result<Vec<u8>, Rea
 pub fn make_sinks<'a, R: Files + AllocGlobal>(
     rt: &R,
     target: Target<'a>,
-    parts: usize,
+    bounds: &Boundaries<Key>,
     header: Option<Cells>,
-) -> Result<Sinks<R::File>, CutFault<'a>> {
+    columns: usize,
+) -> Result<Sinks<BufWriter<R::File>>, CutFault<'a>>
+    ensures { IfOk result (λ sinks. length sinks.writers.items ≡ length bounds.now.keys.items + 1) }
+{
     let alloc = rt.alloc();
-    let text = top_text(alloc, target.form, header)?;
+    let top = top_text(alloc, target.form, header)?;
+    let parts = bounds.count_parts();
     let mut writers = Vec::new(alloc);
     let mut counts = Vec::new(alloc);
-    for part in 0..parts {
-        let name = part_name(alloc, target.into, target.stem, part)?;
-        let mut file = match File::create_new(rt, name.as_str()) {
-            Ok(file) => file,
-            Err(error) => return Err(not_made(name, error, parts)),
-        };
-        if let Err(error) = file.write_all(&text) {
-            return Err(written(name, Reason::Io(error)));
-        }
-        put(&mut writers, RowWriter::new(file, marks_of(target.form)))?;
+    put(&mut writers, make_part(rt, target, &top, 0, parts)?)?;
+    put(&mut counts, NONE)?;
+    for place in 0..bounds.keys().len() {
+        put(&mut writers, make_part(rt, target, &top, place + 1, parts)?)?;
         put(&mut counts, NONE)?;
     }
     Ok(Sinks {
         writers,
+        columns,
         counts: Counts { parts: counts },
     })
+}
+
+// Makes the file of a part, of so many, with what stands at its top.
+fn make_part<'a, R: Files + AllocGlobal>(
+    rt: &R,
+    target: Target<'a>,
+    top: &[u8],
+    part: usize,
+    parts: usize,
+) -> Result<RowWriter<BufWriter<R::File>>, CutFault<'a>> {
+    let alloc = rt.alloc();
+    let name = part_name(alloc, target.into, target.stem, part)?;
+    let mut file = match File::create_new(rt, name.as_str()) {
+        Ok(file) => file,
+        Err(error) => return Err(not_made(name, error, parts)),
+    };
+    if let Err(error) = file.write_all(top) {
+        return Err(written(name, Reason::Io(error)));
+    }
+    match BufWriter::with_capacity(alloc, room_of(parts), file) {
+        Ok(file) => Ok(RowWriter::new(file, marks_of(target.form))),
+        Err(_refused) => Err(CutFault::NoMemory),
+    }
+}
+
+// How many bytes wait for the file of each of so many parts, so that all take no more than a few megabytes.
+fn room_of(parts: usize) -> usize {
+    (ALL_ROOM / parts.max(1)).clamp(LEAST_ROOM, MOST_ROOM)
 }
 
 // What stands at the top of each part: the header, if there is one.
@@ -117,7 +179,10 @@ fn top_text(alloc: Global, form: Form, header: Option<Cells>) -> Result<Vec<u8>,
     }
 }
 
-fn put<T: Drop>(items: &mut Vec<T>, item: T) -> Result<(), AllocError> {
+// Puts an item behind the others.
+fn put<T: Drop>(items: &mut Vec<T>, item: T) -> Result<(), AllocError>
+    ensures { OnOk result (items.new.items ≡ items.old.items ++ item ∷ []) }
+{
     items.push(item)?;
     Ok(())
 }
@@ -126,40 +191,40 @@ fn written<'a>(file: String, reason: Reason) -> CutFault<'a> {
     CutFault::Written { file, reason }
 }
 
-impl<F: Write + Drop> Sinks<F> {
-    /// Writes rows behind those of a part.
+impl<W: Write + Drop> Sinks<W> {
+    /// Writes a row that was read behind those of the part of its key, and notes how many bytes of memory it takes. All other parts stay
+    /// as they are.
     ///
     /// # Errors
     ///
     /// Returns the fault of the file.
-    pub fn put_rows<'a>(
+    pub fn put_row<'a>(
         &mut self,
         alloc: Global,
         target: Target<'a>,
-        columns: &Columns,
         bounds: &Boundaries<Key>,
-        part: usize,
-        rows: &[(Key, PartRow)],
-    ) -> Result<(), CutFault<'a>> {
-        let bound = bounds.keys().get(part.wrapping_sub(1));
-        let (Some(writer), Some(count)) = (
-            self.writers.get_mut(part),
-            self.counts.parts.get_mut(part),
-        ) else {
-            return Ok(());
-        };
-        for (key, row) in rows {
-            if let Err(reason) = put_row(writer, columns, key, row) {
-                let name = part_name(alloc, target.into, target.stem, part)?;
-                return Err(written(name, reason));
+        key: &Key,
+        row: &ByteRecord,
+        weight: u64,
+    ) -> Result<(), CutFault<'a>>
+        requires { length bounds.now.keys.items < length self.old.writers.items }
+        ensures put { OnOk result (PutsRowAt W.contents
+            (part_in ⟦<Key as Ord>⟧.cmp bounds.now.keys.items key.now)
+            (fitted self.old.columns (fields_of row.now)) self.old.writers.items self.new.writers.items) }
+        ensures columns { OnOk result (self.new.columns ≡ self.old.columns) }
+        ensures many { OnOk result (length self.new.writers.items ≡ length self.old.writers.items) }
+    {
+        let part = bounds.part_of(key);
+        match put_at(&mut self.writers, part, self.columns, row) {
+            Ok(()) => {
+                self.counts.note(bounds, part, key, weight);
+                Ok(())
             }
-            count.rows = count.rows.saturating_add(1);
-            count.bytes = count.bytes.saturating_add(weight_of(key, row));
-            if !count.has_others {
-                count.has_others = bound != Some(key);
+            Err(error) => {
+                let name = part_name(alloc, target.into, target.stem, part)?;
+                Err(written(name, Reason::from(error)))
             }
         }
-        Ok(())
     }
 
     /// Writes what is not written yet, closes the files, and returns what the parts have.
@@ -168,7 +233,11 @@ impl<F: Write + Drop> Sinks<F> {
     ///
     /// Returns the fault of the first file that does not take it.
     pub fn end<'a>(self, alloc: Global, target: Target<'a>) -> Result<Counts, CutFault<'a>> {
-        let Sinks { writers, counts } = self;
+        let Sinks {
+            writers,
+            columns: _,
+            counts,
+        } = self;
         for (part, writer) in writers.into_iter().enumerate() {
             if let Err(error) = writer.finish() {
                 let name = part_name(alloc, target.into, target.stem, part)?;
@@ -179,24 +248,62 @@ impl<F: Write + Drop> Sinks<F> {
     }
 }
 
-// Puts the cells of a row, behind its sign if it has one, in the order of the columns, and ends it.
-fn put_row<F: Write + Drop>(
-    writer: &mut RowWriter<F>,
-    columns: &Columns,
-    key: &Key,
-    row: &PartRow,
-) -> Result<(), Reason> {
-    if let Some(sign) = row.sign {
-        writer.put_cell(sign.cell())?;
-    }
-    let mut rest = row.cells.iter();
-    for place in &columns.order {
-        let cell = match place {
-            Place::Key(place) => key.iter().nth(*place),
-            Place::Rest => rest.next(),
-        };
-        writer.put_cell(cell.unwrap_or(b""))?;
-    }
-    writer.end_row()?;
+// Puts a row of so many cells behind those of the part at a place.
+fn put_at<W: Write + Drop>(
+    writers: &mut Vec<RowWriter<W>>,
+    place: usize,
+    count: usize,
+    row: &ByteRecord,
+) -> Result<(), csv::Error>
+    requires { place < length writers.old.items }
+    ensures { OnOk result (PutsRowAt W.contents place (fitted count (fields_of row.now)) writers.old.items writers.new.items) }
+{
+    put_fitted(&mut writers[place], count, row)?;
     Ok(())
+}
+
+// Puts a row of so many cells: one that has fewer has empty ones behind them, and of one that has more the others are left out.
+fn put_fitted<W: Write + Drop>(
+    writer: &mut RowWriter<W>,
+    count: usize,
+    row: &ByteRecord,
+) -> Result<(), csv::Error>
+    ensures { OnOk result (PutsRows W.contents writer.old writer.new (fitted count (fields_of row.now) ∷ [])) }
+{
+    if has_count(row, count) {
+        writer.put_row(row)?;
+        Ok(())
+    } else {
+        put_cells(writer, count, row)?;
+        writer.end_row()?;
+        Ok(())
+    }
+}
+
+// Whether a row has so many cells.
+fn has_count(row: &ByteRecord, count: usize) -> bool
+    ensures { IsTrue result ↔ length (fields_of row.now) ≡ count }
+{
+    row.len() == count
+}
+
+// Puts so many cells of a row, of which those that it lacks are empty.
+fn put_cells<W: Write + Drop>(
+    writer: &mut RowWriter<W>,
+    count: usize,
+    row: &ByteRecord,
+) -> Result<(), csv::Error>
+    ensures { OnOk result (PutsCells W.contents writer.old writer.new (fitted count (fields_of row.now))) }
+{
+    for place in 0..count {
+        writer.put_cell(cell_of(row, place))?;
+    }
+    Ok(())
+}
+
+// The cell of a row at a place, or an empty one behind the last.
+fn cell_of(row: &ByteRecord, place: usize) -> &[u8]
+    ensures { result.now ≡ unwrap_or (field_at (fields_of row.now) place) [] }
+{
+    row.get(place).unwrap_or(b"")
 }

@@ -1,23 +1,18 @@
 //! The tables that are cut, each with the columns of its own header, read row by row.
+ghost use Rattle.std.specs.Prelude.{◌≡◌, IfOk, IfSome, is_some};
+ghost use Rattle.keyed_files.specs.Reading.{GivesRecord, key_in, last_record};
 
 use crate::fault::{CutFault, CutReason};
 use crate::request::{Cut, CutTables, Second};
+use csv::ByteRecord;
 use keyed_files::{
-    Columns, Content, Delimiter, Fate, KeyNames, Opened, Places, Reason, Sign, Stream, at,
-    key_names,
+    Columns, Content, Delimiter, Fate, KeyNames, Opened, Places, Reason, Stream, at, key_names,
 };
 use keyed_rows::{Cells, Key};
 use std::alloc::{AllocError, Global};
 use std::fs;
 use std::io::Read;
 use std::rt::Files;
-
-/// A row as it goes into a part: its sign, where it is one of changes, and its cells beside those of its key.
-#[derive(Drop)]
-pub struct PartRow {
-    pub sign: Option<Sign>,
-    pub cells: Cells,
-}
 
 /// A table whose header is read, and its columns.
 #[derive(Drop)]
@@ -190,6 +185,19 @@ impl<'a, R> Table<'a, R> {
         self.opened.file
     }
 
+    /// How many cells a row of its parts has.
+    pub fn count_cells(&self) -> usize {
+        self.columns.order.len().saturating_add(self.count_signs())
+    }
+
+    // How many cells stand before those of the columns, each of one byte.
+    fn count_signs(&self) -> usize {
+        match self.content {
+            Content::Rows => 0,
+            Content::Changes => 1,
+        }
+    }
+
     /// The header of its parts, or none of a file with no row. Changes have a sign before the columns, and marks where the names would be
     /// taken for others.
     ///
@@ -228,33 +236,36 @@ impl<'a, R> Table<'a, R> {
 }
 
 impl<'a, R: Read + Drop> Table<'a, R> {
-    /// Reads the next row, if there is one.
+    /// Reads the next row, if there is one, and returns its key. `row` has its cells.
     ///
     /// # Errors
     ///
     /// Returns the fault of the row.
-    pub fn next_row(&mut self) -> Result<Option<(Key, PartRow)>, CutFault<'a>> {
-        let row = match self.content {
-            Content::Rows => match self.opened.source.read_row(&self.places) {
-                Ok(Some(row)) => Ok(Some((None, row))),
-                Ok(None) => Ok(None),
-                Err(reason) => Err(reason),
-            },
-            Content::Changes => match self.opened.source.read_signed(&self.places) {
-                Ok(Some(signed)) => Ok(Some((Some(signed.sign), signed.row))),
-                Ok(None) => Ok(None),
-                Err(reason) => Err(reason),
-            },
-        };
-        match at(self.opened.file, row)? {
-            Some((sign, row)) => Ok(Some((
-                row.key,
-                PartRow {
-                    sign,
-                    cells: row.cells,
-                },
-            ))),
-            None => Ok(None),
-        }
+    pub fn next_key(&mut self) -> Result<Option<Key>, CutFault<'a>>
+        ensures gives { IfOk result (λ key.
+            GivesRecord R.remaining self.old.opened.source.value self.new.opened.source.value (is_some key)) }
+        ensures key { IfOk result (λ key. IfSome key
+            (λ key. key ≡ key_in self.old.places (last_record self.new.opened.source.value))) }
+        ensures places { self.new.places ≡ self.old.places }
+    {
+        let key = at(self.opened.file, self.opened.source.read_key(&self.places))?;
+        Ok(key)
+    }
+
+    /// The row that was read last, with its sign where the table has changes.
+    pub fn row(&self) -> &ByteRecord
+        ensures { result.now ≡ self.now.opened.source.value.last }
+    {
+        self.opened.source.last_row()
+    }
+
+    /// How many bytes the cells of the row that was read last take, each with one more, but for its sign.
+    pub fn row_size(&self) -> u64 {
+        let bytes = self
+            .row()
+            .as_slice()
+            .len()
+            .saturating_sub(self.count_signs());
+        (bytes as u64).saturating_add(self.columns.order.len() as u64)
     }
 }

@@ -2,7 +2,7 @@
 
 use crate::disk::{Disk, Given, State};
 use keyed_cut::{Cut, CutTables, Divided, Second, write_cut};
-use keyed_files::{Delimiter, Form, Layout, Reading};
+use keyed_files::{Delimiter, Form, Layout, Lengths, Reading};
 use std::alloc::{AllocError, Global};
 use std::cell::RefCell;
 use std::test::Fail;
@@ -19,6 +19,14 @@ const NO_HEADER: Form = Form {
     ..FORM
 };
 
+const RAGGED: Form = Form {
+    reading: Reading {
+        lengths: Lengths::Ragged,
+        ..Reading::STRICT
+    },
+    ..FORM
+};
+
 /// A disk that takes all, with these tables.
 pub const GIVEN: Given = Given {
     inputs: &[
@@ -29,6 +37,12 @@ pub const GIVEN: Given = Given {
         ("none", "id,b\n", "id,b\n"),
         ("heavy", "id\n5\n5\n5\n5\n5\n7\n", "id\n5\n5\n5\n5\n5\n7\n"),
         ("changes", CHANGES, CHANGES),
+        ("ragged", "id,a,b\n3\n1,x,y,,\n", "id,a,b\n3\n1,x,y,,\n"),
+        (
+            "few",
+            "change,id,a\n-,3\n+,1,x,\n",
+            "change,id,a\n-,3\n+,1,x,\n",
+        ),
         ("cut", "part,n,from.id\n000,0,\n001,9,2\n002,9,3\n", ""),
         ("wide", "part,from.id,from.a\n000,,\n001,2,3\n", ""),
         ("broken", "id,a\n1,x\n2\n", ""),
@@ -149,6 +163,21 @@ const THREE: Cut<'static> = Cut {
     into: "d",
 };
 
+// Rows with fewer or more cells than there are columns, and changes with such rows.
+const UNEVEN: Cut<'static> = Cut {
+    layout: Layout {
+        form: RAGGED,
+        key: Some("id"),
+    },
+    tables: CutTables::Two {
+        left: "ragged",
+        right: "few",
+        second: Second::Changes,
+    },
+    divided: Divided::Parts(2),
+    into: "d",
+};
+
 /// Each row stands in the part of its key, in the order of the file, under the header of its table.
 #[test]
 fn rows_stand_in_the_part_of_their_key(rt: HostRuntime) -> Result<(), Fail> {
@@ -195,6 +224,15 @@ fn rows_stand_in_the_part_of_their_key(rt: HostRuntime) -> Result<(), Fail> {
              d/right.000.csv\nchange,id,-a,b\n-,1,t,\nd/right.001.csv\nchange,id,-a,b\n+,3,,s\n\
              d/cut.csv\npart,left.rows,left.bytes,right.rows,right.bytes,from.id\n\
              000,0,0,1,248,\n001,0,0,1,248,3\n",
+        ),
+        // A row that lacks cells has empty ones in its part, and one with more has as many as there are columns.
+        (
+            GIVEN,
+            UNEVEN,
+            "d/\nd/left.000.csv\nid,a,b\n1,x,y\nd/left.001.csv\nid,a,b\n3,,\n\
+             d/right.000.csv\nchange,id,a\n+,1,x\nd/right.001.csv\nchange,id,a\n-,3,\n\
+             d/cut.csv\npart,left.rows,left.bytes,right.rows,right.bytes,from.id\n\
+             000,1,250,1,246,\n001,1,246,1,244,3\n",
         ),
         // Three tables, cut where an earlier cut was.
         (

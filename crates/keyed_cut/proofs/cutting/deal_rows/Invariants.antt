@@ -1,0 +1,12 @@
+use Rattle.std.proofs.Common.{◌≡◌, ◌<◌, length}
+use Rattle.keyed_cut.specs.Dealt.{DealsOn}
+use Rattle.keyed_cut.proofs.cutting.deal_rows.Given as goal
+
+abbrev pub invariant-loop : goal.invariant-loop
+invariant-loop g l = record {
+  deals : DealsOn g.F.Read.remaining g.W.Write.contents l.bounds.keys.items l.fn.table.places l.fn.sinks.columns
+      l.fn.table.opened.source.value l.table.opened.source.value l.fn.sinks.writers.items l.sinks.writers.items;
+  many : length l.bounds.keys.items < length l.sinks.writers.items;
+  columns : l.sinks.columns ≡ l.fn.sinks.columns;
+  places : l.table.places ≡ l.fn.table.places;
+}
