@@ -103,7 +103,7 @@ pub found_same : (entries : List (List (List ℕ) × Found)) (key : List (List �
 found_same [] key = refl
 found_same (entry ∷ entries) key = by_test (key_eq key entry.0) (λ t. rw t refl) (λ e. rw e (found_same entries key))
 
--- the rows of one more row of a look-up that is shown
+-- rows with no line have the cells that they are made of
 pub parts_held : (rows : List (List (List ℕ) × List (List ℕ))) → map parts_of (as_rows rows) ≡ rows
 parts_held [] = refl
 parts_held (row ∷ rows) = ap (λ l. row ∷ l) (parts_held rows)
