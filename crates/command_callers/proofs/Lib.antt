@@ -7,4 +7,5 @@ pub mod KnownDiff
 pub mod KnownJoinText
 pub mod KnownMerge
 pub mod KnownApply
+pub mod OneSideLemmas
 pub mod Texts
