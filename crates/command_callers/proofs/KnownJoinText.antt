@@ -52,14 +52,14 @@ abbrev pub right_rest : (left right : List (List ℕ)) → List (List ℕ)
 right_rest left right = filter (is_beside (side_key left right right)) (side_names right left)
 
 -- the columns of each side
-left_columns : (key : Option (Bor (List ℕ))) (left right : List (List ℕ)) (columns : JoinColumns) → key ≡ None → AreJoinColumns key left right columns
+pub left_columns : (key : Option (Bor (List ℕ))) (left right : List (List ℕ)) (columns : JoinColumns) → key ≡ None → AreJoinColumns key left right columns
     → HaveNames (side_key left right left) (side_names left right) columns.left
 left_columns key left right columns e h =
     let names = plain_key key (left ∷ right ∷ []) h.first h.others e h.names in
     subst (λ k. HaveNames (if_empty left (join_key left right) k) (side_names left right) columns.left) names.0
     (subst (λ k. HaveNames (if_empty left k h.first) (side_names left right) columns.left) names.1 h.are_left)
 
-right_columns : (key : Option (Bor (List ℕ))) (left right : List (List ℕ)) (columns : JoinColumns) → key ≡ None → AreJoinColumns key left right columns
+pub right_columns : (key : Option (Bor (List ℕ))) (left right : List (List ℕ)) (columns : JoinColumns) → key ≡ None → AreJoinColumns key left right columns
     → HaveNames (side_key left right right) (side_names right left) columns.right
 right_columns key left right columns e h =
     let names = plain_key key (left ∷ right ∷ []) h.first h.others e h.names in

@@ -6,7 +6,7 @@ use Rattle.eob_lists.proofs.MergeLemmas.{Up}
 use Rattle.keyed_files.specs.ColumnNames.{HaveNames, column_names}
 use Rattle.keyed_files.specs.Keys.{AreColumnsBy, AreKeyNames, first_name}
 use Rattle.keyed_files.specs.Names.{repeats}
-use Rattle.keyed_files.specs.Reading.{HeadedBy, behind_header, cell_under, parts_of, row_under}
+use Rattle.keyed_files.specs.Reading.{HeadedBy, IsTable, behind_header, cell_under, parts_of, row_under}
 use Rattle.keyed_files.specs.Rows.{placed, table_rows}
 use Rattle.keyed_files.specs.Writing.{comment_of, delimiter_of, quoted_text}
 use Rattle.keyed_files.specs.declared.columns.Columns.{Columns}
@@ -14,6 +14,7 @@ use Rattle.keyed_files.specs.declared.columns.Place.{Place}
 use Rattle.keyed_files.specs.declared.request.Form.{Form}
 use Rattle.keyed_files.specs.declared.request.Settings.{Settings}
 use Rattle.keyed_files.specs.declared.source.Content.TheVariants.{Rows}
+use Rattle.keyed_rows.specs.declared.row.ReadRow.{ReadRow}
 use Rattle.keyed_tables.specs.Arranged.{AreArranged}
 use Rattle.keyed_tables.specs.Gathered.{alone}
 use Rattle.keyed_text.specs.Texts.{AreRows}
@@ -34,7 +35,7 @@ pub record IsPlain (settings : Settings) : Type 0 where
   pub renames : settings.renames ≡ None
   pub order : settings.keeps_order ≡ false
 
-plain_names : {A : Type 0} (key : Option A) (header names : List (List ℕ)) → key ≡ None → AreNames key header names → names ≡ header
+pub plain_names : {A : Type 0} (key : Option A) (header names : List (List ℕ)) → key ≡ None → AreNames key header names → names ≡ header
 plain_names None header names e h = h
 plain_names (Some key) header names e h = absurd (cc)
 
@@ -68,29 +69,39 @@ abbrev pub rows_by : (names key rest : List (List ℕ)) → List (List (List ℕ
 rows_by names key rest records = map (λ fields. (map (cell_under Rows names fields) key, map (cell_under Rows names fields) rest)) records
 
 module _ (form : Form) (text : List ℕ) (fields : List (List ℕ)) (records : List (List (List ℕ))) (known : IsKnown form text fields records)
-    (groups : Bool) (header names : List (List ℕ)) (columns : Columns) (table : TableRows) (says : SaysTable form Rows groups text header names columns table) where
-  same_records : says.1.0 ≡ fields ∷ records
-  same_records = rows-once (delimiter_of form) (comment_of form) text says.1.0 (fields ∷ records) says.1.1 known.rows
+    (header names : List (List ℕ)) (columns : Columns) (read : List ReadRow) (says : IsTable form Rows text header names columns read) where
+  same_records : says.0 ≡ fields ∷ records
+  same_records = rows-once (delimiter_of form) (comment_of form) text says.0 (fields ∷ records) says.1 known.rows
 
   -- the header is that of the text
-  pub header_is : header ≡ fields
-  header_is =
-      let headed : HeadedBy form.has_header Rows (fields ∷ records) header = subst (λ rs. HeadedBy form.has_header Rows rs header) same_records says.1.2 in
+  pub read_header : header ≡ fields
+  read_header =
+      let headed : HeadedBy form.has_header Rows (fields ∷ records) header = subst (λ rs. HeadedBy form.has_header Rows rs header) same_records says.2 in
       let named : HeadedBy true Rows (fields ∷ records) header = subst (λ b. HeadedBy b Rows (fields ∷ records) header) known.headed headed in
       named known.once
 
   -- the rows are those of its records
-  rows_are : map parts_of says.0 ≡ rows_by names columns.key columns.rest records
+  rows_are : map parts_of read ≡ rows_by names columns.key columns.rest records
   rows_are =
-      says.1.3 ∙ ap (λ rs. map (row_under Rows names columns) (behind_header form.has_header rs)) same_records
+      says.3 ∙ ap (λ rs. map (row_under Rows names columns) (behind_header form.has_header rs)) same_records
       ∙ ap (λ b. map (row_under Rows names columns) (behind_header b (fields ∷ records))) known.headed
 
-  -- and where these are known and no two have one key, so is the table
+  pub read_rows : (known_names key rest : List (List ℕ)) → names ≡ known_names → columns.key ≡ key → columns.rest ≡ rest
+      → map parts_of read ≡ rows_by known_names key rest records
+  read_rows known_names key rest en ek er =
+      rows_are ∙ ap (λ k. rows_by names k columns.rest records) ek ∙ ap (λ r. rows_by names key r records) er ∙ ap (λ n. rows_by n key rest records) en
+
+module _ (form : Form) (text : List ℕ) (fields : List (List ℕ)) (records : List (List (List ℕ))) (known : IsKnown form text fields records)
+    (groups : Bool) (header names : List (List ℕ)) (columns : Columns) (table : TableRows) (says : SaysTable form Rows groups text header names columns table) where
+  pub header_is : header ≡ fields
+  header_is = read_header form text fields records known header names columns says.0 says.1
+
+  -- where the rows are known and no two have one key, so is the table
   pub table_is : (known_names key rest : List (List ℕ)) (rows : KeyedRows) → names ≡ known_names → columns.key ≡ key → columns.rest ≡ rest
       → IsPermutation (rows_by known_names key rest records) rows → Up key_cmp (λ k. ⊤) rows → table ≡ map alone rows
   table_is known_names key rest rows en ek er moved up =
       let parts : map parts_of says.0 ≡ rows_by known_names key rest records =
-      rows_are ∙ ap (λ k. rows_by names k columns.rest records) ek ∙ ap (λ r. rows_by names key r records) er ∙ ap (λ n. rows_by n key rest records) en in
+      read_rows form text fields records known header names columns says.0 says.1 known_names key rest en ek er in
       gathered key_cmp key_total key_exact rows (map parts_of says.0) table up (subst (λ l. IsPermutation l rows) (sym parts) moved) says.2.0
 
 -- rows that come out in the order of keys are those that were to

@@ -1,4 +1,5 @@
 pub mod KeptOnce
+pub mod WrittenParts
 pub mod KnownRows
 pub mod KnownJoins
 pub mod KnownCells
@@ -7,5 +8,7 @@ pub mod KnownDiff
 pub mod KnownJoinText
 pub mod KnownMerge
 pub mod KnownApply
+pub mod KnownLayers
+pub mod KnownLookup
 pub mod OneSideLemmas
 pub mod Texts

@@ -64,6 +64,14 @@ pub with_x_and_y : AreRows 44 None (codes "id,a\n1,x\n2,y\n") (id_a ∷ one_x �
 unfolding csv_on_literals Reached
 with_x_and_y = (st.StartRecord, [], (_, refl, refl, (_, refl, refl, (_, refl, refl, (refl, refl)))), refl)
 
+pub with_y_and_z : AreRows 44 None (codes "id,a\n1,y\n2,z\n") (id_a ∷ one_y ∷ two_z ∷ [])
+unfolding csv_on_literals Reached
+with_y_and_z = (st.StartRecord, [], (_, refl, refl, (_, refl, refl, (_, refl, refl, (refl, refl)))), refl)
+
+pub with_y_then_x : AreRows 44 None (codes "id,a\n2,y\n1,x\n") (id_a ∷ two_y ∷ one_x ∷ [])
+unfolding csv_on_literals Reached
+with_y_then_x = (st.StartRecord, [], (_, refl, refl, (_, refl, refl, (_, refl, refl, (refl, refl)))), refl)
+
 pub with_z_and_w : AreRows 44 None (codes "id,b\n2,z\n3,w\n") (id_b ∷ two_z ∷ three_w ∷ [])
 unfolding csv_on_literals Reached
 with_z_and_w = (st.StartRecord, [], (_, refl, refl, (_, refl, refl, (_, refl, refl, (refl, refl)))), refl)

@@ -20,6 +20,10 @@ pub record IsTableInStyle (text : List ℕ) (answer : Answer) : Type 0 where
 abbrev pub HasRows : List (List (List ℕ)) → Answer → Type 0
 HasRows rows answer = (names : List (List ℕ)) × (answer.bytes.items ≡ quoted_first 44 (rows_text 44 None (join_heading names ++ rows)))
 
+-- the text of these rows is appended, with commas, under some header
+abbrev pub AddsRows : List (List (List ℕ)) → (old new : List ℕ) → Type 0
+AddsRows rows old new = (names : List (List ℕ)) × (new ≡ old ++ quoted_first 44 (rows_text 44 None (join_heading names ++ rows)))
+
 -- an answer is a table, or a report
 abbrev pub IsTableOrReport : Answer → Type 0
 IsTableOrReport answer = ((answer.status ≡ 0) × (answer.outcome ≡ Made)) ⊎ Stops answer

@@ -1,5 +1,5 @@
-//! Callers of the commands: what a program knows of the answers to `diff`, `apply`, `merge` and `join` of texts that it knows when it is
-//! written.
+//! Callers of the commands: what a program knows of the answers to `diff`, `apply`, `merge`, `join`, `overlay` and `lookup` of texts that it
+//! knows when it is written.
 #![tactic(auto)]
 
 ghost use Rattle.std.specs.Prelude.{◌≡◌, ◌∷◌, [], IfOk, codes};
@@ -7,6 +7,9 @@ ghost use Rattle.keyed_commands.specs.Answers.{Stops};
 ghost use Rattle.keyed_commands.specs.declared.answers.Outcome.TheVariants.{Made};
 ghost use Rattle.command_callers.specs.Answered.{HasRows, IsTableInStyle, IsTableOrReport};
 ghost use Rattle.command_callers.specs.OneSide.{OneSideLaw};
+
+pub mod layers;
+pub mod lookups;
 
 use keyed_commands::{
     Answer, Comparing, Conflicts, Delimiter, Fault, Form, Format, JoinNames, Joining, Kind, Look,

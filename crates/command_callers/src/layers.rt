@@ -1,0 +1,64 @@
+//! A caller of `overlay`.
+ghost use Rattle.std.specs.Prelude.{◌≡◌, ◌∷◌, [], IfOk, codes};
+ghost use Rattle.keyed_commands.specs.OverlayAnswers.{OverlaysStreams};
+ghost use Rattle.command_callers.specs.Answered.{IsTableInStyle};
+
+use crate::PLAIN;
+use keyed_commands::{Answer, Fault, Layer, Reason, Settings, Stream, overlay};
+use std::alloc::{AllocError, Global};
+use std::io::Read;
+
+/// Returns two tables, one over the other: the row of the upper one under the key of both, and the one that it adds.
+///
+/// # Errors
+///
+/// Returns the errors of `overlay`; also want of memory.
+pub fn rows_over(alloc: Global) -> Result<Answer, Fault<'static>>
+    ensures { IfOk result (IsTableInStyle (codes "id,a\n1,y\n2,z\n")) }
+{
+    let below = Stream {
+        file: "below.csv",
+        delimiter: None,
+        reader: Ok(b"id,a\n1,x\n".as_slice()),
+    };
+    let above = Stream {
+        file: "above.csv",
+        delimiter: None,
+        reader: Ok(b"id,a\n1,y\n2,z\n".as_slice()),
+    };
+    overlay_two(alloc, PLAIN, Layer::Rows, below, above)
+}
+
+// Lays a table over another.
+fn overlay_two<'a, R: Read + Drop>(
+    alloc: Global,
+    settings: Settings<'a>,
+    layer: Layer,
+    below: Stream<'a, R>,
+    above: Stream<'a, R>,
+) -> Result<Answer, Fault<'a>>
+    ensures { IfOk result (OverlaysStreams R.remaining settings.entry layer (below.entry ∷ above.entry ∷ [])) }
+{
+    let file = below.file;
+    match two_of(alloc, below, above) {
+        Ok(tables) => overlay(alloc, settings, layer, tables),
+        Err(AllocError) => Err(Fault {
+            file,
+            reason: Reason::NoMemory,
+        }),
+    }
+}
+
+// Two tables, the lower one first.
+fn two_of<'a, R: Drop>(
+    alloc: Global,
+    below: Stream<'a, R>,
+    above: Stream<'a, R>,
+) -> Result<Vec<Stream<'a, R>>, AllocError>
+    ensures { IfOk result (λ tables. tables.items ≡ below.entry ∷ above.entry ∷ []) }
+{
+    let mut tables = Vec::new(alloc);
+    tables.push(below)?;
+    tables.push(above)?;
+    Ok(tables)
+}

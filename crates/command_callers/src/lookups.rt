@@ -1,0 +1,47 @@
+//! A caller of `lookup`.
+ghost use Rattle.std.specs.Prelude.{◌≡◌, ◌∷◌, [], IfOk, OnOk, codes};
+ghost use Rattle.command_callers.specs.Answered.{AddsRows};
+
+use keyed_commands::{
+    Delimiter, Fault, Finding, Form, JoinNames, Layout, LookupKind, Reading, RowFormat, Stream,
+    lookup,
+};
+use std::alloc::Global;
+
+const LAYOUT: Layout<'static> = Layout {
+    form: Form {
+        delimiter: Delimiter::COMMA,
+        has_header: true,
+        reading: Reading::STRICT,
+    },
+    key: None,
+};
+
+const LEFT: Finding<'static> = Finding {
+    kind: LookupKind::Left,
+    names: JoinNames::PLAIN,
+    format: RowFormat::Csv,
+};
+
+/// Appends the rows of a table in their order, each with what another one has under its key, and returns the status, 0.
+///
+/// # Errors
+///
+/// Returns the errors of `lookup`.
+pub fn found_rows(alloc: Global, output: &mut Vec<u8>) -> Result<u8, Fault<'static>>
+    ensures status { IfOk result (λ status. status ≡ 0) }
+    ensures rows { OnOk result (AddsRows ((codes "2" ∷ codes "y" ∷ codes "z" ∷ []) ∷ (codes "1" ∷ codes "x" ∷ codes "" ∷ []) ∷ [])
+        output.old.items output.new.items) }
+{
+    let left = Stream {
+        file: "left.csv",
+        delimiter: None,
+        reader: Ok(b"id,a\n2,y\n1,x\n".as_slice()),
+    };
+    let right = Stream {
+        file: "right.csv",
+        delimiter: None,
+        reader: Ok(b"id,b\n2,z\n3,w\n".as_slice()),
+    };
+    lookup(alloc, LAYOUT, LEFT, left, right, output)
+}
