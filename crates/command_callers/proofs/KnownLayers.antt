@@ -7,7 +7,7 @@ use Rattle.eob_both.specs.declared.either_or_both.EitherOrBoth.{EitherOrBoth}
 use Rattle.eob_both.specs.Places.{from_places}
 use Rattle.eob_lists.specs.Join.{Rising, value_under}
 use Rattle.eob_lists.proofs.MergeLemmas.{IsJoin-merge, Up, merge}
-use Rattle.eob_joins.specs.Tables.{Tabulates, kept}
+use Rattle.eob_joins.specs.Tables.{kept}
 use Rattle.eob_joins.proofs.TableLemmas.{kept_law, retabled, same_table}
 use Rattle.keyed_files.specs.ColumnNames.{HaveNames, column_names, is_beside, place_under_key}
 use Rattle.keyed_files.specs.Keys.{AreColumnsBy, first_name}

@@ -1,5 +1,5 @@
 -- What one side alone changed stands in the table that a merge makes.
-use Rattle.std.proofs.Common.{◌≡◌, ◌∙◌, ℕ, true, false, List, Option, None, Some, ap, refl, sym, subst, true≢false}
+use Rattle.std.proofs.Common.{◌≡◌, ◌∙◌, ℕ, true, List, Option, None, Some, ap, refl, sym, subst, true≢false}
 use Rattle.std.specs.Prelude.{MatchBool}
 use Rattle.std.specs.Option.{option_eq}
 use Rattle.eob_joins.specs.Versions.{merged_place}

@@ -145,6 +145,13 @@ one_z_y = codes "1" ∷ codes "z" ∷ codes "y" ∷ []
 abbrev pub one_x_w : List (List ℕ)
 one_x_w = codes "1" ∷ codes "x" ∷ codes "w" ∷ []
 
+abbrev pub one__w : List (List ℕ)
+one__w = codes "1" ∷ codes "" ∷ codes "w" ∷ []
+
+pub with__w : AreRows 44 None (codes "id,a,b\n1,,w\n") (id_a_b ∷ one__w ∷ [])
+unfolding csv_on_literals Reached
+with__w = (st.StartRecord, [], (_, refl, refl, (_, refl, refl, (refl, refl))), refl)
+
 pub with_x_y : AreRows 44 None (codes "id,a,b\n1,x,y\n") (id_a_b ∷ one_x_y ∷ [])
 unfolding csv_on_literals Reached
 with_x_y = (st.StartRecord, [], (_, refl, refl, (_, refl, refl, (refl, refl))), refl)

@@ -1,4 +1,4 @@
-//! A caller of `overlay`.
+//! Callers of `overlay`.
 ghost use Rattle.std.specs.Prelude.{◌≡◌, ◌∷◌, [], IfOk, codes};
 ghost use Rattle.keyed_commands.specs.OverlayAnswers.{OverlaysStreams};
 ghost use Rattle.command_callers.specs.Answered.{IsTableInStyle};
@@ -27,6 +27,27 @@ pub fn rows_over(alloc: Global) -> Result<Answer, Fault<'static>>
         reader: Ok(b"id,a\n1,y\n2,z\n".as_slice()),
     };
     overlay_two(alloc, PLAIN, Layer::Rows, below, above)
+}
+
+/// Returns two tables, one over the other cell by cell: a cell of the upper one that is empty leaves that of the lower one.
+///
+/// # Errors
+///
+/// Returns the errors of `overlay`; also want of memory.
+pub fn cells_over(alloc: Global) -> Result<Answer, Fault<'static>>
+    ensures { IfOk result (IsTableInStyle (codes "id,a,b\n1,x,w\n")) }
+{
+    let below = Stream {
+        file: "below.csv",
+        delimiter: None,
+        reader: Ok(b"id,a,b\n1,x,y\n".as_slice()),
+    };
+    let above = Stream {
+        file: "above.csv",
+        delimiter: None,
+        reader: Ok(b"id,a,b\n1,,w\n".as_slice()),
+    };
+    overlay_two(alloc, PLAIN, Layer::Cells, below, above)
 }
 
 // Lays a table over another.

@@ -1,4 +1,4 @@
-//! A caller of `lookup`.
+//! Callers of `lookup`.
 ghost use Rattle.std.specs.Prelude.{◌≡◌, ◌∷◌, [], IfOk, OnOk, codes};
 ghost use Rattle.command_callers.specs.Answered.{AddsRows};
 
@@ -19,6 +19,18 @@ const LAYOUT: Layout<'static> = Layout {
 
 const LEFT: Finding<'static> = Finding {
     kind: LookupKind::Left,
+    names: JoinNames::PLAIN,
+    format: RowFormat::Csv,
+};
+
+const INNER: Finding<'static> = Finding {
+    kind: LookupKind::Inner,
+    names: JoinNames::PLAIN,
+    format: RowFormat::Csv,
+};
+
+const ANTI: Finding<'static> = Finding {
+    kind: LookupKind::Anti,
     names: JoinNames::PLAIN,
     format: RowFormat::Csv,
 };
@@ -44,4 +56,48 @@ pub fn found_rows(alloc: Global, output: &mut Vec<u8>) -> Result<u8, Fault<'stat
         reader: Ok(b"id,b\n2,z\n3,w\n".as_slice()),
     };
     lookup(alloc, LAYOUT, LEFT, left, right, output)
+}
+
+/// Appends the rows of a table whose keys another one has, each with what it has there, and returns the status, 0.
+///
+/// # Errors
+///
+/// Returns the errors of `lookup`.
+pub fn matched_rows(alloc: Global, output: &mut Vec<u8>) -> Result<u8, Fault<'static>>
+    ensures status { IfOk result (λ status. status ≡ 0) }
+    ensures rows { OnOk result (AddsRows ((codes "2" ∷ codes "y" ∷ codes "z" ∷ []) ∷ []) output.old.items output.new.items) }
+{
+    let left = Stream {
+        file: "left.csv",
+        delimiter: None,
+        reader: Ok(b"id,a\n2,y\n1,x\n".as_slice()),
+    };
+    let right = Stream {
+        file: "right.csv",
+        delimiter: None,
+        reader: Ok(b"id,b\n2,z\n3,w\n".as_slice()),
+    };
+    lookup(alloc, LAYOUT, INNER, left, right, output)
+}
+
+/// Appends the rows of a table whose keys another one lacks, and returns the status, 0.
+///
+/// # Errors
+///
+/// Returns the errors of `lookup`.
+pub fn missed_rows(alloc: Global, output: &mut Vec<u8>) -> Result<u8, Fault<'static>>
+    ensures status { IfOk result (λ status. status ≡ 0) }
+    ensures rows { OnOk result (AddsRows ((codes "1" ∷ codes "x" ∷ []) ∷ []) output.old.items output.new.items) }
+{
+    let left = Stream {
+        file: "left.csv",
+        delimiter: None,
+        reader: Ok(b"id,a\n2,y\n1,x\n".as_slice()),
+    };
+    let right = Stream {
+        file: "right.csv",
+        delimiter: None,
+        reader: Ok(b"id,b\n2,z\n3,w\n".as_slice()),
+    };
+    lookup(alloc, LAYOUT, ANTI, left, right, output)
 }

@@ -1,0 +1,22 @@
+use Rattle.std.proofs.Common.{[], ◌∷◌, refl}
+use Rattle.std.proofs.lemmas.List.Sorted.{IsPermutation-refl}
+use Rattle.std.proofs.lemmas.Result.{IfOk-weaker}
+use Rattle.std.specs.Prelude.{codes}
+use Rattle.csv.specs.Records.{field_at}
+use Rattle.csv.specs.Writing.{escaped, fields_text, is_blank}
+use Rattle.keyed_files.specs.ColumnNames.{distinct}
+use Rattle.keyed_files.specs.Names.{repeats}
+use Rattle.keyed_files.specs.Rows.{placed}
+use Rattle.command_callers.proofs.KnownLayers.{of_two, overlay_whole}
+use Rattle.command_callers.proofs.KnownTables.{known_text}
+use Rattle.command_callers.proofs.Texts.{id_a_b, one__w, one_x_y, with__w, with_x_y}
+use Rattle.command_callers.proofs.layers.cells_over.Goals as goal
+
+pub returns : goal.returns
+unfolding distinct escaped field_at fields_text is_blank placed repeats
+returns c =
+    IfOk-weaker c.overlay_two.result _ _ (λ answer told.
+    overlay_whole (of_two _ _ _ _ _ _ _ _ told refl refl) (record { key = refl; renames = refl; order = refl }) id_a_b id_a_b (one_x_y ∷ []) (one__w ∷ [])
+    (known_text _ _ _ _ _ c.as_slice.ensures refl with_x_y refl) (known_text _ _ _ _ _ c.as_slice-2.ensures refl with__w refl)
+    ((codes "1" ∷ [], codes "x" ∷ codes "y" ∷ []) ∷ []) ((codes "1" ∷ [], codes "" ∷ codes "w" ∷ []) ∷ []) (tt, tt) (tt, tt)
+    (IsPermutation-refl _) (IsPermutation-refl _)) c.overlay_two.ensures
