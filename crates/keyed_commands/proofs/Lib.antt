@@ -1,9 +1,14 @@
 pub mod AnswerLemmas
 pub mod ChangeLemmas
+pub mod ChangesBackLemmas
+pub mod ColumnsBackLemmas
 pub mod ComeLemmas
+pub mod GatheredLemmas
 pub mod JoinLemmas
 pub mod KeyLemmas
 pub mod LawLemmas
+pub mod OnceLemmas
 pub mod ReadLemmas
 pub mod SignedLemmas
 pub mod TextAnswerLemmas
+pub mod TextLawLemmas

@@ -53,7 +53,7 @@ module _ {R : Type 0} (rem : R → Option (List ℕ)) (settings : Settings) (old
       → AreChangeColumns settings.key named.first.source.value.header.names named.next.source.value.header.names job.columns.now
       → DiffsSources rem job named answer → DiffsStreams rem settings old new answer
   diff-streams first next renamed same form groups unordered columned read =
-      both-known {T = λ t u. DiffsTexts rem settings (form_of settings.form old) (form_of settings.form new) t u answer} _ _ first next (λ t u opened beside. record {
+      both-known {T = λ t u. DiffsTexts settings (form_of settings.form old) (form_of settings.form new) t u answer} _ _ first next (λ t u opened beside. record {
         columns = job.columns.now;
         header = versions.first.source.value.header.names;
         names = named.first.source.value.header.names;

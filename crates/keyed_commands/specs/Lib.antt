@@ -9,3 +9,4 @@ pub mod Laws
 pub mod Lost
 pub mod MergedTexts
 pub mod TablesRead
+pub mod TextLaws

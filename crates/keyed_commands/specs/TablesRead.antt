@@ -66,6 +66,23 @@ pub record ChangesBetween (form : Form) (columns : Columns) (unordered : Type 0)
   pub changes : IsDiffText form columns keys by_cells marked old new text
   pub order : unordered → (keys ≡ None) × (by_cells ≡ true)
 
+-- an answer to `diff` as CSV of two texts: each says a table under the columns of both, and the answer is the text of exactly the changes
+-- between them, whose header marks each column by what became of it
+pub record DiffsTexts (settings : Settings) (old_form new_form : Form) (old_text new_text : List ℕ) (answer : Answer) : Type 0 where
+  pub columns : Columns
+  pub header : List (List ℕ)
+  pub names : List (List ℕ)
+  pub next_header : List (List ℕ)
+  pub named : AreNamesBy settings header names
+  pub columned : AreChangeColumns settings.key names next_header columns
+  pub old : TableRows
+  pub new : TableRows
+  pub old_says : SaysTable old_form Rows settings.groups old_text header names columns old
+  pub new_says : SaysTable new_form Rows settings.groups new_text next_header next_header columns new
+  pub changes : ChangesBetween settings.form columns (settings.keeps_order ≡ false) old new answer.bytes.items
+  pub marks : changes.marked ≡ marked_names names next_header
+  pub status : IsStatusBetween names next_header old new answer.status
+
 module _ {R : Type 0} (remaining : R → Option (List ℕ)) where
   -- an answer to `diff` as CSV of two sources: the text of exactly the changes between their tables
   pub record DiffsSources (job : Job Columns) (versions : Two R) (answer : Answer) : Type 0 where
@@ -76,23 +93,6 @@ module _ {R : Type 0} (remaining : R → Option (List ℕ)) where
     pub changes : ChangesBetween job.form job.columns.now (IsUnordered job) old new answer.bytes.items
     pub marks : changes.marked ≡ marked_names versions.first.source.value.header.names versions.next.source.value.header.names
     pub status : IsStatusBetween versions.first.source.value.header.names versions.next.source.value.header.names old new answer.status
-
-  -- the same of two texts: each says a table under the columns of both, and the answer is the text of exactly the changes between them, whose
-  -- header marks each column by what became of it
-  pub record DiffsTexts (settings : Settings) (old_form new_form : Form) (old_text new_text : List ℕ) (answer : Answer) : Type 0 where
-    pub columns : Columns
-    pub header : List (List ℕ)
-    pub names : List (List ℕ)
-    pub next_header : List (List ℕ)
-    pub named : AreNamesBy settings header names
-    pub columned : AreChangeColumns settings.key names next_header columns
-    pub old : TableRows
-    pub new : TableRows
-    pub old_says : SaysTable old_form Rows settings.groups old_text header names columns old
-    pub new_says : SaysTable new_form Rows settings.groups new_text next_header next_header columns new
-    pub changes : ChangesBetween settings.form columns (settings.keeps_order ≡ false) old new answer.bytes.items
-    pub marks : changes.marked ≡ marked_names names next_header
-    pub status : IsStatusBetween names next_header old new answer.status
 
   -- what `diff` as CSV answers of two streams whose texts are known
   abbrev pub DiffsStreams : Settings → Stream R → Stream R → Answer → Type 0

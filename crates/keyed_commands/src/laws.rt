@@ -1,6 +1,7 @@
-//! What follows of the answers of commands, of tables in memory. Calling one of these functions does nothing: its contract gives the
-//! caller's proof the law.
+//! What follows of the answers of commands, of tables in memory and of texts. Calling one of these functions does nothing: its contract
+//! gives the caller's proof the law.
 ghost use Rattle.keyed_commands.specs.Laws.{ChangesFitLaw, ChangesMakeLaw, DiffApplyLaw, DiffReadsLaw};
+ghost use Rattle.keyed_commands.specs.TextLaws.{DiffSaysLaw, OneChangesLaw, OneTableLaw};
 
 /// The changes between two tables fit the old one, and made to it they give the new one: what `apply` answers to them is the text of the
 /// new table's rows. Call it where changes that `diff` found are applied.
@@ -14,4 +15,17 @@ pub fn law_diff_apply()
 /// such a text is read.
 pub fn law_diff_reads()
     ensures { DiffReadsLaw }
+{}
+
+/// A text says one table, and one list of changes, under the same header, names and columns. Call it where two facts say what one text
+/// says.
+pub fn law_text_once()
+    ensures table { OneTableLaw }
+    ensures changes { OneChangesLaw }
+{}
+
+/// What `diff` writes of two texts says, where it is read as changes, exactly the changes between the tables that the texts say: no row is
+/// lost, none comes, and each cell comes back. Call it where such a text is read by the columns of both texts.
+pub fn law_diff_says()
+    ensures { DiffSaysLaw }
 {}
