@@ -3,10 +3,12 @@ pub mod ChangeLemmas
 pub mod ChangesBackLemmas
 pub mod ColumnsBackLemmas
 pub mod ComeLemmas
+pub mod DiffedTextLemmas
 pub mod GatheredLemmas
 pub mod JoinLemmas
 pub mod KeyLemmas
 pub mod LawLemmas
+pub mod LossLemmas
 pub mod OnceLemmas
 pub mod ReadLemmas
 pub mod SignedLemmas

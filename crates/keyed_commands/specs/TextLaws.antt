@@ -1,18 +1,23 @@
 -- What follows of the texts that commands read and write.
-use Rattle.std.specs.Prelude.{◌≡◌, ℕ, Bool, true, false, not, List, filter}
+use Rattle.std.specs.Prelude.{◌≡◌, ℕ, Bool, true, false, not, List, [], ◌∷◌, None, filter}
 use Rattle.eob_joins.specs.Changes.{changed}
 use Rattle.eob_joins.specs.Tables.{IsKeptOfJoin}
 use Rattle.keyed_files.specs.ColumnNames.{has_name, or_header}
+use Rattle.keyed_files.specs.Names.{repeats}
+use Rattle.keyed_files.specs.Rows.{placed}
 use Rattle.keyed_files.specs.Writing.{comment_of, delimiter_of}
 use Rattle.keyed_files.specs.declared.columns.Columns.{Columns}
 use Rattle.keyed_files.specs.declared.request.Form.{Form}
 use Rattle.keyed_files.specs.declared.request.Settings.{Settings}
 use Rattle.keyed_files.specs.declared.source.Content.{Content}
-use Rattle.keyed_text.specs.Texts.{BeginsComments, PartsCells}
-use Rattle.keyed_commands.specs.Answers.{TableChanges, TableRows, key_cmp, rows_eq}
+use Rattle.keyed_files.specs.declared.source.Content.TheVariants.{Rows}
+use Rattle.keyed_text.specs.Texts.{BeginsComments, PartsCells, ReadsAs}
+use Rattle.keyed_commands.specs.Answers.{IsTableText, TableChanges, TableRows, key_cmp, rows_eq}
+use Rattle.keyed_commands.specs.AppliedTexts.{AppliesTexts, IsInStyle}
 use Rattle.keyed_commands.specs.ChangesRead.{SaysChanges}
 use Rattle.keyed_commands.specs.TablesRead.{DiffsTexts, SaysTable}
 use Rattle.keyed_commands.specs.declared.answers.Answer.{Answer}
+use Rattle.keyed_commands.specs.declared.answers.Outcome.TheVariants.{Made}
 
 -- a text says one table
 abbrev pub OneTableLaw : Type 0
@@ -38,6 +43,52 @@ DiffSaysLaw = (settings : Settings) (old_form new_form : Form) (old_text new_tex
     → SaysChanges settings.form settings.groups answer.bytes.items header header columns changes
     → IsKeptOfJoin key_cmp (changed rows_eq) diffs.old diffs.new changes
 
+-- no name stands twice in the header of a text
+abbrev pub NamesOnce : Form → List ℕ → Type 0
+NamesOnce form text = (header : List (List ℕ)) (rows : List (List (List ℕ))) → ReadsAs (delimiter_of form) (comment_of form) text header rows
+    → repeats [] header ≡ false
+
 -- the names of the columns that go from one header to another; one that is empty says nothing of columns
 abbrev pub gone_between : List (List ℕ) → List (List ℕ) → List (List ℕ)
 gone_between old new = filter (λ name. not (has_name (or_header new old) name)) old
+
+-- an answer is the text of a table by key, and its status is 0
+abbrev pub MakesTable : Form → Columns → TableRows → Answer → Type 0
+MakesTable form columns table answer = (answer.status ≡ 0) × (answer.outcome ≡ Made) × IsTableText form columns None true table answer.bytes.items
+
+-- an answer is the text of the table that a text says, under the names of its header, or under others where it has none
+pub record AnswersTableOf (settings : Settings) (form : Form) (text : List ℕ) (others : List (List ℕ)) (answer : Answer) : Type 0 where
+  pub header : List (List ℕ)
+  pub columns : Columns
+  pub table : TableRows
+  pub made : Answer
+  pub names : placed columns.order.items columns.key columns.rest ≡ or_header header others
+  pub says : SaysTable form Rows settings.groups text header header columns table
+  pub answers : MakesTable settings.form columns table made
+  pub styled : IsInStyle made answer
+
+-- what `apply` answers of the first of two texts, and of what `diff` wrote between both, is the text of the table that the second one says:
+-- where both have headers, in which no name stands twice, rows come out by key, those columns go that the second one lacks, and both
+-- commands read the first one under the same names, none twice, and by the same key
+abbrev pub DiffedTextByLaw : Type 0
+DiffedTextByLaw = (settings : Settings) (old_form new_form : Form) (old_text new_text : List ℕ) (difference answer : Answer)
+    → settings.form.has_header ≡ true → old_form.has_header ≡ true → new_form.has_header ≡ true
+    → PartsCells (delimiter_of settings.form) → BeginsComments (delimiter_of settings.form) (comment_of settings.form)
+    → settings.keeps_order ≡ false → NamesOnce old_form old_text → NamesOnce new_form new_text
+    → (diffs : DiffsTexts settings old_form new_form old_text new_text difference)
+    → (applies : AppliesTexts settings old_form settings.form old_text difference.bytes.items answer)
+    → applies.gone ≡ gone_between diffs.names diffs.next_header
+    → applies.names ≡ diffs.names → repeats [] diffs.names ≡ false → applies.columns.key ≡ diffs.columns.key
+    → AnswersTableOf settings new_form new_text diffs.names answer
+
+-- the same where the key is the first column, and no column has another name
+abbrev pub DiffedTextLaw : Type 0
+DiffedTextLaw = (settings : Settings) (old_form new_form : Form) (old_text new_text : List ℕ) (difference answer : Answer)
+    → settings.form.has_header ≡ true → old_form.has_header ≡ true → new_form.has_header ≡ true
+    → PartsCells (delimiter_of settings.form) → BeginsComments (delimiter_of settings.form) (comment_of settings.form)
+    → settings.keeps_order ≡ false → NamesOnce old_form old_text → NamesOnce new_form new_text
+    → settings.key ≡ None → settings.renames ≡ None
+    → (diffs : DiffsTexts settings old_form new_form old_text new_text difference)
+    → (applies : AppliesTexts settings old_form settings.form old_text difference.bytes.items answer)
+    → applies.gone ≡ gone_between diffs.names diffs.next_header
+    → AnswersTableOf settings new_form new_text diffs.names answer

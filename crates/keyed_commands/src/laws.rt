@@ -1,7 +1,7 @@
 //! What follows of the answers of commands, of tables in memory and of texts. Calling one of these functions does nothing: its contract
 //! gives the caller's proof the law.
 ghost use Rattle.keyed_commands.specs.Laws.{ChangesFitLaw, ChangesMakeLaw, DiffApplyLaw, DiffReadsLaw};
-ghost use Rattle.keyed_commands.specs.TextLaws.{DiffSaysLaw, OneChangesLaw, OneTableLaw};
+ghost use Rattle.keyed_commands.specs.TextLaws.{DiffSaysLaw, DiffedTextByLaw, DiffedTextLaw, OneChangesLaw, OneTableLaw};
 
 /// The changes between two tables fit the old one, and made to it they give the new one: what `apply` answers to them is the text of the
 /// new table's rows. Call it where changes that `diff` found are applied.
@@ -28,4 +28,13 @@ pub fn law_text_once()
 /// lost, none comes, and each cell comes back. Call it where such a text is read by the columns of both texts.
 pub fn law_diff_says()
     ensures { DiffSaysLaw }
+{}
+
+/// What `apply` answers of the first of two texts, and of what `diff` wrote between both, is the text of the table that the second one
+/// says, in the order of its keys, and no cell is lost. Each text has a header, in which no name stands twice, and both commands read the
+/// first text under the same names and by the same key, as they do where the key is the first column and no column has another name. Call
+/// it where changes that `diff` wrote are applied to the text that they are from.
+pub fn law_diff_apply_texts()
+    ensures by { DiffedTextByLaw }
+    ensures plain { DiffedTextLaw }
 {}

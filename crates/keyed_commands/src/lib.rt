@@ -46,7 +46,9 @@ pub use keyed_files::{
     ShownName, SortedChanges, SortedRequest, Stream, Unit, View, Wanted, at,
 };
 pub use keyed_reports::Counts;
-pub use laws::{law_diff_apply, law_diff_reads, law_diff_says, law_text_once};
+pub use laws::{
+    law_diff_apply, law_diff_apply_texts, law_diff_reads, law_diff_says, law_text_once,
+};
 pub use layers::overlay;
 pub use lookups::lookup;
 pub use output::write_into_file;
