@@ -1,8 +1,8 @@
 -- The columns of changes, and the names in their header: rows that are placed under them and picked again.
-use Rattle.std.proofs.Common.{◌≡◌, ◌∙◌, ◌+◌, ◌<◌, ℕ, suc, zero, Bool, true, false, cond, List, [], ◌∷◌, ◌++◌, None, Option, Some, arith, filter, get_or, length, map, nat_eq, ne_eqb, refl, sym, ap, ap₂, subst, take, true≢false}
+use Rattle.std.proofs.Common.{◌≡◌, ◌∙◌, ◌+◌, ℕ, suc, zero, Bool, true, false, List, [], ◌∷◌, ◌++◌, None, Option, Some, arith, filter, get_or, length, map, nat_eq, ne_eqb, refl, sym, ap, ap₂, subst, take, true≢false}
 use Rattle.std.specs.Prelude.{◌&&◌, ◌||◌, is_none, not, option_map, unwrap_or, if◌then◌else◌}
 use Rattle.std.specs.Cmp.Lexicographic.{bytes_decides, nat_list_eq_equiv, pointwise}
-use Rattle.std.specs.List.{AllByRecursion, IsDistinct, list_any, position}
+use Rattle.std.specs.List.{AllByRecursion, IsDistinct, list_any}
 use Rattle.std.proofs.lemmas.List.{append-nil, get_or-map}
 use Rattle.std.proofs.lemmas.List.Elements.{filter-append}
 use Rattle.std.proofs.lemmas.List.Folds.{list_any-append}
@@ -183,6 +183,10 @@ pub written-once : (old new : List (List ℕ)) → repeats [] old ≡ false → 
 written-once old [] once_old once_new = once_old
 written-once old (name ∷ new) once_old once_new = ap (repeats []) (header_full name new old) ∙ once_new
 
+pub header-within : (header other : List (List ℕ)) → Within header (or_header header other)
+header-within [] other name e = absurd (true≢false (sym e))
+header-within (first ∷ header) other name e = ap (λ h. has_name h name) (header_full first header other) ∙ e
+
 -- what `apply` writes of columns, of which those that go are gone: the others
 module _ (all written gone old : List (List ℕ)) (parted : all ≡ written ++ gone) (apart : Apart gone written) (once : repeats [] written ≡ false)
     (once_all : repeats [] all ≡ false) (within : Within old all) where
@@ -256,11 +260,11 @@ gone-apart old [] name e = refl
 gone-apart old (first ∷ new) name e = lacking old (first ∷ new) name (subst (λ h. has_name (without old h) name ≡ true) (header_full first new old) e)
 
 -- cells that are placed in the order of columns and read under the names of all
-map_agree : {X Y : Type 0} (f g : X → Y) → ((x : X) → f x ≡ g x) → (xs : List X) → map f xs ≡ map g xs
+pub map_agree : {X Y : Type 0} (f g : X → Y) → ((x : X) → f x ≡ g x) → (xs : List X) → map f xs ≡ map g xs
 map_agree f g h [] = refl
 map_agree f g h (x ∷ xs) = ap₂ (λ y ys. y ∷ ys) (h x) (map_agree f g h xs)
 
-field_is : (fields : List (List ℕ)) (i : ℕ) → unwrap_or (field_at fields i) [] ≡ get_or fields i []
+pub field_is : (fields : List (List ℕ)) (i : ℕ) → unwrap_or (field_at fields i) [] ≡ get_or fields i []
 unfolding field_at
 field_is [] i = refl
 field_is (x ∷ xs) zero = refl
@@ -270,7 +274,7 @@ first_is : (cell : List ℕ) (cells : List (List ℕ)) → field_at (cell ∷ ce
 unfolding field_at
 first_is cell cells = refl
 
-same_name : (name other : List ℕ) → pointwise nat_eq name other ≡ true → name ≡ other
+pub same_name : (name other : List ℕ) → pointwise nat_eq name other ≡ true → name ≡ other
 same_name name other e = (bytes_decides name other).0 e
 
 cell_by : (all : List (List ℕ)) (f : List ℕ → List ℕ) (cell name : List ℕ) (at : Option ℕ) → place_in all name ≡ at → (at ≡ None → f name ≡ [])
@@ -291,7 +295,7 @@ lacks_if : (all names : List (List ℕ)) → Within names all → (name : List �
 lacks_if all names within name none true t = absurd (true≢false (sym (within name t) ∙ none))
 lacks_if all names within name none false f = refl
 
-lacks : (all names : List (List ℕ)) → Within names all → (name : List ℕ) → place_in all name ≡ None → place_in names name ≡ None
+pub lacks : (all names : List (List ℕ)) → Within names all → (name : List ℕ) → place_in all name ≡ None → place_in names name ≡ None
 lacks all names within name e =
     let none : has_name all name ≡ false = not_true (has_name all name) (sym (none_at (pointwise nat_eq name) all) ∙ ap is_none e) in
     none_there (place_in names name) (none_at (pointwise nat_eq name) names ∙ lacks_if all names within name none (has_name names name) refl)

@@ -23,9 +23,10 @@ use Rattle.keyed_commands.specs.AppliedTexts.{AnswersApplied, AppliesTexts}
 use Rattle.keyed_commands.specs.TablesRead.{AreNames, AreNamesBy, DiffsTexts, SaysTable}
 use Rattle.keyed_commands.specs.TextLaws.{AnswersTableOf, AreReadAs, DiffedTextByLaw, DiffedTextLaw, MakesTable, NamesOnce, gone_between}
 use Rattle.keyed_commands.specs.declared.answers.Answer.{Answer}
-use Rattle.keyed_commands.proofs.ColumnsBackLemmas.{WritesOf, gone-apart, writes-alike, written-once}
+use Rattle.keyed_commands.proofs.ColumnsBackLemmas.{WritesOf, gone-apart, header-within, writes-alike, written-once}
 use Rattle.keyed_commands.proofs.LossLemmas.{loses-none}
 use Rattle.keyed_commands.proofs.LawLemmas.{diff_apply}
+use Rattle.keyed_commands.proofs.TableBackLemmas.{says-only}
 use Rattle.keyed_commands.proofs.TextLawLemmas.{all_of, changes-header, diff-says, groups-are, one-table-law, table-rises}
 
 -- names where no column has another one
@@ -151,6 +152,10 @@ module _ (settings : Settings) (old_form new_form : Form) (old_text new_text : L
         (table-rises new_form settings.groups new_text diffs.next_header diffs.next_header diffs.columns diffs.new diffs.new_says)
         changes_are applied.fits
 
+    -- the names that are written, and those of the new table among them
+    writes_names : WriteNames diffs.columned.others (or_header diffs.next_header diffs.names) (all ∷ diffs.names ∷ applies.gone ∷ []) applies.columns
+    writes_names = subst (λ w. WriteNames diffs.columned.others w (all ∷ diffs.names ∷ applies.gone ∷ []) applies.columns) written.0 writes
+
     -- no cell is lost: the new table has none in columns that go
     keeps_cells : loses applies.columns diffs.new ≡ false
     keeps_cells =
@@ -158,16 +163,28 @@ module _ (settings : Settings) (old_form new_form : Form) (old_text new_text : L
         (λ name e. gone-apart diffs.names diffs.next_header name (subst (λ g. has_name g name ≡ true) is_gone e)) written.1 diffs.new
         (groups-are new_form settings.groups new_text diffs.next_header diffs.next_header diffs.columns diffs.new diffs.new_says)
 
+    new_says : SaysTable new_form Rows settings.groups new_text diffs.next_header diffs.next_header applies.columns diffs.new
+    new_says =
+        says_alike new_form settings.groups new_text diffs.next_header diffs.next_header diffs.next_header diffs.next_header diffs.columns applies.columns diffs.new refl refl alike diffs.new_says
+
+    made_is : MakesTable settings.form applies.columns diffs.new applies.applied.made
+    made_is = subst (λ b. MatchBool b (Stops applies.applied.made) (MakesTable settings.form applies.columns diffs.new applies.applied.made)) keeps_cells answers
+
+    written_once : repeats [] (or_header diffs.next_header diffs.names) ≡ false
+    written_once = written-once diffs.names diffs.next_header old_once new_once
+
     pub diffed-text : AnswersTableOf settings new_form new_text diffs.names answer
     diffed-text = record {
       header = diffs.next_header;
       columns = applies.columns;
       table = diffs.new;
       made = applies.applied.made;
-      names = (writes-names diffs.columned.others (changed_names diffs.names all applies.gone) (all ∷ diffs.names ∷ applies.gone ∷ []) applies.columns writes
-          (ap (repeats []) written.0 ∙ written-once diffs.names diffs.next_header old_once new_once)).0 ∙ written.0;
-      says = says_alike new_form settings.groups new_text diffs.next_header diffs.next_header diffs.next_header diffs.next_header diffs.columns applies.columns diffs.new refl refl alike diffs.new_says;
-      answers = subst (λ b. MatchBool b (Stops applies.applied.made) (MakesTable settings.form applies.columns diffs.new applies.applied.made)) keeps_cells answers;
+      names = (writes-names diffs.columned.others (or_header diffs.next_header diffs.names) (all ∷ diffs.names ∷ applies.gone ∷ []) applies.columns writes_names written_once).0;
+      says = new_says;
+      answers = made_is;
+      reads = λ some unmarked. says-only diffs.next_header diffs.columned.others (or_header diffs.next_header diffs.names) (all ∷ diffs.names ∷ applies.gone ∷ []) applies.columns
+          (header-within diffs.next_header diffs.names) writes_names written_once settings.form new_form settings.groups applies.applied.made.bytes.items new_text diffs.next_header diffs.new
+          has parts begins new_says made_is.2 some unmarked;
       styled = applies.applied.styled;
     }
 

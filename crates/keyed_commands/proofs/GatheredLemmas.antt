@@ -1,5 +1,5 @@
 -- Rows by key: of the same rows there is one table, and the rows of a table gather to it again.
-use Rattle.std.proofs.Common.{◌≡◌, ◌≢◌, ◌∙◌, ◌+◌, zero, suc, ℕ, Bool, true, false, cond, List, [], ◌∷◌, ◌++◌, All, Option, Some, length, map, filter, arith, refl, sym, ap, ap₂, subst}
+use Rattle.std.proofs.Common.{◌≡◌, ◌≢◌, ◌∙◌, ◌+◌, zero, suc, Bool, true, false, cond, List, [], ◌∷◌, ◌++◌, All, Option, Some, length, map, filter, arith, refl, sym, ap, subst}
 use Rattle.std.specs.Prelude.{⊤, IfSome, MatchBool}
 use Rattle.std.specs.Cmp.{IsTotalOrder, tied_itself}
 use Rattle.std.specs.List.{flat_map}

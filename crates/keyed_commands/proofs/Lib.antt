@@ -12,5 +12,6 @@ pub mod LossLemmas
 pub mod OnceLemmas
 pub mod ReadLemmas
 pub mod SignedLemmas
+pub mod TableBackLemmas
 pub mod TextAnswerLemmas
 pub mod TextLawLemmas

@@ -1,13 +1,12 @@
 -- No cell is lost with columns that go, where a table has none of them.
-use Rattle.std.proofs.Common.{◌≡◌, ◌≢◌, ◌∙◌, ℕ, suc, Bool, true, false, cond, List, [], ◌∷◌, ◌++◌, All, None, Option, Some, drop, filter, length, map, refl, sym, ap, ap₂, subst, true≢false}
+use Rattle.std.proofs.Common.{◌≡◌, ◌≢◌, ◌∙◌, ℕ, suc, Bool, true, false, cond, List, [], ◌∷◌, ◌++◌, All, None, Option, Some, drop, filter, length, map, refl, sym, ap, ap₂, true≢false}
 use Rattle.std.specs.Prelude.{◌+◌, ◌&&◌, ◌||◌, is_none, ltb, nat_eq, not, option_map}
 use Rattle.std.specs.Cmp.Lexicographic.{pointwise}
 use Rattle.std.specs.List.{list_any}
-use Rattle.std.proofs.lemmas.List.{map-append}
 use Rattle.std.proofs.lemmas.List.Elements.{All-head, All-tail}
 use Rattle.keyed_files.specs.ColumnNames.{has_name, is_beside, place_by, place_under_key}
 use Rattle.keyed_files.specs.Names.{place_in}
-use Rattle.keyed_files.specs.Reading.{cell_under, row_under}
+use Rattle.keyed_files.specs.Reading.{cell_under}
 use Rattle.keyed_files.specs.declared.columns.Columns.{Columns}
 use Rattle.keyed_files.specs.declared.columns.Place.{Place}
 use Rattle.keyed_files.specs.declared.source.Content.TheVariants.{Rows}

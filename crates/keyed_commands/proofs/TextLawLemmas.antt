@@ -1,5 +1,5 @@
 -- A text says one table and one list of changes, and what `diff` writes says the changes that it found.
-use Rattle.std.proofs.Common.{◌≡◌, ◌≢◌, ◌∙◌, ℕ, Bool, true, false, List, [], ◌∷◌, ◌++◌, All, None, Option, Some, map, refl, sym, ap, ap₂, subst, subst₂}
+use Rattle.std.proofs.Common.{◌≡◌, ◌≢◌, ◌∙◌, ℕ, Bool, true, false, List, [], ◌∷◌, All, None, map, refl, sym, ap, ap₂, subst, subst₂}
 use Rattle.std.specs.Prelude.{IfSome}
 use Rattle.std.specs.List.{flat_map}
 use Rattle.std.proofs.lemmas.List.Elements.{All-cons, All-nil, All-weaker}

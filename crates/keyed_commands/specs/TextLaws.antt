@@ -1,11 +1,12 @@
 -- What follows of the texts that commands read and write.
-use Rattle.std.specs.Prelude.{◌≡◌, ℕ, Bool, true, false, not, List, [], ◌∷◌, None, filter}
+use Rattle.std.specs.Prelude.{◌≡◌, ◌≢◌, ◌++◌, ℕ, Bool, true, false, not, List, [], None, filter}
 use Rattle.eob_joins.specs.Changes.{changed}
 use Rattle.eob_joins.specs.Tables.{IsKeptOfJoin}
 use Rattle.keyed_files.specs.ColumnNames.{has_name, or_header}
+use Rattle.keyed_files.specs.Encodings.{is_marked}
 use Rattle.keyed_files.specs.Names.{repeats}
-use Rattle.keyed_files.specs.Rows.{placed}
-use Rattle.keyed_files.specs.Writing.{comment_of, delimiter_of}
+use Rattle.keyed_files.specs.Rows.{heading, placed, table_rows}
+use Rattle.keyed_files.specs.Writing.{comment_of, delimiter_of, text_of}
 use Rattle.keyed_files.specs.declared.columns.Columns.{Columns}
 use Rattle.keyed_files.specs.declared.request.Form.{Form}
 use Rattle.keyed_files.specs.declared.request.Settings.{Settings}
@@ -56,7 +57,16 @@ gone_between old new = filter (λ name. not (has_name (or_header new old) name))
 abbrev pub MakesTable : Form → Columns → TableRows → Answer → Type 0
 MakesTable form columns table answer = (answer.status ≡ 0) × (answer.outcome ≡ Made) × IsTableText form columns None true table answer.bytes.items
 
--- an answer is the text of the table that a text says, under the names of its header, or under others where it has none
+-- the rows that a table is written as, behind its header
+abbrev pub table_text_rows : Form → Columns → TableRows → List (List (List ℕ))
+table_text_rows form columns table = heading form None columns ++ table_rows columns.order.items table
+
+-- what a text says, where it is read as a table by these names and columns, is this table and no other
+abbrev pub SaysOnly : Form → Bool → List ℕ → List (List ℕ) → Columns → TableRows → Type 0
+SaysOnly form groups text names columns table = (other : TableRows) → SaysTable form Rows groups text names names columns other → other ≡ table
+
+-- an answer is the text of the table that a text says, under the names of its header, or under others where it has none; read again, it
+-- says that table and no other, where it has a column and its text begins with no mark of an encoding
 pub record AnswersTableOf (settings : Settings) (form : Form) (text : List ℕ) (others : List (List ℕ)) (answer : Answer) : Type 0 where
   pub header : List (List ℕ)
   pub columns : Columns
@@ -65,6 +75,8 @@ pub record AnswersTableOf (settings : Settings) (form : Form) (text : List ℕ) 
   pub names : placed columns.order.items columns.key columns.rest ≡ or_header header others
   pub says : SaysTable form Rows settings.groups text header header columns table
   pub answers : MakesTable settings.form columns table made
+  pub reads : or_header header others ≢ [] → is_marked (text_of settings.form (table_text_rows settings.form columns table)) ≡ false
+      → SaysOnly settings.form settings.groups made.bytes.items (or_header header others) columns table
   pub styled : IsInStyle made answer
 
 -- what `apply` answers of the first of two texts, and of what `diff` wrote between both, is the text of the table that the second one says:
