@@ -4,6 +4,8 @@ pub mod ColumnNames
 pub mod Delimiters
 pub mod Encodings
 pub mod Explained
+pub mod Going
+pub mod Gone
 pub mod Headers
 pub mod JoinedRows
 pub mod Keys
