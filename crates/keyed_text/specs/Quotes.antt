@@ -1,6 +1,8 @@
 -- Where a text stands as far as quotes go, byte by byte, and which texts have their quotes in order.
-use Rattle.std.specs.Prelude.{◌≡◌, ◌==◌, ◌-◌, ◌||◌, length, option_map, slice_get, unwrap_or, Bool, true, false, ℕ, List, [], ◌∷◌, Option, Some, None, if◌then◌else◌}
+use Rattle.std.specs.Prelude.{◌≡◌, ◌==◌, ◌-◌, ◌||◌, length, option_map, slice_get, unwrap_or, Bool, ℕ, List, [], ◌∷◌, Option, Some, None, if◌then◌else◌}
 use Rattle.csv.specs.Machine.{is_byte}
+use Rattle.memchr.specs.Find as find
+use Rattle.memchr.specs.Find.{Nowhere, Passes}
 use Rattle.keyed_text.specs.declared.quotes.Marks.{Marks}
 use Rattle.keyed_text.specs.declared.quotes.Place.{Place}
 use Rattle.keyed_text.specs.declared.quotes.Place.TheVariants as at
@@ -45,6 +47,10 @@ then_place (Some p) more = more p
 unfoldable pub place_behind : Marks → Place → List ℕ → Option Place
 place_behind m p [] = Some p
 place_behind m p (b ∷ rest) = then_place (place_after m p b) (λ q. place_behind m q rest)
+
+-- no byte is a quote
+abbrev pub IsQuoteFree : List ℕ → Type 0
+IsQuoteFree bytes = Nowhere (Passes (find.is_byte 34) bytes) 0 (length bytes)
 
 -- a place from which bytes with no quote among them lead to a place that the last of them decides
 abbrev pub IsOutside : Marks → Place → Type 0

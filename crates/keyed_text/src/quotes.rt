@@ -2,7 +2,8 @@
 //! the closing one. The kit's reader of CSV takes any text, so that a quote which is never closed would swallow the rest of a file.
 ghost use Rattle.std.specs.Prelude.{◌≡◌, ◌↔◌, IsTrue};
 ghost use Rattle.keyed_text.specs.Quotes.{cell_place, closed_place, ends_line, place_after, place_behind};
-ghost use Rattle.keyed_text.specs.Quotes.{IsOutside, place_behind_plain, plain_place, row_place};
+ghost use Rattle.keyed_text.specs.Quotes.{IsOutside, IsQuoteFree, place_behind_plain, plain_place, row_place, then_place};
+ghost use Rattle.keyed_text.specs.declared.quotes.Place.TheVariants.{Closed};
 
 use memchr::memchr;
 
@@ -76,14 +77,63 @@ impl Marks {
 
     /// Returns the place behind more bytes, or `None` where one of them stands between a closing quote and the end of its cell.
     ///
-    /// Bytes with no quote among them, outside of quotes, take next to no time.
+    /// Quotes are looked for, so that bytes with no quote among them take next to no time, unless a byte begins lines that are passed over.
     pub fn behind(self, place: Place, bytes: &[u8]) -> Option<Place>
         ensures { result ≡ place_behind self place bytes.now }
     {
-        if self.is_outside(place) && memchr(b'"', bytes).is_none() {
-            Some(self.behind_plain(place, bytes))
+        let mut place = place;
+        let mut rest = bytes;
+        'quotes: while let Some(at) = memchr(b'"', rest) {
+            place = self.behind_quote(place, &rest[..at])?;
+            rest = &rest[at + 1..];
+        }
+        self.behind_run(place, rest)
+    }
+
+    // The place behind bytes with no quote among them, and behind the quote that follows them.
+    fn behind_quote(self, place: Place, run: &[u8]) -> Option<Place>
+        requires { IsQuoteFree run.now }
+        ensures { result ≡ then_place (place_behind self place run.now) (λ place. place_after self place 34) }
+    {
+        let place = self.behind_run(place, run)?;
+        self.after(place, b'"')
+    }
+
+    // The place behind bytes with no quote among them.
+    fn behind_run(self, place: Place, run: &[u8]) -> Option<Place>
+        requires { IsQuoteFree run.now }
+        ensures { result ≡ place_behind self place run.now }
+    {
+        match place {
+            Place::Quoted => Some(Place::Quoted),
+            Place::Closed => self.behind_closed(run),
+            _ => self.behind_other(place, run),
+        }
+    }
+
+    // The place behind bytes with no quote among them, the first of which follows a closing quote.
+    fn behind_closed(self, run: &[u8]) -> Option<Place>
+        requires { IsQuoteFree run.now }
+        ensures { result ≡ place_behind self Closed run.now }
+    {
+        match run.split_first() {
+            Some((first, rest)) => {
+                let place = self.closed(*first)?;
+                self.behind_other(place, rest)
+            }
+            None => Some(Place::Closed),
+        }
+    }
+
+    // The place behind bytes with no quote among them: at once from outside of quotes, and else one by one.
+    fn behind_other(self, place: Place, run: &[u8]) -> Option<Place>
+        requires { IsQuoteFree run.now }
+        ensures { result ≡ place_behind self place run.now }
+    {
+        if self.is_outside(place) {
+            Some(self.behind_plain(place, run))
         } else {
-            self.behind_each(place, bytes)
+            self.behind_each(place, run)
         }
     }
 
