@@ -77,10 +77,14 @@ impl Marks {
 
     /// Returns the place behind more bytes, or `None` where one of them stands between a closing quote and the end of its cell.
     ///
-    /// Quotes are looked for, so that bytes with no quote among them take next to no time, unless a byte begins lines that are passed over.
+    /// Quotes are looked for, so that bytes with no quote among them take next to no time. Where a byte begins lines that are passed over,
+    /// each byte is followed.
     pub fn behind(self, place: Place, bytes: &[u8]) -> Option<Place>
         ensures { result ≡ place_behind self place bytes.now }
     {
+        if self.comment.is_some() {
+            return self.behind_each(place, bytes);
+        }
         let mut place = place;
         let mut rest = bytes;
         'quotes: while let Some(at) = memchr(b'"', rest) {
