@@ -1,6 +1,7 @@
 pub mod BufferLemmas
 pub mod ColumnLemmas
 pub mod HeaderLemmas
+pub mod JoinedLemmas
 pub mod KeyLemmas
 pub mod LawLemmas
 pub mod LineLemmas

@@ -6,6 +6,7 @@ pub mod Encodings
 pub mod Explained
 pub mod FoundRows
 pub mod Headers
+pub mod JoinedNames
 pub mod JoinedRows
 pub mod KeyText
 pub mod Keys

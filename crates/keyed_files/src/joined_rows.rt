@@ -4,13 +4,10 @@ ghost use Rattle.keyed_files.specs.JoinedRows.{join_heading, joined_row, joined_
 ghost use Rattle.keyed_files.specs.JoinedRows.{rows_beside, side_count, side_row};
 ghost use Rattle.keyed_files.specs.Writing.{PutsCells, PutsRows};
 
-use crate::columns::{Columns, JoinColumns};
+use crate::columns::JoinColumns;
 use crate::fault::Reason;
-use crate::names::Names;
-use crate::request::{Joining, Kind};
 use crate::written::Written;
 use keyed_rows::{Cells, Group, Key};
-use std::alloc::{AllocError, Global};
 
 /// What a row of a join has: the rows of each side, and a cell that stands before its key, if there is one.
 #[derive(Clone, Copy)]
@@ -143,116 +140,5 @@ fn row_of(side: Option<&Group>, place: usize) -> Option<&Cells>
     match side {
         Some(group) => group.rows().get(place),
         None => None,
-    }
-}
-
-/// The names of the columns of a join: that of the first column, if it is an outer one, those of the key, and those of both tables. A name
-/// that both have is told apart by what stands before it. Of a join that has the cells of the left table alone there is none.
-///
-/// # Errors
-///
-/// Returns `JoinedTwice` if two of the names are the same, and `NoMemory` if a request for memory was refused.
-pub fn join_header(
-    alloc: Global,
-    how: Joining<'_>,
-    columns: &JoinColumns,
-) -> Result<Cells, Reason> {
-    let names = how.names;
-    let first = match how.kind {
-        Kind::Outer => Some(names.side.as_bytes()),
-        Kind::Inner | Kind::Left | Kind::Right => None,
-        Kind::Semi | Kind::Anti => return Ok(Cells::new(alloc)),
-    };
-    let (left, right) = (&columns.left, &columns.right);
-    let mut header = JoinHeader::new(alloc, first)?;
-    for name in &left.key {
-        header.put(alloc, name)?;
-    }
-    let of_right = Names::of_cells(alloc, &right.rest)?;
-    header.put_side(alloc, names.left, &left.rest, &of_right)?;
-    header.put_side(
-        alloc,
-        names.right,
-        &right.rest,
-        &names_of_left(alloc, left)?,
-    )?;
-    Ok(header.names)
-}
-
-// The names of all columns of the left table.
-pub(crate) fn names_of_left(alloc: Global, left: &Columns) -> Result<Names, AllocError> {
-    let mut names = Names::of_cells(alloc, &left.key)?;
-    for name in &left.rest {
-        names.add(alloc, name)?;
-    }
-    Ok(names)
-}
-
-// The names of the columns of a join, no two of which are the same.
-#[derive(Drop)]
-pub(crate) struct JoinHeader<'a> {
-    first: Option<&'a [u8]>,
-    pub names: Cells,
-    there: Names,
-}
-
-impl<'a> JoinHeader<'a> {
-    // The name of the first column, if there is one.
-    pub fn new(alloc: Global, first: Option<&'a [u8]>) -> Result<Self, Reason> {
-        let mut header = JoinHeader {
-            first,
-            names: Cells::new(alloc),
-            there: Names::new(alloc),
-        };
-        if let Some(name) = first {
-            header.put(alloc, name)?;
-        }
-        Ok(header)
-    }
-
-    // Puts the name of the next column.
-    pub fn put(&mut self, alloc: Global, name: &[u8]) -> Result<(), Reason> {
-        if self.there.add(alloc, name)? {
-            self.names.push(name)?;
-            return Ok(());
-        }
-        Err(Reason::JoinedTwice {
-            name: Vec::from_slice(alloc, name)?,
-            option: if self.first == Some(name) {
-                "--side"
-            } else {
-                "--prefix"
-            },
-        })
-    }
-
-    // Puts the names of a side, with a word before each that the other side has too.
-    pub fn put_side(
-        &mut self,
-        alloc: Global,
-        word: &str,
-        names: &Cells,
-        others: &Names,
-    ) -> Result<(), Reason> {
-        for name in names {
-            self.put_told(alloc, word, name, others)?;
-        }
-        Ok(())
-    }
-
-    // Puts the name of the next column, with a word before it if it is one of others.
-    pub fn put_told(
-        &mut self,
-        alloc: Global,
-        word: &str,
-        name: &[u8],
-        others: &Names,
-    ) -> Result<(), Reason> {
-        let mut told = Vec::new(alloc);
-        if others.has(name) {
-            told.extend_from_slice(word.as_bytes())?;
-        }
-        told.extend_from_slice(name)?;
-        self.put(alloc, &told)
     }
 }

@@ -16,6 +16,7 @@ mod fate;
 mod fault;
 mod first_cell;
 mod header;
+mod joined_names;
 mod joined_rows;
 mod key_record;
 mod laws;
@@ -42,7 +43,8 @@ pub use encoding::Encoding;
 pub use fate::Fate;
 pub use fault::{Fault, Reason};
 pub use first_cell::quote_first;
-pub use joined_rows::{Sides, join_header};
+pub use joined_names::{join_header, lookup_header};
+pub use joined_rows::Sides;
 pub use key_record::{KeyNames, key_names};
 pub use keyed_numbers::{Decimal, is_same_cell};
 pub use laws::{
@@ -52,7 +54,7 @@ pub use lined_up::{
     Colour, Grid, Line, Shown, ShownCell, ShownName, heading, line_under, line_up, put_both,
     put_shown, put_version,
 };
-pub use lookups::{Finding, Lookup, LookupKind, lookup_header};
+pub use lookups::{Finding, Lookup, LookupKind};
 pub use merging::{Conflicts, Merging, Unit};
 pub use new_columns::{changed_columns, marked_names, merged_columns};
 pub use opened::{Opened, Stream, Two, at};

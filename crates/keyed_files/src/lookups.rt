@@ -4,14 +4,11 @@ ghost use Rattle.keyed_files.specs.FoundRows.{found_cells, found_row};
 ghost use Rattle.keyed_files.specs.Rows.{placed};
 ghost use Rattle.keyed_files.specs.Writing.{PutsCells, PutsRows};
 
-use crate::columns::{Columns, JoinColumns, Place};
+use crate::columns::{Columns, JoinColumns};
 use crate::fault::{Fault, Reason};
-use crate::joined_rows::{JoinHeader, names_of_left};
-use crate::names::Names;
 use crate::request::{JoinNames, RowFormat, check_files};
 use crate::written::Written;
 use keyed_rows::{Cells, Key};
-use std::alloc::Global;
 
 /// Which rows of the left table a look-up gives.
 #[derive(Clone, Copy, Debug)]
@@ -50,40 +47,6 @@ impl Lookup<'_> {
     pub fn check_stdin<'a>(self) -> Result<(), Fault<'a>> {
         check_files(&[self.left, self.right])
     }
-}
-
-/// The names of the columns of a look-up: those of the left table in their order, and behind them those of the right one without its key. A
-/// name that both have is told apart by what stands before it, but not that of a column of the left key. Of rows that are not found there
-/// are the left names alone.
-///
-/// # Errors
-///
-/// Returns `JoinedTwice` if two of the names are the same, and `NoMemory` if a request for memory was refused.
-pub fn lookup_header(
-    alloc: Global,
-    how: Finding<'_>,
-    columns: &JoinColumns,
-) -> Result<Cells, Reason> {
-    let none = Cells::new(alloc);
-    let right = match how.kind {
-        LookupKind::Left | LookupKind::Inner => &columns.right.rest,
-        LookupKind::Anti => &none,
-    };
-    let left = &columns.left;
-    let of_right = Names::of_cells(alloc, right)?;
-    let mut header = JoinHeader::new(alloc, None)?;
-    let mut rest = left.rest.iter();
-    for place in &left.order {
-        match place {
-            Place::Key(place) => header.put(alloc, left.key.get(*place).unwrap_or(b""))?,
-            Place::Rest => {
-                let name = rest.next().unwrap_or(b"");
-                header.put_told(alloc, how.names.left, name, &of_right)?;
-            }
-        }
-    }
-    header.put_side(alloc, how.names.right, right, &names_of_left(alloc, left)?)?;
-    Ok(header.names)
 }
 
 impl Written {
