@@ -1,12 +1,16 @@
 -- The names of a header, one after the other.
-use Rattle.std.proofs.Common.{◌≡◌, ◌∙◌, ◌+◌, ◌-◌, ◌<◌, ◌≤◌, ℕ, List, [], ◌∷◌, ◌++◌, Bool, true, false, arith, drop, take, length, length-drop, get_or, nat_eq, refl, sym, ap, zero, suc}
+use Rattle.std.proofs.Common.{◌≡◌, ◌∙◌, ◌+◌, ◌-◌, ◌<◌, ◌≤◌, ℕ, List, [], ◌∷◌, ◌++◌, Bool, true, false, arith, drop, take, length, length-drop, get_or, nat_eq, refl, sym, ap, ap₂, zero, suc}
 use Rattle.std.specs.Prelude.{◌||◌, unwrap_or}
 use Rattle.std.specs.Cmp.Lexicographic.{pointwise}
-use Rattle.std.specs.List.{list_any}
-use Rattle.std.proofs.lemmas.List.{drop_more, get_or-drop, get_or-map, length-map, take_more}
+use Rattle.std.specs.List.{flat_map, list_any}
+use Rattle.std.proofs.lemmas.List.{append-nil, drop_more, get_or-drop, get_or-map, length-map, take_more}
+use Rattle.std.proofs.lemmas.Grind.{flat_map-append}
 use Rattle.csv.specs.Records.{field_at}
+use Rattle.keyed_files.specs.Going.{GoneSaid, going_behind, name_if_goes, names_going, with_going}
 use Rattle.keyed_files.specs.Headers.{HeaderOf, NamesOf, cells_before, name_in, names_behind}
 use Rattle.keyed_files.specs.Names.{repeats}
+use Rattle.keyed_files.specs.declared.fate.Fate.{Fate}
+use Rattle.keyed_files.specs.declared.fate.Fate.TheVariants as fate
 use Rattle.keyed_files.specs.declared.source.Content.{Content}
 use Rattle.keyed_files.specs.declared.source.Content.TheVariants as content
 
@@ -76,3 +80,30 @@ pub header-read : (kind : Content) (has_header has_first : Bool) (fields names :
 header-read kind has_header false fields names e h said = absurd (cc e)
 header-read kind false true fields names e h said = absurd (cc h)
 header-read kind true true fields names e h said = said
+
+-- the names of the columns that go, one after the other
+with-going : (f : Fate) (name : List ℕ) (gone : List (List ℕ)) → with_going f name gone ≡ gone ++ name_if_goes f name
+with-going fate.Goes name gone = refl
+with-going fate.Comes name gone = sym (append-nil gone)
+with-going fate.Stays name gone = sym (append-nil gone)
+
+pub none-gone : (before i : ℕ) (fields gone : List (List ℕ)) → i ≡ 0 → gone ≡ [] → gone ≡ flat_map (going_behind before) (take i (drop before fields))
+none-gone before i fields gone none is = rw none is
+
+pub one-goes : (before place next : ℕ) (fields old put new : List (List ℕ)) (f : Fate) (name cell : List ℕ) → before ≤ place → place < length fields
+    → next ≡ (place - before) + 1 → cell ≡ unwrap_or (field_at fields place) [] → name_if_goes f name ≡ going_behind before cell → put ≡ old → new ≡ with_going f name put
+    → old ≡ flat_map (going_behind before) (take (place - before) (drop before fields)) → new ≡ flat_map (going_behind before) (take next (drop before fields))
+one-goes before place next fields old put new f name cell le lt after is goes same puts h =
+    let inside : place - before < length (drop before fields) = omega (arith, length-drop before fields, le, lt) in
+    let whole : before + (place - before) ≡ place = omega (arith, le) in
+    let here : cell ≡ get_or (drop before fields) (place - before) [] =
+    is ∙ field-is fields place ∙ ap (λ i. get_or fields i []) (sym whole) ∙ sym (get_or-drop before fields (place - before) []) in
+    puts ∙ with-going f name put ∙ ap₂ (λ a b. a ++ b) (same ∙ h) (goes ∙ ap (going_behind before) here ∙ sym (append-nil (going_behind before (get_or (drop before fields) (place - before) []))))
+    ∙ sym (flat_map-append (going_behind before) (take (place - before) (drop before fields)) (get_or (drop before fields) (place - before) [] ∷ []))
+    ∙ ap (flat_map (going_behind before)) (sym (take_more (drop before fields) (place - before) [] inside)) ∙ ap (λ i. flat_map (going_behind before) (take i (drop before fields))) (sym after)
+
+pub gone-read : (has_first has_header : Bool) (fields gone : List (List ℕ)) → has_first ≡ true → has_header ≡ true → gone ≡ names_going 1 fields
+    → GoneSaid has_first has_header fields gone
+gone-read false has_header fields gone e h said = absurd (cc e)
+gone-read true false fields gone e h said = absurd (cc h)
+gone-read true true fields gone e h said = said

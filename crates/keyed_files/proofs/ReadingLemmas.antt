@@ -8,6 +8,8 @@ use Rattle.csv.specs.Records.{fields_of}
 use Rattle.keyed_text.specs.Streams.{GivesRow, HasRead}
 use Rattle.keyed_text.specs.Texts.{AreRows}
 use Rattle.keyed_text.specs.declared.row_reader.RowReader.{RowReader}
+use Rattle.keyed_files.specs.Going.{GoneSaid}
+use Rattle.keyed_files.specs.Gone.{KnowsGone}
 use Rattle.keyed_files.specs.Headers.{HeaderOf, NamesOf}
 use Rattle.keyed_files.specs.Lines.{Begins, checked_left, lines_left}
 use Rattle.keyed_files.specs.Reading.{GivesRecord, HasGiven, HasGivenIn, IsHeader, IsOpen, next_of, text_read}
@@ -94,3 +96,24 @@ pub opened-known : {R : Type 0} (rem : R → Option (List ℕ)) (form : Form) (k
 opened-known rem form kind None old source made same content begun has_first reads is header = tt
 opened-known rem form kind (Some text) old source made same content begun has_first reads is header =
     rw same (opened rem form kind text old made content begun has_first reads is header)
+
+-- the columns that go, of a source of changes whose first record is read
+module _ {R : Type 0} (rem : R → Option (List ℕ)) (form : Form) (text : List ℕ) (old : RowReader (Checked R)) (source : Source R)
+    (begun : HasRead (delimiter_of form) (comment_of form) (checked_left rem) text [] old) where
+  gone-if : (has_header has_first : Bool) → form.has_header ≡ has_header
+      → GivesRow (checked_left rem) old source.reader has_first (fields_of source.last) → source.next ≡ next_of has_first has_header
+      → GoneSaid has_first has_header (fields_of source.last) source.header.gone → KnowsGone form rem text source
+  gone-if true false same reads is said =
+      let none = reads _ _ text [] begun in
+      record { first = []; header = rw same (none, said); given = rw is none }
+  gone-if false false same reads is said = record { first = []; header = rw same tt; given = rw is (reads _ _ text [] begun) }
+  gone-if true true same reads is said = record { first = fields_of source.last ∷ []; header = rw same said; given = rw is (reads _ _ text [] begun) }
+  gone-if false true same reads is said = record { first = []; header = rw same tt; given = rw is (reads _ _ text [] begun) }
+
+pub gone-known : {R : Type 0} (rem : R → Option (List ℕ)) (form : Form) (known : Option (List ℕ)) (old : RowReader (Checked R)) (source made : Source R) → source ≡ made
+    → IfSome known (λ text. HasRead (delimiter_of form) (comment_of form) (checked_left rem) text [] old)
+    → (has_first : Bool) → GivesRow (checked_left rem) old made.reader has_first (fields_of made.last) → made.next ≡ next_of has_first form.has_header
+    → GoneSaid has_first form.has_header (fields_of made.last) made.header.gone → IfSome known (λ text. KnowsGone form rem text source)
+gone-known rem form None old source made same begun has_first reads is said = tt
+gone-known rem form (Some text) old source made same begun has_first reads is said =
+    rw same (gone-if rem form text old made begun form.has_header has_first refl reads is said)

@@ -5,6 +5,8 @@ pub mod Delimiters
 pub mod Encodings
 pub mod Explained
 pub mod FoundRows
+pub mod Going
+pub mod Gone
 pub mod Headers
 pub mod JoinedNames
 pub mod JoinedRows

@@ -3,6 +3,7 @@ ghost use Rattle.std.specs.Prelude.{◌≡◌, ◌++◌, ◌∷◌, ◌^◌, ◌
 ghost use Rattle.std.specs.Cmp.Lexicographic.{pointwise};
 ghost use Rattle.std.specs.List.{list_any};
 ghost use Rattle.csv.specs.Records.{field_at, fields_of};
+ghost use Rattle.keyed_files.specs.Going.{going_behind, name_if_goes, names_going, with_going};
 ghost use Rattle.keyed_files.specs.Headers.{name_in, names_behind};
 ghost use Rattle.keyed_files.specs.Names.{names_in, place_in, renamed, repeats};
 
@@ -32,7 +33,8 @@ pub struct Header {
 impl Header {
     /// No column, as of a file with no row.
     pub fn none(alloc: Global) -> Self
-        ensures { result.names ≡ [] }
+        ensures names { result.names ≡ [] }
+        ensures gone { result.gone ≡ [] }
     {
         Header {
             names: Cells::new(alloc),
@@ -56,8 +58,9 @@ impl Header {
         before: usize,
         line: u64,
     ) -> Result<Self, AllocError>
-        ensures { IfOk result (λ header. repeats [] (names_behind before (fields_of row.now)) ≡ false
+        ensures names { IfOk result (λ header. repeats [] (names_behind before (fields_of row.now)) ≡ false
             → header.names ≡ names_behind before (fields_of row.now)) }
+        ensures gone { IfOk result (λ header. header.gone ≡ names_going before (fields_of row.now)) }
     {
         let there = names_there(alloc, row, before)?;
         let mut told = Told::new(alloc);
@@ -160,7 +163,8 @@ struct Told {
 impl Told {
     // No name.
     fn new(alloc: Global) -> Self
-        ensures { names_in result.found ≡ [] }
+        ensures names { names_in result.found ≡ [] }
+        ensures gone { result.gone ≡ [] }
     {
         Told {
             found: Names::new(alloc),
@@ -177,8 +181,9 @@ impl Told {
         name: &[u8],
         last: usize,
     ) -> Result<usize, AllocError>
-        ensures { OnOk result (list_any (pointwise nat_eq name.now) (names_in self.old.found) ≡ false
+        ensures names { OnOk result (list_any (pointwise nat_eq name.now) (names_in self.old.found) ≡ false
             → names_in self.new.found ≡ names_in self.old.found ++ name.now ∷ []) }
+        ensures gone { self.new.gone ≡ self.old.gone }
     {
         if self.found.add(alloc, name)? {
             return Ok(1);
@@ -200,7 +205,8 @@ impl Told {
 
     // Notes what becomes of a column.
     fn note_fate(&mut self, fate: Fate, name: &[u8]) -> Result<(), AllocError>
-        ensures { self.new.found ≡ self.old.found }
+        ensures found { self.new.found ≡ self.old.found }
+        ensures gone { OnOk result (self.new.gone ≡ with_going fate name.now self.old.gone) }
     {
         if let Fate::Goes = fate {
             self.gone.push(name)?;
@@ -210,7 +216,8 @@ impl Told {
 
     // The header on a line with these names.
     fn into_header(self, alloc: Global, line: u64) -> Result<Header, AllocError>
-        ensures { IfOk result (λ header. header.names ≡ names_in self.found) }
+        ensures names { IfOk result (λ header. header.names ≡ names_in self.found) }
+        ensures gone { IfOk result (λ header. header.gone ≡ self.gone) }
     {
         Ok(Header {
             names: self.found.to_cells(alloc)?,
@@ -268,7 +275,8 @@ fn renamed_of(alloc: Global, key: &KeyNames) -> Result<Cells, AllocError> {
 
 // The fate of a column and its name, behind as many cells: behind none, as in a table of rows, a name has no mark.
 fn fate_of(before: usize, cell: &[u8]) -> (Fate, &[u8])
-    ensures { result.1.now ≡ name_in before cell.now }
+    ensures name { result.1.now ≡ name_in before cell.now }
+    ensures goes { name_if_goes result.0 result.1.now ≡ going_behind before cell.now }
 {
     if before == 0 {
         (Fate::Stays, cell)

@@ -1,6 +1,7 @@
 //! Files whose headers are read, and what is wrong with them.
 ghost use Rattle.std.specs.Prelude.{◌≡◌, IfOk, Ok, OnOk};
 ghost use Rattle.keyed_files.specs.ChangedColumns.{marked_names};
+ghost use Rattle.keyed_files.specs.Gone.{IsGoneRead};
 ghost use Rattle.keyed_files.specs.Keys.{AreChangeColumns, AreChangedColumnsBy, AreColumnsBy, AreJoinColumns};
 ghost use Rattle.keyed_files.specs.Names.{compared};
 ghost use Rattle.keyed_files.specs.Opening.{IsNamedAnew, IsOpened, IsRenamed, first_header, headers_of, next_header};
@@ -104,7 +105,8 @@ impl<'a, R: Read + Drop> Opened<'a, R> {
         content: Content,
         stream: Stream<'a, R>,
     ) -> Result<Self, Fault<'a>>
-        ensures { IfOk result (IsOpened R.remaining form content stream.entry) }
+        ensures opened { IfOk result (IsOpened R.remaining form content stream.entry) }
+        ensures gone { IfOk result (IsGoneRead R.remaining form content stream.entry) }
     {
         let file = stream.file;
         let form = Form {
@@ -214,6 +216,7 @@ impl<'a, R: Read + Drop> Two<'a, R> {
     ) -> Result<Self, Fault<'a>>
         ensures first { IfOk result (λ two. IsOpened R.remaining form Rows first.entry two.first) }
         ensures next { IfOk result (λ two. IsOpened R.remaining form content next.entry two.next) }
+        ensures gone { IfOk result (λ two. IsGoneRead R.remaining form content next.entry two.next) }
     {
         let first = Opened::new(alloc, form, Content::Rows, first)?;
         let next = Opened::new(alloc, form, content, next)?;

@@ -5,6 +5,8 @@ ghost use Rattle.csv.specs.Records.{field_at, fields_of};
 ghost use Rattle.keyed_text.specs.Streams.{GivesRow, HasRead};
 ghost use Rattle.keyed_files.specs.Explained.{BreaksCount, ExplainsRow, ExplainsSigned, FitsCount, IsOutside, IsWrongCount};
 ghost use Rattle.keyed_files.specs.declared.fault.Reason.TheVariants.{NoSign};
+ghost use Rattle.keyed_files.specs.Going.{GoneSaid};
+ghost use Rattle.keyed_files.specs.Gone.{KnowsGone};
 ghost use Rattle.keyed_files.specs.Headers.{ArePlaces, HeaderOf, cells_before, place_under};
 ghost use Rattle.keyed_files.specs.Lines.{checked_left, lines_left};
 ghost use Rattle.keyed_files.specs.Names.{renamed};
@@ -13,6 +15,7 @@ ghost use Rattle.keyed_files.specs.Reading.{GivesRecord, HasSign, IsOpen, IsPick
 ghost use Rattle.keyed_files.specs.Reading.{key_in, last_record, next_of, text_read};
 ghost use Rattle.keyed_files.specs.Rows.{shown_sign};
 ghost use Rattle.keyed_files.specs.Writing.{comment_of, delimiter_of};
+ghost use Rattle.keyed_files.specs.declared.source.Content.TheVariants.{Changes};
 ghost use Rattle.keyed_files.specs.declared.source.Next.TheVariants.{Read};
 
 use crate::by_line::ByLine;
@@ -103,8 +106,10 @@ impl<R: Read + Drop> Source<R> {
     /// Returns `NoText` if the file begins as one that is no text, `Quotes` if the quotes of the first row are not in order, `Io` if the
     /// reader fails, and `NoMemory` if a request for memory was refused. The first two are let pass where quotes are.
     pub fn open(alloc: Global, reader: R, form: Form, content: Content) -> Result<Box<Self>, Reason>
-        ensures { IfOk result (λ source. IfSome (text_read form (R.remaining reader))
+        ensures opened { IfOk result (λ source. IfSome (text_read form (R.remaining reader))
             (λ text. IsOpen form content R.remaining text source.value.header.names source.value)) }
+        ensures gone { content ≡ Changes → IfOk result (λ source. IfSome (text_read form (R.remaining reader))
+            (λ text. KnowsGone form R.remaining text source.value)) }
     {
         let mut reader = begin_rows(alloc, reader, form)?;
         let mut record = ByteRecord::new(alloc);
@@ -315,7 +320,8 @@ fn header_of(
     row: &ByteRecord,
     line: u64,
 ) -> Result<Header, AllocError>
-    ensures { IfOk result (λ header. HeaderOf form.has_header content has_first (fields_of row.now) header.names) }
+    ensures names { IfOk result (λ header. HeaderOf form.has_header content has_first (fields_of row.now) header.names) }
+    ensures gone { content ≡ Changes → IfOk result (λ header. GoneSaid has_first form.has_header (fields_of row.now) header.gone) }
 {
     let before = cells_before(content);
     if !has_first {

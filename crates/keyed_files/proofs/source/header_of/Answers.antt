@@ -1,11 +1,19 @@
+use Rattle.std.proofs.Common.{◌∙◌, ap}
 use Rattle.std.proofs.lemmas.Result.{IfOk-weaker}
 use Rattle.csv.specs.Records.{fields_of}
-use Rattle.keyed_files.proofs.HeaderLemmas.{header-read, names-said}
+use Rattle.keyed_files.specs.Going.{names_going}
+use Rattle.keyed_files.specs.Headers.{cells_before}
+use Rattle.keyed_files.proofs.HeaderLemmas.{gone-read, header-read, names-said}
 use Rattle.keyed_files.proofs.source.header_of.Goals as goal
 
 pub returns-then-form : goal.returns-then-form
 returns-then-form c =
     let fields = fields_of c.args.row.now in
-    IfOk-weaker c.of_record.result _ _
-    (λ header said. header-read c.args.content c.args.form.has_header c.args.has_first fields header.names c.if-not-has_first.false c.if-form.true
-    (names-said c.args.content c.cells_before-before.result fields header.names c.cells_before-before.ensures.value said)) c.of_record.ensures
+    record {
+      names = IfOk-weaker c.of_record.result _ _
+          (λ header said. header-read c.args.content c.args.form.has_header c.args.has_first fields header.names c.if-not-has_first.false c.if-form.true
+          (names-said c.args.content c.cells_before-before.result fields header.names c.cells_before-before.ensures.value said)) c.of_record.ensures.names;
+      gone = λ changes. IfOk-weaker c.of_record.result _ _
+          (λ header said. gone-read c.args.has_first c.args.form.has_header fields header.gone c.if-not-has_first.false c.if-form.true
+          (said ∙ ap (λ before. names_going before fields) (c.cells_before-before.ensures.value ∙ ap cells_before changes))) c.of_record.ensures.gone;
+    }
