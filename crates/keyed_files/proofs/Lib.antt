@@ -6,6 +6,7 @@ pub mod KeyLemmas
 pub mod LawLemmas
 pub mod LineLemmas
 pub mod NameLemmas
+pub mod NumberLemmas
 pub mod PlacedLemmas
 pub mod ReadingLemmas
 pub mod TableLemmas

@@ -1,5 +1,6 @@
 -- The header of a table, and where the cells of its columns stand.
-use Rattle.std.specs.Prelude.{◌≡◌, ◌+◌, ◌==◌, ◌||◌, ℕ, List, [], ◌∷◌, Bool, true, false, Option, ⊤, drop, map, option_map, if◌then◌else◌}
+use Rattle.std.specs.Prelude.{◌≡◌, ◌+◌, ◌==◌, ◌||◌, ℕ, List, [], ◌∷◌, Bool, true, false, Option, ⊤, decimal, drop, map, option_map, if◌then◌else◌}
+use Rattle.std.specs.List.{range_with_len}
 use Rattle.keyed_files.specs.Names.{place_in, repeats}
 use Rattle.keyed_files.specs.declared.columns.Columns.{Columns}
 use Rattle.keyed_files.specs.declared.source.Content.{Content}
@@ -36,6 +37,10 @@ names_said content.Changes fields = map unmarked (drop 1 fields)
 -- the names of columns are those that a record says, if it says none twice
 abbrev pub NamesOf : Content → List (List ℕ) → List (List ℕ) → Type 0
 NamesOf kind fields names = repeats [] (names_said kind fields) ≡ false → names ≡ names_said kind fields
+
+-- the names of so many columns that have no header: the decimal texts of 1, 2 and so on
+abbrev pub numbered_names : ℕ → List (List ℕ)
+numbered_names count = map decimal (range_with_len 1 count)
 
 -- the names of columns of a file that has a header or none, and a first record or none
 abbrev pub HeaderOf : Bool → Content → Bool → List (List ℕ) → List (List ℕ) → Type 0

@@ -4,7 +4,7 @@ ghost use Rattle.std.specs.Cmp.Lexicographic.{pointwise};
 ghost use Rattle.std.specs.List.{list_any};
 ghost use Rattle.csv.specs.Records.{field_at, fields_of};
 ghost use Rattle.keyed_files.specs.Going.{going_behind, name_if_goes, names_going, with_going};
-ghost use Rattle.keyed_files.specs.Headers.{name_in, names_behind};
+ghost use Rattle.keyed_files.specs.Headers.{name_in, names_behind, numbered_names};
 ghost use Rattle.keyed_files.specs.Names.{names_in, place_in, renamed, repeats};
 
 use crate::columns::place_of;
@@ -81,7 +81,9 @@ impl Header {
     /// # Errors
     ///
     /// Returns `AllocError` if a request for memory was refused.
-    pub fn numbers(alloc: Global, count: usize, line: u64) -> Result<Self, AllocError> {
+    pub fn numbers(alloc: Global, count: usize, line: u64) -> Result<Self, AllocError>
+        ensures names { IfOk result (λ header. header.names ≡ numbered_names count) }
+    {
         let mut told = Told::new(alloc);
         for number in 0..count {
             let name = format!(in alloc; "{}", number.saturating_add(1))?;
