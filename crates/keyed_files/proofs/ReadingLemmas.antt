@@ -4,15 +4,21 @@ use Rattle.std.specs.Prelude.{◌&&◌, IfSome, is_none, option_map}
 use Rattle.std.specs.Io.KnownBytes.{Keeps}
 use Rattle.std.proofs.KnownBytes.{prepend_known-nil}
 use Rattle.std.proofs.lemmas.Bool.{cases_Bool, eqb-true}
+use Rattle.csv.specs.Machine.{Read, next_record}
+use Rattle.csv.specs.Reading.{Reached, reader_state, strip_bom}
 use Rattle.csv.specs.Records.{fields_of}
+use Rattle.csv.specs.declared.parser.Config.{Config}
+use Rattle.csv.specs.declared.parser.State.{State}
+use Rattle.csv.specs.declared.parser.State.TheVariants as st
 use Rattle.keyed_text.specs.Streams.{GivesRow, HasRead}
-use Rattle.keyed_text.specs.Texts.{AreRows}
+use Rattle.keyed_text.specs.Texts.{AreRows, config_by}
 use Rattle.keyed_text.specs.declared.row_reader.RowReader.{RowReader}
+use Rattle.keyed_text.proofs.TextLemmas.{rows-once}
 use Rattle.keyed_files.specs.Going.{GoneSaid}
 use Rattle.keyed_files.specs.Gone.{KnowsGone}
 use Rattle.keyed_files.specs.Headers.{HeaderOf, NamesOf}
 use Rattle.keyed_files.specs.Lines.{Begins, checked_left, lines_left}
-use Rattle.keyed_files.specs.Reading.{GivesRecord, HasGiven, HasGivenIn, IsHeader, IsOpen, next_of, text_read}
+use Rattle.keyed_files.specs.Reading.{GivesRecord, HasGiven, HasGivenIn, HeadedBy, IsHeader, IsOpen, next_of, text_read}
 use Rattle.keyed_files.specs.Writing.{comment_of, delimiter_of}
 use Rattle.keyed_files.specs.declared.by_line.ByLine.{ByLine}
 use Rattle.keyed_files.specs.declared.checked.Checked.{Checked}
@@ -67,6 +73,26 @@ gives-kept rem a b was is reader last = λ d c text rows h.
 pub gives-none : {R : Type 0} (rem : R → Option (List ℕ)) (a b : Source R) → a.next ≡ next.Ended → GivesRecord rem a b false
 gives-none rem a b was = λ d c text rows h. subst (HasGivenIn d c rem text rows a) was h
 
+some-same : {A : Type 0} {x y : A} → Some x ≡ Some y → x ≡ y
+some-same e = cc e
+
+-- a record that a reader has given first is the first one of the text
+first-same : (cfg : Config) (s s2 t2 : State) (xs ys zs : List ℕ) (row : List (List ℕ)) (rows : List (List (List ℕ)))
+    → Reached cfg s xs (row ∷ []) s2 ys → Reached cfg s xs rows t2 zs → next_record cfg t2 [] [] zs ≡ None
+    → (more : List (List (List ℕ))) × (rows ≡ row ∷ more)
+unfolding Reached
+first-same cfg s s2 t2 xs ys zs row [] h k none =
+    let ended : next_record cfg s [] [] xs ≡ None = rw (k.0, k.1) none in
+    absurd (cc (sym ended ∙ h.1))
+first-same cfg s s2 t2 xs ys zs row (first ∷ more) h k none =
+    let same : k.0 ≡ h.0 = some-same (sym k.1 ∙ h.1) in
+    (more, ap (λ l. l ∷ more) (k.2 ∙ ap (λ (p : Read). p.0) same ∙ sym h.2))
+
+first-read : {R : Type 0} (d : ℕ) (c : Option ℕ) (left : R → Option (List ℕ)) (text : List ℕ) (row : List (List ℕ)) (reader : RowReader R)
+    → HasRead d c left text (row ∷ []) reader → (rows : List (List (List ℕ))) → AreRows d c text rows → (more : List (List (List ℕ))) × (rows ≡ row ∷ more)
+first-read d c left text row reader h rows k =
+    first-same (config_by d c) st.StartRecord (reader_state reader.reader) k.0 (strip_bom text) h.left k.1 row rows h.reached k.2 k.3
+
 -- a source whose first record is read
 module _ {R : Type 0} (rem : R → Option (List ℕ)) (form : Form) (kind : Content) (text : List ℕ) (old : RowReader (Checked R)) (source : Source R)
     (content : source.content ≡ kind) (begun : HasRead (delimiter_of form) (comment_of form) (checked_left rem) text [] old) where
@@ -76,10 +102,19 @@ module _ {R : Type 0} (rem : R → Option (List ℕ)) (form : Form) (kind : Cont
   opened-if true false same reads is header =
       let none = reads _ _ text [] begun in
       record { content = content; first = []; header = rw same (none, header); given = rw is none }
-  opened-if false false same reads is header = record { content = content; first = []; header = rw same tt; given = rw is (reads _ _ text [] begun) }
+  opened-if false false same reads is header =
+      let none = reads _ _ text [] begun in
+      let named : (records : List (List (List ℕ))) → AreRows (delimiter_of form) (comment_of form) text records → HeadedBy false kind records source.header.names =
+      λ records all. subst (λ r. HeadedBy false kind r source.header.names) (rows-once _ _ text [] records none all) header in
+      record { content = content; first = []; header = rw same named; given = rw is none }
   opened-if true true same reads is header =
       record { content = content; first = fields_of source.last ∷ []; header = rw same header; given = rw is (reads _ _ text [] begun) }
-  opened-if false true same reads is header = record { content = content; first = []; header = rw same tt; given = rw is (reads _ _ text [] begun) }
+  opened-if false true same reads is header =
+      let one = reads _ _ text [] begun in
+      let named : (records : List (List (List ℕ))) → AreRows (delimiter_of form) (comment_of form) text records → HeadedBy false kind records source.header.names =
+      λ records all. let first = first-read _ _ _ text (fields_of source.last) source.reader one records all in
+      subst (λ r. HeadedBy false kind r source.header.names) (sym first.1) header in
+      record { content = content; first = []; header = rw same named; given = rw is one }
 
   pub opened : (has_first : Bool) → GivesRow (checked_left rem) old source.reader has_first (fields_of source.last)
       → source.next ≡ next_of has_first form.has_header → HeaderOf form.has_header kind has_first (fields_of source.last) source.header.names

@@ -68,7 +68,7 @@ module _ (form : Form) (kind : Content) (text : List ℕ) (header names : List (
       ([], head.0, rw same head.1, rw same (subst (λ r. map parts_of rows ≡ map (row_under kind names columns) r) none parts))
   table-if true same (fields ∷ []) records head all parts = (fields ∷ records, all, rw same head, rw same parts)
   table-if true same (fields ∷ more ∷ rest) records head all parts = absurd head
-  table-if false same [] records head all parts = (records, all, rw same tt, rw same parts)
+  table-if false same [] records head all parts = (records, all, rw same (head records all), rw same parts)
   table-if false same (fields ∷ rest) records head all parts = absurd head
 
 pub table-read : {R : Type 0} (rem : R → Option (List ℕ)) (columns : Columns) (places : Places) (source : Source R) (old new : List ReadRow)

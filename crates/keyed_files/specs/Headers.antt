@@ -1,5 +1,5 @@
 -- The header of a table, and where the cells of its columns stand.
-use Rattle.std.specs.Prelude.{◌≡◌, ◌+◌, ◌==◌, ◌||◌, ℕ, List, [], ◌∷◌, Bool, true, false, Option, ⊤, decimal, drop, map, option_map, if◌then◌else◌}
+use Rattle.std.specs.Prelude.{◌≡◌, ◌+◌, ◌-◌, ◌==◌, ◌||◌, ℕ, List, [], ◌∷◌, Bool, true, false, Option, decimal, drop, length, map, option_map, if◌then◌else◌}
 use Rattle.std.specs.List.{range_with_len}
 use Rattle.keyed_files.specs.Names.{place_in, repeats}
 use Rattle.keyed_files.specs.declared.columns.Columns.{Columns}
@@ -42,11 +42,15 @@ NamesOf kind fields names = repeats [] (names_said kind fields) ≡ false → na
 abbrev pub numbered_names : ℕ → List (List ℕ)
 numbered_names count = map decimal (range_with_len 1 count)
 
+-- the names of columns where the first record is no header: a number for each of its cells but those that stand before the columns
+abbrev pub names_counted : Content → List (List ℕ) → List (List ℕ)
+names_counted kind fields = numbered_names (length fields - cells_before kind)
+
 -- the names of columns of a file that has a header or none, and a first record or none
 abbrev pub HeaderOf : Bool → Content → Bool → List (List ℕ) → List (List ℕ) → Type 0
 HeaderOf has_header kind false fields names = names ≡ []
 HeaderOf true kind true fields names = NamesOf kind fields names
-HeaderOf false kind true fields names = ⊤
+HeaderOf false kind true fields names = names ≡ names_counted kind fields
 
 -- the place of the cell of a name: that of the name in the header, behind the cells that stand before it
 abbrev pub place_under : Content → List (List ℕ) → List ℕ → Option ℕ

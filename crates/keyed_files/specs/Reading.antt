@@ -5,7 +5,7 @@ use Rattle.keyed_rows.specs.declared.row.ReadRow.{ReadRow}
 use Rattle.keyed_text.specs.Streams.{HasRead}
 use Rattle.keyed_text.specs.Texts.{AreRows}
 use Rattle.keyed_files.specs.Lines.{checked_left}
-use Rattle.keyed_files.specs.Headers.{ArePlaces, NamesOf, place_under}
+use Rattle.keyed_files.specs.Headers.{ArePlaces, HeaderOf, NamesOf, place_under}
 use Rattle.keyed_files.specs.Picked.{cell_at}
 use Rattle.keyed_files.specs.Rows.{shown_sign}
 use Rattle.keyed_files.specs.Writing.{comment_of, delimiter_of}
@@ -82,12 +82,20 @@ next_of false has_header = next.Ended
 next_of true true = next.Read
 next_of true false = next.Kept
 
--- the header is the first record of a text, if there is to be one; a text with no record has no name
+-- the names of the columns of records: those of the first one if it is a header, and else a number for each of its cells; with no record
+-- there is no name
+abbrev pub HeadedBy : Bool → Content → List (List (List ℕ)) → List (List ℕ) → Type 0
+HeadedBy has_header kind [] names = names ≡ []
+HeadedBy has_header kind (fields ∷ records) names = HeaderOf has_header kind true fields names
+
+-- the header is the first record of a text, if there is to be one, and else the names fit all records that the text has; a text with no
+-- record has no name
 abbrev pub IsHeader : Form → Content → List ℕ → List (List ℕ) → Bool → List (List (List ℕ)) → Type 0
 IsHeader form kind text names true [] = AreRows (delimiter_of form) (comment_of form) text [] × (names ≡ [])
 IsHeader form kind text names true (fields ∷ []) = NamesOf kind fields names
 IsHeader form kind text names true (fields ∷ more ∷ rest) = ⊥
-IsHeader form kind text names false [] = ⊤
+IsHeader form kind text names false [] = (records : List (List (List ℕ))) → AreRows (delimiter_of form) (comment_of form) text records
+    → HeadedBy false kind records names
 IsHeader form kind text names false (fields ∷ rest) = ⊥
 
 -- a source of a text with this header is open: its header is read, and the records under it come next
@@ -128,14 +136,8 @@ abbrev pub behind_header : Bool → List (List (List ℕ)) → List (List (List 
 behind_header true records = drop 1 records
 behind_header false records = records
 
--- the names of columns are those of the header, if there is one
-abbrev pub HeadedBy : Bool → Content → List (List (List ℕ)) → List (List ℕ) → Type 0
-HeadedBy true kind [] names = names ≡ []
-HeadedBy true kind (fields ∷ records) names = NamesOf kind fields names
-HeadedBy false kind records names = ⊤
-
--- what a text says as a table: the names of its columns in its header, and a row for each record behind it, of its cells under the names
--- by which they are read
+-- what a text says as a table: the names of its columns in its header, or numbers where it has none, and a row for each record behind the
+-- header, of its cells under the names by which they are read
 abbrev pub IsTable : Form → Content → List ℕ → List (List ℕ) → List (List ℕ) → Columns → List ReadRow → Type 0
 IsTable form kind text header names columns rows = (records : List (List (List ℕ))) × AreRows (delimiter_of form) (comment_of form) text records
     × HeadedBy form.has_header kind records header × (map parts_of rows ≡ map (row_under kind names columns) (behind_header form.has_header records))

@@ -1,9 +1,10 @@
-use Rattle.std.proofs.Common.{◌∙◌, ap}
+use Rattle.std.proofs.Common.{◌≡◌, ◌∙◌, ◌-◌, ap, arith, length}
 use Rattle.std.proofs.lemmas.Result.{IfOk-weaker}
 use Rattle.csv.specs.Records.{fields_of}
 use Rattle.keyed_files.specs.Going.{names_going}
 use Rattle.keyed_files.specs.Headers.{cells_before}
 use Rattle.keyed_files.proofs.HeaderLemmas.{gone-read, header-read, names-said}
+use Rattle.keyed_files.proofs.NumberLemmas.{header-counted}
 use Rattle.keyed_files.proofs.source.header_of.Goals as goal
 
 pub returns-then-form : goal.returns-then-form
@@ -17,3 +18,11 @@ returns-then-form c =
           (λ header said. gone-read c.args.has_first c.args.form.has_header fields header.gone c.if-not-has_first.false c.if-form.true
           (said ∙ ap (λ before. names_going before fields) (c.cells_before-before.ensures.value ∙ ap cells_before changes))) c.of_record.ensures.gone;
     }
+
+pub returns-else-form-clause-names : goal.returns-else-form-clause-names
+returns-else-form-clause-names c =
+    let fields = fields_of c.args.row.now in
+    let count : c.saturating_sub.result ≡ length fields - c.cells_before-before.result = omega (arith, c.len.ensures, c.saturating_sub.ensures) in
+    IfOk-weaker c.numbers.result _ _
+    (λ header said. header-counted c.args.content c.args.form.has_header c.args.has_first fields header.names c.cells_before-before.result _
+    c.if-not-has_first.false c.if-form.false c.cells_before-before.ensures.value count said) c.numbers.ensures.names
