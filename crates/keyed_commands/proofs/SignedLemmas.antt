@@ -88,7 +88,7 @@ module _ (form : Form) (text : List ℕ) (header names : List (List ℕ)) (colum
       ([], head.0, rw same head.1, rw same (subst (λ r. map signed_parts signed ≡ map (signed_under names columns) r) none parts))
   changes-if true same (fields ∷ []) records head all parts = (fields ∷ records, all, rw same head, rw same parts)
   changes-if true same (fields ∷ more ∷ rest) records head all parts = absurd head
-  changes-if false same [] records head all parts = (records, all, rw same tt, rw same parts)
+  changes-if false same [] records head all parts = (records, all, rw same (head records all), rw same parts)
   changes-if false same (fields ∷ rest) records head all parts = absurd head
 
 pub changes-read : {R : Type 0} (rem : R → Option (List ℕ)) (columns : Columns) (places : Places) (source : Source R) (gone new_gone come new_come : List ReadRow)

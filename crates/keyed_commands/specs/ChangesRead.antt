@@ -67,8 +67,8 @@ module _ {R : Type 0} (remaining : R → Option (List ℕ)) (places : Places) (s
       → HasGiven d c remaining text given source
       → (records : List (List (List ℕ))) × AreRows d c text (given ++ records) × PartedBehind places gone new_gone come new_come records
 
--- what a text says as changes: the names of its columns in its header, and for each record behind it a row with its sign, which is the first
--- cell of the record, and the cells under the names by which they are read
+-- what a text says as changes: the names of its columns in its header, or numbers where it has none, and for each record behind the header
+-- a row with its sign, which is the first cell of the record, and the cells under the names by which they are read
 abbrev pub AreChanges : Form → List ℕ → List (List ℕ) → List (List ℕ) → Columns → List SignedRow → Type 0
 AreChanges form text header names columns signed = (records : List (List (List ℕ))) × AreRows (delimiter_of form) (comment_of form) text records
     × HeadedBy form.has_header Changes records header
