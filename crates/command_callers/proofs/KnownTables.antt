@@ -4,6 +4,7 @@ use Rattle.std.specs.Prelude.{◌==◌, ◌&&◌, ◌||◌, ⊤, not, if◌then�
 use Rattle.std.specs.Cmp.Lexicographic.{pointwise}
 use Rattle.eob_lists.proofs.MergeLemmas.{Up}
 use Rattle.keyed_files.specs.ColumnNames.{HaveNames, column_names}
+use Rattle.keyed_files.specs.Headers.{names_counted}
 use Rattle.keyed_files.specs.Keys.{AreColumnsBy, AreKeyNames, first_name}
 use Rattle.keyed_files.specs.Names.{repeats}
 use Rattle.keyed_files.specs.Reading.{HeadedBy, IsTable, behind_header, cell_under, parts_of, row_under}
@@ -53,16 +54,33 @@ pub columns_are : (key : Option (Bor (List ℕ))) (tables headers : List (List (
     → HaveNames (first_name tables) (column_names headers) columns
 columns_are key tables headers columns e h = subst (λ k. HaveNames k (column_names headers) columns) (plain_key key tables h.first h.others e h.names).1 h.are
 
--- a text in a form that is known: a header in which no name stands twice, and records
-pub record IsKnown (form : Form) (text : List ℕ) (fields : List (List ℕ)) (records : List (List (List ℕ))) : Type 0 where
-  pub headed : form.has_header ≡ true
-  pub rows : AreRows (delimiter_of form) (comment_of form) text (fields ∷ records)
-  pub once : repeats [] fields ≡ false
+-- a text in a form that is known: the names of its columns, and the records that are its rows
+pub record IsKnown (form : Form) (text : List ℕ) (names : List (List ℕ)) (records : List (List (List ℕ))) : Type 0 where
+  pub all : List (List (List ℕ))
+  pub rows : AreRows (delimiter_of form) (comment_of form) text all
+  pub named : (header : List (List ℕ)) → HeadedBy form.has_header Rows all header → header ≡ names
+  pub behind : behind_header form.has_header all ≡ records
 
+-- one with a header in which no name stands twice
 pub known_text : (form : Form) (text literal : List ℕ) (fields : List (List ℕ)) (records : List (List (List ℕ))) → text ≡ literal → form.has_header ≡ true
     → AreRows (delimiter_of form) (comment_of form) literal (fields ∷ records) → repeats [] fields ≡ false → IsKnown form text fields records
-known_text form text literal fields records e has are once =
-    record { headed = has; rows = subst (λ t. AreRows (delimiter_of form) (comment_of form) t (fields ∷ records)) (sym e) are; once = once }
+known_text form text literal fields records e has are once = record {
+  all = fields ∷ records;
+  rows = subst (λ t. AreRows (delimiter_of form) (comment_of form) t (fields ∷ records)) (sym e) are;
+  named = λ header h. let headed : HeadedBy true Rows (fields ∷ records) header = subst (λ b. HeadedBy b Rows (fields ∷ records) header) has h in headed once;
+  behind = ap (λ b. behind_header b (fields ∷ records)) has;
+}
+
+-- one with no header, whose columns have numbers for names
+pub bare_text : (form : Form) (text literal : List ℕ) (names fields : List (List ℕ)) (records : List (List (List ℕ))) → text ≡ literal → form.has_header ≡ false
+    → AreRows (delimiter_of form) (comment_of form) literal (fields ∷ records) → names_counted Rows fields ≡ names
+    → IsKnown form text names (fields ∷ records)
+bare_text form text literal names fields records e has are count = record {
+  all = fields ∷ records;
+  rows = subst (λ t. AreRows (delimiter_of form) (comment_of form) t (fields ∷ records)) (sym e) are;
+  named = λ header h. let headed : HeadedBy false Rows (fields ∷ records) header = subst (λ b. HeadedBy b Rows (fields ∷ records) header) has h in headed ∙ count;
+  behind = ap (λ b. behind_header b (fields ∷ records)) has;
+}
 
 -- the rows of records under names, by key
 abbrev pub rows_by : (names key rest : List (List ℕ)) → List (List (List ℕ)) → KeyedRows
@@ -70,21 +88,17 @@ rows_by names key rest records = map (λ fields. (map (cell_under Rows names fie
 
 module _ (form : Form) (text : List ℕ) (fields : List (List ℕ)) (records : List (List (List ℕ))) (known : IsKnown form text fields records)
     (header names : List (List ℕ)) (columns : Columns) (read : List ReadRow) (says : IsTable form Rows text header names columns read) where
-  same_records : says.0 ≡ fields ∷ records
-  same_records = rows-once (delimiter_of form) (comment_of form) text says.0 (fields ∷ records) says.1 known.rows
+  same_records : says.0 ≡ known.all
+  same_records = rows-once (delimiter_of form) (comment_of form) text says.0 known.all says.1 known.rows
 
-  -- the header is that of the text
+  -- its names are those of the text
   pub read_header : header ≡ fields
-  read_header =
-      let headed : HeadedBy form.has_header Rows (fields ∷ records) header = subst (λ rs. HeadedBy form.has_header Rows rs header) same_records says.2 in
-      let named : HeadedBy true Rows (fields ∷ records) header = subst (λ b. HeadedBy b Rows (fields ∷ records) header) known.headed headed in
-      named known.once
+  read_header = known.named header (subst (λ rs. HeadedBy form.has_header Rows rs header) same_records says.2)
 
   -- the rows are those of its records
   rows_are : map parts_of read ≡ rows_by names columns.key columns.rest records
   rows_are =
-      says.3 ∙ ap (λ rs. map (row_under Rows names columns) (behind_header form.has_header rs)) same_records
-      ∙ ap (λ b. map (row_under Rows names columns) (behind_header b (fields ∷ records))) known.headed
+      says.3 ∙ ap (λ rs. map (row_under Rows names columns) (behind_header form.has_header rs)) same_records ∙ ap (map (row_under Rows names columns)) known.behind
 
   pub read_rows : (known_names key rest : List (List ℕ)) → names ≡ known_names → columns.key ≡ key → columns.rest ≡ rest
       → map parts_of read ≡ rows_by known_names key rest records

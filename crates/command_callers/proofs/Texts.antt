@@ -163,3 +163,15 @@ with_z_y = (st.StartRecord, [], (_, refl, refl, (_, refl, refl, (refl, refl))), 
 pub with_x_w : AreRows 44 None (codes "id,a,b\n1,x,w\n") (id_a_b ∷ one_x_w ∷ [])
 unfolding csv_on_literals Reached
 with_x_w = (st.StartRecord, [], (_, refl, refl, (_, refl, refl, (refl, refl))), refl)
+
+-- and those of texts with no header
+abbrev pub first_second : List (List ℕ)
+first_second = codes "1" ∷ codes "2" ∷ []
+
+pub bare_x : AreRows 44 None (codes "1,x\n") (one_x ∷ [])
+unfolding csv_on_literals Reached
+bare_x = (st.StartRecord, [], (_, refl, refl, (refl, refl)), refl)
+
+pub bare_y : AreRows 44 None (codes "1,y\n") (one_y ∷ [])
+unfolding csv_on_literals Reached
+bare_y = (st.StartRecord, [], (_, refl, refl, (refl, refl)), refl)

@@ -31,6 +31,20 @@ const PLAIN: Settings<'static> = Settings {
     look: Look::PLAIN,
 };
 
+// The same of tables with no header, whose columns have numbers for names.
+const BARE: Settings<'static> = Settings {
+    form: Form {
+        delimiter: Delimiter::COMMA,
+        has_header: false,
+        reading: Reading::STRICT,
+    },
+    key: None,
+    renames: None,
+    keeps_order: false,
+    groups: false,
+    look: Look::PLAIN,
+};
+
 const CHANGES: Comparing<'static> = Comparing {
     format: Format::Csv,
     view: View::WHOLE,
@@ -149,6 +163,28 @@ pub fn semicolons(alloc: Global) -> Result<Answer, Fault<'static>>
         reader: Ok(b"id,a\n1,x\n".as_slice()),
     };
     diff(alloc, PLAIN, CHANGES, old, new)
+}
+
+/// Returns the changes between two tables with no header, whose key is the first column: the row that goes, and the one that comes.
+///
+/// # Errors
+///
+/// Returns the errors of `diff`.
+pub fn no_header(alloc: Global) -> Result<Answer, Fault<'static>>
+    ensures status { IfOk result (λ answer. answer.status ≡ 1) }
+    ensures bytes { IfOk result (λ answer. answer.bytes.items ≡ codes "-,1,x\n+,1,y\n") }
+{
+    let old = Stream {
+        file: "old.csv",
+        delimiter: None,
+        reader: Ok(b"1,x\n".as_slice()),
+    };
+    let new = Stream {
+        file: "new.csv",
+        delimiter: None,
+        reader: Ok(b"1,y\n".as_slice()),
+    };
+    diff(alloc, BARE, CHANGES, old, new)
 }
 
 /// Returns the changes between two tables of which the new one has another column, and its rows in no order: the header marks the column,

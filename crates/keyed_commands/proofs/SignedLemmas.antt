@@ -85,7 +85,7 @@ module _ (form : Form) (text : List ℕ) (header names : List (List ℕ)) (colum
       → AreChanges form text header names columns signed
   changes-if true same [] records head all parts =
       let none : records ≡ [] = rows-once _ _ text records [] all head.0 in
-      ([], head.0, rw same head.1, rw same (subst (λ r. map signed_parts signed ≡ map (signed_under names columns) r) none parts))
+      ([], head.0, head.1, rw same (subst (λ r. map signed_parts signed ≡ map (signed_under names columns) r) none parts))
   changes-if true same (fields ∷ []) records head all parts = (fields ∷ records, all, rw same head, rw same parts)
   changes-if true same (fields ∷ more ∷ rest) records head all parts = absurd head
   changes-if false same [] records head all parts = (records, all, rw same (head records all), rw same parts)

@@ -65,7 +65,7 @@ module _ (form : Form) (kind : Content) (text : List ℕ) (header names : List (
       → IsTable form kind text header names columns rows
   table-if true same [] records head all parts =
       let none : records ≡ [] = rows-once _ _ text records [] all head.0 in
-      ([], head.0, rw same head.1, rw same (subst (λ r. map parts_of rows ≡ map (row_under kind names columns) r) none parts))
+      ([], head.0, head.1, rw same (subst (λ r. map parts_of rows ≡ map (row_under kind names columns) r) none parts))
   table-if true same (fields ∷ []) records head all parts = (fields ∷ records, all, rw same head, rw same parts)
   table-if true same (fields ∷ more ∷ rest) records head all parts = absurd head
   table-if false same [] records head all parts = (records, all, rw same (head records all), rw same parts)
