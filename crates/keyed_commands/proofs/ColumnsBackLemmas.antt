@@ -1,8 +1,8 @@
 -- The columns of changes, and the names in their header: rows that are placed under them and picked again.
 use Rattle.std.proofs.Common.{◌≡◌, ◌∙◌, ◌+◌, ℕ, suc, zero, Bool, true, false, List, [], ◌∷◌, ◌++◌, None, Option, Some, arith, filter, get_or, length, map, nat_eq, ne_eqb, refl, sym, ap, ap₂, subst, take, true≢false}
-use Rattle.std.specs.Prelude.{◌&&◌, ◌||◌, is_none, not, option_map, unwrap_or, if◌then◌else◌}
+use Rattle.std.specs.Prelude.{◌==◌, ◌&&◌, ◌||◌, is_none, not, option_map, unwrap_or, if◌then◌else◌}
 use Rattle.std.specs.Cmp.Lexicographic.{bytes_decides, nat_list_eq_equiv, pointwise}
-use Rattle.std.specs.List.{AllByRecursion, IsDistinct, list_any}
+use Rattle.std.specs.List.{flat_map, AllByRecursion, IsDistinct, list_any}
 use Rattle.std.proofs.lemmas.List.{append-nil, get_or-map}
 use Rattle.std.proofs.lemmas.List.Elements.{filter-append}
 use Rattle.std.proofs.lemmas.List.Folds.{list_any-append}
@@ -11,6 +11,7 @@ use Rattle.csv.specs.Records.{field_at}
 use Rattle.indexmap.specs.IndexSet.{insert_all}
 use Rattle.keyed_files.specs.ChangedColumns.{begins_marked, changed_names, fate_between, marked_between, marked_name, marked_names}
 use Rattle.keyed_files.specs.ColumnNames.{AreColumns, WriteNames, column_names, distinct, has_name, is_beside, or_header, place_under_key}
+use Rattle.keyed_files.specs.Going.{going, name_if_goes}
 use Rattle.keyed_files.specs.Headers.{unmarked}
 use Rattle.keyed_files.specs.Names.{place_in, repeats}
 use Rattle.keyed_files.specs.Picked.{cell_at}
@@ -25,7 +26,6 @@ use Rattle.keyed_files.proofs.ColumnLemmas.{distinct-inserted, inserted}
 use Rattle.keyed_files.proofs.LawLemmas.{distinct-once, has-kept, names-of, names-once}
 use Rattle.keyed_files.proofs.NameLemmas.{all_names as in_all, none_at}
 use Rattle.keyed_commands.specs.ChangesRead.{signed_under}
-use Rattle.keyed_commands.specs.TextLaws.{gone_between}
 use Rattle.keyed_commands.proofs.ChangesBackLemmas.{ReadsBack}
 
 -- a header that is marked says the names without their marks
@@ -163,6 +163,10 @@ distinct_append : (xs ys : List (List ℕ)) → distinct (xs ++ ys) ≡ distinct
 distinct_append xs ys =
     sym (distinct-inserted (xs ++ ys)) ∙ inserted_then xs ys [] ∙ ap (λ l. insert_all (pointwise nat_eq) l ys) (distinct-inserted xs) ∙ inserted ys (distinct xs)
 
+-- the names of the columns that go from one header to another; one that is empty says nothing of columns
+abbrev pub gone_between : List (List ℕ) → List (List ℕ) → List (List ℕ)
+gone_between old new = filter (λ name. not (has_name (or_header new old) name)) old
+
 -- the names of the columns of changes: those of the new header, or of the old one where that is empty, and then those that go
 two_names : (old new : List (List ℕ)) → repeats [] old ≡ false → repeats [] new ≡ false → column_names (new ∷ old ∷ []) ≡ new ++ without old new
 two_names old new once_old once_new =
@@ -258,6 +262,40 @@ writes-alike old new key gone columns under once_old once_new is_gone is writes 
 pub gone-apart : (old new : List (List ℕ)) (name : List ℕ) → has_name (gone_between old new) name ≡ true → has_name new name ≡ false
 gone-apart old [] name e = refl
 gone-apart old (first ∷ new) name e = lacking old (first ∷ new) name (subst (λ h. has_name (without old h) name ≡ true) (header_full first new old) e)
+
+-- the columns that the header of changes says go are those that the new header lacks
+none_first : (a b : Bool) → (a || b) ≡ false → a ≡ false
+none_first true b e = e
+none_first false b e = refl
+
+going_kept : (name : List ℕ) (b : Bool) → begins_marked name ≡ b → going (if b then 61 ∷ name else name) ≡ []
+going_kept name true e = refl
+going_kept [] false e = refl
+going_kept (byte ∷ name) false e = rw (none_first (byte == 45) _ e) refl
+
+going_one : (f : Fate) (name : List ℕ) → going (marked_name f name) ≡ name_if_goes f name
+going_one fate.Goes name = refl
+going_one fate.Comes name = refl
+going_one fate.Stays name = going_kept name (begins_marked name) refl
+
+goes_if : (name : List ℕ) (names : List (List ℕ)) (there before : Bool)
+    → name_if_goes (if there then (if before then fate.Stays else fate.Comes) else fate.Goes) name ++ names ≡ (if not there then name ∷ names else names)
+goes_if name names true true = refl
+goes_if name names true false = refl
+goes_if name names false before = refl
+
+going_all : (old new names : List (List ℕ)) → flat_map going (map (marked_between old new) names) ≡ without names new
+going_all old new [] = refl
+going_all old new (name ∷ names) =
+    ap₂ (λ a b. a ++ b) (going_one (fate_between old new name) name) (going_all old new names) ∙ goes_if name (without names new) (has_name new name) (has_name old name)
+
+pub marked-gone : (old new : List (List ℕ)) → repeats [] old ≡ false → repeats [] new ≡ false → flat_map going (marked_names old new) ≡ gone_between old new
+marked-gone old new once_old once_new =
+    let written = or_header new old in
+    let gone = gone_between old new in
+    going_all (or_header old new) written (column_names (new ∷ old ∷ [])) ∙ ap (λ l. without l written) (names-parted old new once_old once_new)
+    ∙ filter-append (λ name. not (has_name written name)) written gone
+    ∙ ap₂ (λ a b. a ++ b) (without_none written written (λ name e. e)) (without_all gone written (lacking old written))
 
 -- cells that are placed in the order of columns and read under the names of all
 pub map_agree : {X Y : Type 0} (f g : X → Y) → ((x : X) → f x ≡ g x) → (xs : List X) → map f xs ≡ map g xs

@@ -1,14 +1,18 @@
 -- What `apply` answers of a text, and of what `diff` wrote between it and another: the other.
 use Rattle.std.proofs.Common.{◌≡◌, ◌∙◌, ◌++◌, ℕ, Bool, Bor, true, false, List, [], ◌∷◌, None, Option, Some, map, refl, sym, ap, ap₂, subst, subst₂, take}
 use Rattle.std.specs.Prelude.{MatchBool}
+use Rattle.std.specs.List.{flat_map}
 use Rattle.std.proofs.lemmas.List.{append-nil}
 use Rattle.eob_joins.specs.Changes.{changed}
 use Rattle.eob_joins.specs.Tables.{IsKeptOfJoin}
 use Rattle.keyed_files.specs.ChangedColumns.{changed_names}
 use Rattle.keyed_files.specs.ColumnNames.{WriteNames, column_names, distinct, has_name, or_header}
+use Rattle.keyed_files.specs.Going.{going}
+use Rattle.keyed_files.specs.Gone.{GoneBy}
 use Rattle.keyed_files.specs.Keys.{AreKeyNames, first_name}
 use Rattle.keyed_files.specs.Names.{repeats}
 use Rattle.keyed_files.specs.Reading.{HeadedBy, behind_header, cell_under, row_under}
+use Rattle.keyed_files.specs.Rows.{change_name}
 use Rattle.keyed_files.specs.Writing.{comment_of, delimiter_of}
 use Rattle.keyed_files.specs.declared.columns.Columns.{Columns}
 use Rattle.keyed_files.specs.declared.request.Form.{Form}
@@ -19,15 +23,16 @@ use Rattle.keyed_text.specs.Texts.{AreRows, BeginsComments, PartsCells}
 use Rattle.keyed_text.proofs.TextLemmas.{rows-once}
 use Rattle.keyed_commands.specs.Answers.{AnswersTable, Stops, TableRows, key_cmp, rows_eq}
 use Rattle.keyed_commands.specs.Lost.{loses}
+use Rattle.keyed_commands.specs.ChangeRows.{changes_rows}
 use Rattle.keyed_commands.specs.AppliedTexts.{AnswersApplied, AppliesTexts}
 use Rattle.keyed_commands.specs.TablesRead.{AreNames, AreNamesBy, DiffsTexts, SaysTable}
-use Rattle.keyed_commands.specs.TextLaws.{AnswersTableOf, AreReadAs, DiffedTextByLaw, DiffedTextLaw, MakesTable, NamesOnce, gone_between}
+use Rattle.keyed_commands.specs.TextLaws.{AnswersTableOf, AreReadAs, DiffedTextByLaw, DiffedTextLaw, MakesTable, NamesOnce}
 use Rattle.keyed_commands.specs.declared.answers.Answer.{Answer}
-use Rattle.keyed_commands.proofs.ColumnsBackLemmas.{WritesOf, gone-apart, header-within, writes-alike, written-once}
+use Rattle.keyed_commands.proofs.ColumnsBackLemmas.{WritesOf, gone-apart, gone_between, header-within, marked-gone, writes-alike, written-once}
 use Rattle.keyed_commands.proofs.LossLemmas.{loses-none}
 use Rattle.keyed_commands.proofs.LawLemmas.{diff_apply}
 use Rattle.keyed_commands.proofs.TableBackLemmas.{says-only}
-use Rattle.keyed_commands.proofs.TextLawLemmas.{all_of, changes-header, diff-says, groups-are, one-table-law, table-rises}
+use Rattle.keyed_commands.proofs.TextLawLemmas.{all_of, changes-header, diff-says, groups-are, one-table-law, read_back, table-rises}
 
 -- names where no column has another one
 kept_names : {A : Type 0} (key : Option A) (header names : List (List ℕ)) → key ≡ None → AreNames key header names → names ≡ header
@@ -112,8 +117,17 @@ module _ (settings : Settings) (old_form new_form : Form) (old_text new_text : L
   same_changes =
       changes-header settings old_form new_form old_text new_text difference has parts begins plain diffs applies.changes_header applies.columns applies.changes applies.changes_say
 
-  module _ (is_gone : applies.gone ≡ gone_between diffs.names diffs.next_header) (same_names : applies.names ≡ diffs.names) (old_once : repeats [] diffs.names ≡ false)
+  module _ (same_names : applies.names ≡ diffs.names) (old_once : repeats [] diffs.names ≡ false)
       (same_key : applies.columns.key ≡ diffs.columns.key) where
+    -- those columns go that the new header lacks
+    is_gone : applies.gone ≡ gone_between diffs.names diffs.next_header
+    is_gone =
+        let read = read_back settings old_form new_form old_text new_text difference has parts begins plain diffs in
+        let same = rows-once (delimiter_of settings.form) (comment_of settings.form) difference.bytes.items applies.gone_said.0 _ applies.gone_said.1 read.2 in
+        let said : GoneBy true ((change_name ∷ diffs.changes.marked) ∷ changes_rows diffs.columns.order.items read.0) applies.gone =
+        subst₂ (λ b records. GoneBy b records applies.gone) has same applies.gone_said.2 in
+        said ∙ ap (flat_map going) diffs.marks ∙ marked-gone diffs.names diffs.next_header old_once new_once
+
     abbrev Writes : List (List ℕ) → List (List ℕ) → List (List ℕ) → Type 0
     Writes key old changes = WriteNames key (changed_names old changes applies.gone) (changes ∷ old ∷ applies.gone ∷ []) applies.columns
 
@@ -207,13 +221,13 @@ module _ (settings : Settings) (old_form new_form : Form) (old_text new_text : L
         ∙ sym (first_key settings.key (diffs.names ∷ diffs.next_header ∷ []) diffs.columned.first diffs.columned.others no_key diffs.columned.names)
         ∙ sym diffs.columned.are.key
 
-    pub diffed-plainly : applies.gone ≡ gone_between diffs.names diffs.next_header → AnswersTableOf settings new_form new_text diffs.names answer
-    diffed-plainly is_gone = diffed-text is_gone names_are old_names_once key_is
+    pub diffed-plainly : AnswersTableOf settings new_form new_text diffs.names answer
+    diffed-plainly = diffed-text names_are old_names_once key_is
 
 pub diffed-text-by-law : DiffedTextByLaw
-diffed-text-by-law settings old_form new_form old_text new_text difference answer has has_old has_new parts begins plain once_old once_new diffs applies is_gone names once key =
-    diffed-text settings old_form new_form old_text new_text difference answer has has_old has_new parts begins plain once_old once_new diffs applies is_gone names once key
+diffed-text-by-law settings old_form new_form old_text new_text difference answer has has_old has_new parts begins plain once_old once_new diffs applies names once key =
+    diffed-text settings old_form new_form old_text new_text difference answer has has_old has_new parts begins plain once_old once_new diffs applies names once key
 
 pub diffed-text-law : DiffedTextLaw
-diffed-text-law settings old_form new_form old_text new_text difference answer has has_old has_new parts begins plain once_old once_new no_key no_renames diffs applies is_gone =
-    diffed-plainly settings old_form new_form old_text new_text difference answer has has_old has_new parts begins plain once_old once_new diffs applies no_key no_renames is_gone
+diffed-text-law settings old_form new_form old_text new_text difference answer has has_old has_new parts begins plain once_old once_new no_key no_renames diffs applies =
+    diffed-plainly settings old_form new_form old_text new_text difference answer has has_old has_new parts begins plain once_old once_new diffs applies no_key no_renames

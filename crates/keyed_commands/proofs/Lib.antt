@@ -5,6 +5,7 @@ pub mod ColumnsBackLemmas
 pub mod ComeLemmas
 pub mod DiffedTextLemmas
 pub mod GatheredLemmas
+pub mod GoneLemmas
 pub mod JoinLemmas
 pub mod KeyLemmas
 pub mod LawLemmas

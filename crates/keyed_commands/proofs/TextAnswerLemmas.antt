@@ -1,6 +1,7 @@
 -- From what `apply` and `merge` answer of sources to what they answer of texts.
-use Rattle.std.proofs.Common.{◌≡◌, ℕ, Bool, false, List, Option, None, Some, subst, sym}
+use Rattle.std.proofs.Common.{◌≡◌, ℕ, Bool, false, List, Option, None, Some, refl, subst, sym}
 use Rattle.std.specs.Prelude.{IfSome}
+use Rattle.keyed_files.specs.Gone.{GoneOf, IsGoneRead}
 use Rattle.keyed_files.specs.Keys.{AreChangedColumnsBy, AreMergedColumnsBy}
 use Rattle.keyed_files.specs.Opening.{IsNamedAnew, IsOpened, form_of, text_of_stream}
 use Rattle.keyed_files.specs.Reading.{IsOpen}
@@ -19,6 +20,7 @@ use Rattle.keyed_commands.specs.MergedTexts.{AnswersBy, MergedIn, MergesSources,
 use Rattle.keyed_commands.specs.TablesRead.{IsUnordered, ReadsTable, SaysTable}
 use Rattle.keyed_commands.specs.declared.answers.Answer.{Answer}
 use Rattle.keyed_commands.specs.declared.job.Job.{Job}
+use Rattle.keyed_commands.proofs.GoneLemmas.{both-of, gone-of}
 use Rattle.keyed_commands.proofs.ReadLemmas.{are-names, both-known}
 
 -- what holds of two texts, where these are known under other words
@@ -57,12 +59,13 @@ says rem settings job form text header named table groups read begun =
 -- two streams of a table and of changes, of their texts
 module _ {R : Type 0} (rem : R → Option (List ℕ)) (settings : Settings) (old changes : Stream R) (inputs named : Two R) (job : Job Columns) (answer : Answer) where
   pub apply-streams : IsOpened rem settings.form Rows old inputs.first → IsOpened rem settings.form Changes changes inputs.next
-      → IsNamedAnew settings inputs.first.source.value named.first.source.value → named.next ≡ inputs.next
+      → IsGoneRead rem settings.form Changes changes inputs.next → IsNamedAnew settings inputs.first.source.value named.first.source.value → named.next ≡ inputs.next
       → job.form ≡ settings.form → job.groups ≡ settings.groups → (settings.keeps_order ≡ false → IsUnordered job)
       → AreChangedColumnsBy settings.key named.first.source.value.header.names named.next.source.value.header.names named.next.source.value.header.gone job.columns.now
       → AppliesSources rem job named answer → AppliesStreams rem settings old changes answer
-  apply-streams first next renamed same form groups unordered columned read =
-      both-known {T = λ t u. AppliesTexts settings (form_of settings.form old) (form_of settings.form changes) t u answer} _ _ first next (λ t u opened beside. record {
+  apply-streams first next goes renamed same form groups unordered columned read =
+      both-known {T = λ t u. AppliesTexts settings (form_of settings.form old) (form_of settings.form changes) t u answer} _ _ first
+      (both-of (text_of_stream rem settings.form changes) next (goes refl)) (λ t u opened beside. record {
         columns = job.columns.now;
         header = inputs.first.source.value.header.names;
         names = named.first.source.value.header.names;
@@ -74,7 +77,9 @@ module _ {R : Type 0} (rem : R → Option (List ℕ)) (settings : Settings) (old
         changes = read.changes;
         old_says = says rem settings job _ t _ named.first read.old groups read.old_read (open-anew rem settings _ _ t _ _ named.first.source.value renamed opened);
         changes_say = subst (λ g. SaysChanges (form_of settings.form changes) g u named.next.source.value.header.names named.next.source.value.header.names job.columns.now read.changes)
-            groups (read.changes_read _ u _ (subst (λ two. IsOpen (form_of settings.form changes) Changes rem u two.source.value.header.names two.source.value) (sym same) beside));
+            groups (read.changes_read _ u _ (subst (λ two. IsOpen (form_of settings.form changes) Changes rem u two.source.value.header.names two.source.value) (sym same) beside.0));
+        gone_said = subst (λ two. GoneOf (form_of settings.form changes) u two.source.value.header.gone) (sym same)
+            (gone-of rem (form_of settings.form changes) u inputs.next.source.value (read.changes_read _ u _ (subst (λ two. IsOpen (form_of settings.form changes) Changes rem u two.source.value.header.names two.source.value) (sym same) beside.0)).1.0 (read.changes_read _ u _ (subst (λ two. IsOpen (form_of settings.form changes) Changes rem u two.source.value.header.names two.source.value) (sym same) beside.0)).1.1 beside.1);
         applied = record {
           keys = read.applied.keys;
           by_cells = read.applied.by_cells;

@@ -178,7 +178,7 @@ module _ (settings : Settings) (old_form new_form : Form) (old_text new_text : L
       let ordered = diffs.changes.order plain in
       subst₂ (λ keys by_cells. IsDiffText settings.form diffs.columns keys by_cells diffs.changes.marked diffs.old diffs.new answer.bytes.items) ordered.0 ordered.1 diffs.changes.changes
 
-  read_back : (shown : TableChanges) × IsKeptOfJoin key_cmp (changed rows_eq) diffs.old diffs.new shown
+  pub read_back : (shown : TableChanges) × IsKeptOfJoin key_cmp (changed rows_eq) diffs.old diffs.new shown
       × AreRows (delimiter_of settings.form) (comment_of settings.form) answer.bytes.items ((change_name ∷ diffs.changes.marked) ∷ changes_rows diffs.columns.order.items shown)
   read_back =
       let read = diff_reads settings.form diffs.columns None true diffs.changes.marked diffs.old diffs.new answer.bytes.items has parts begins diff_text in

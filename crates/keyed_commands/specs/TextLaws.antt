@@ -1,8 +1,8 @@
 -- What follows of the texts that commands read and write.
-use Rattle.std.specs.Prelude.{◌≡◌, ◌≢◌, ◌++◌, ℕ, Bool, true, false, not, List, [], None, filter}
+use Rattle.std.specs.Prelude.{◌≡◌, ◌≢◌, ◌++◌, ℕ, Bool, true, false, List, [], None}
 use Rattle.eob_joins.specs.Changes.{changed}
 use Rattle.eob_joins.specs.Tables.{IsKeptOfJoin}
-use Rattle.keyed_files.specs.ColumnNames.{has_name, or_header}
+use Rattle.keyed_files.specs.ColumnNames.{or_header}
 use Rattle.keyed_files.specs.Encodings.{is_marked}
 use Rattle.keyed_files.specs.Names.{repeats}
 use Rattle.keyed_files.specs.Rows.{heading, placed, table_rows}
@@ -49,10 +49,6 @@ abbrev pub NamesOnce : Form → List ℕ → Type 0
 NamesOnce form text = (header : List (List ℕ)) (rows : List (List (List ℕ))) → ReadsAs (delimiter_of form) (comment_of form) text header rows
     → repeats [] header ≡ false
 
--- the names of the columns that go from one header to another; one that is empty says nothing of columns
-abbrev pub gone_between : List (List ℕ) → List (List ℕ) → List (List ℕ)
-gone_between old new = filter (λ name. not (has_name (or_header new old) name)) old
-
 -- an answer is the text of a table by key, and its status is 0
 abbrev pub MakesTable : Form → Columns → TableRows → Answer → Type 0
 MakesTable form columns table answer = (answer.status ≡ 0) × (answer.outcome ≡ Made) × IsTableText form columns None true table answer.bytes.items
@@ -80,8 +76,8 @@ pub record AnswersTableOf (settings : Settings) (form : Form) (text : List ℕ) 
   pub styled : IsInStyle made answer
 
 -- what `apply` answers of the first of two texts, and of what `diff` wrote between both, is the text of the table that the second one says:
--- where both have headers, in which no name stands twice, rows come out by key, those columns go that the second one lacks, and both
--- commands read the first one under the same names, none twice, and by the same key
+-- where both have headers, in which no name stands twice, rows come out by key, and both commands read the first one under the same names,
+-- none twice, and by the same key
 abbrev pub DiffedTextByLaw : Type 0
 DiffedTextByLaw = (settings : Settings) (old_form new_form : Form) (old_text new_text : List ℕ) (difference answer : Answer)
     → settings.form.has_header ≡ true → old_form.has_header ≡ true → new_form.has_header ≡ true
@@ -89,7 +85,6 @@ DiffedTextByLaw = (settings : Settings) (old_form new_form : Form) (old_text new
     → settings.keeps_order ≡ false → NamesOnce old_form old_text → NamesOnce new_form new_text
     → (diffs : DiffsTexts settings old_form new_form old_text new_text difference)
     → (applies : AppliesTexts settings old_form settings.form old_text difference.bytes.items answer)
-    → applies.gone ≡ gone_between diffs.names diffs.next_header
     → applies.names ≡ diffs.names → repeats [] diffs.names ≡ false → applies.columns.key ≡ diffs.columns.key
     → AnswersTableOf settings new_form new_text diffs.names answer
 
@@ -102,5 +97,4 @@ DiffedTextLaw = (settings : Settings) (old_form new_form : Form) (old_text new_t
     → settings.key ≡ None → settings.renames ≡ None
     → (diffs : DiffsTexts settings old_form new_form old_text new_text difference)
     → (applies : AppliesTexts settings old_form settings.form old_text difference.bytes.items answer)
-    → applies.gone ≡ gone_between diffs.names diffs.next_header
     → AnswersTableOf settings new_form new_text diffs.names answer

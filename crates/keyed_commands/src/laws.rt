@@ -32,9 +32,8 @@ pub fn law_diff_says()
 
 /// What `apply` answers of the first of two texts, and of what `diff` wrote between both, is the text of the table that the second one
 /// says, in the order of its keys, and no cell is lost. Each text has a header, in which no name stands twice, and both commands read the
-/// first text under the same names and by the same key, as they do where the key is the first column and no column has another name. That
-/// those columns go which the second text lacks is a premise: no contract says yet which columns go by the header of changes. Call it where
-/// changes that `diff` wrote are applied to the text that they are from.
+/// first text under the same names and by the same key, as they do where the key is the first column and no column has another name. Call it
+/// where changes that `diff` wrote are applied to the text that they are from.
 pub fn law_diff_apply_texts()
     ensures by { DiffedTextByLaw }
     ensures plain { DiffedTextLaw }

@@ -20,5 +20,6 @@ returns g c =
     c.watch-old.ensures.text c.watch-changes.ensures.text c.watch-old.ensures.form c.watch-changes.ensures.form
     (apply-streams (watched_left g.R.Read.remaining) settings c.watch-old.result c.watch-changes.result c.in_ok-inputs.inputs
     (record c.in_ok-inputs.inputs { first = c.rename.new.self }) c.new-2.result answer c.in_ok-inputs.ensures.first c.in_ok-inputs.ensures.next
+    c.in_ok-inputs.ensures.gone
     c.in_ok-rename.ensures refl c.new-2.ensures.form c.new-2.ensures.groups c.new-2.ensures.unordered
     (subst P (sym c.new-2.ensures.columns) c.in_ok-columns.ensures) read)) c.apply_files.ensures

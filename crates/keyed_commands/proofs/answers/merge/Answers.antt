@@ -22,6 +22,6 @@ returns g c =
     c.watch-base.ensures.text c.watch-ours.ensures.text c.watch-theirs.ensures.text
     c.watch-base.ensures.form c.watch-ours.ensures.form c.watch-theirs.ensures.form
     (merge-streams (watched_left g.R.Read.remaining) c.args.how.unit settings c.watch-base.result c.watch-ours.result c.watch-theirs.result
-    c.in_ok-base.base c.rename.new.self c.in_ok-sides.sides c.new-job.result answer c.in_ok-base.ensures c.in_ok-sides.ensures.first c.in_ok-sides.ensures.next
+    c.in_ok-base.base c.rename.new.self c.in_ok-sides.sides c.new-job.result answer c.in_ok-base.ensures.opened c.in_ok-sides.ensures.first c.in_ok-sides.ensures.next
     c.in_ok-rename.ensures c.new-job.ensures.form c.new-job.ensures.groups c.new-job.ensures.unordered
     (subst P (sym c.new-job.ensures.columns) c.in_ok-columns.ensures) (read reported))) c.merge_files.ensures

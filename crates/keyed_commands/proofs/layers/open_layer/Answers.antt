@@ -11,5 +11,5 @@ returns g c =
       old.header.names,
       are-names c.args.key old new renamed,
       layer_open g.R.Read.remaining c.args.key (form_of c.args.form c.args.stream) _ old.header.names old new (text_of_stream g.R.Read.remaining c.args.form c.args.stream) _
-          c.watch-stream.ensures.form c.watch-stream.ensures.text renamed c.in_ok-table.ensures,
+          c.watch-stream.ensures.form c.watch-stream.ensures.text renamed c.in_ok-table.ensures.opened,
     )

@@ -1,0 +1,59 @@
+-- The columns that go, from the header of a source of changes to its text.
+use Rattle.std.proofs.Common.{◌≡◌, ◌∙◌, ℕ, Bool, true, false, List, [], ◌∷◌, ◌++◌, None, Option, Some, sym, ap, subst}
+use Rattle.std.specs.Prelude.{IfSome}
+use Rattle.csv.specs.Machine.{Read, next_record}
+use Rattle.csv.specs.Reading.{Reached, strip_bom}
+use Rattle.csv.specs.declared.parser.Config.{Config}
+use Rattle.csv.specs.declared.parser.State.{State}
+use Rattle.csv.specs.declared.parser.State.TheVariants as st
+use Rattle.keyed_files.specs.Gone.{GoneBy, GoneOf, IsGoneHeader, KnowsGone}
+use Rattle.keyed_files.specs.Reading.{HasGiven, HasGivenIn, last_record}
+use Rattle.keyed_files.specs.Writing.{comment_of, delimiter_of}
+use Rattle.keyed_files.specs.declared.request.Form.{Form}
+use Rattle.keyed_files.specs.declared.source.Next.{Next}
+use Rattle.keyed_files.specs.declared.source.Next.TheVariants as next
+use Rattle.keyed_files.specs.declared.source.Source.{Source}
+use Rattle.keyed_text.specs.Texts.{AreRows, config_by}
+use Rattle.keyed_text.proofs.TextLemmas.{rows-once}
+
+some_same : {A : Type 0} {x y : A} → Some x ≡ Some y → x ≡ y
+some_same e = cc e
+
+-- what is read first of a text is the first of its records
+head_once : (cfg : Config) (s s2 t2 : State) (xs ys zs : List ℕ) (a : List (List ℕ)) (more b : List (List (List ℕ)))
+    → Reached cfg s xs (a ∷ more) s2 ys → Reached cfg s xs b t2 zs → next_record cfg t2 [] [] zs ≡ None → (rest : List (List (List ℕ))) × (b ≡ a ∷ rest)
+unfolding Reached
+head_once cfg s s2 t2 xs ys zs a more [] h k m =
+    let e : next_record cfg s [] [] xs ≡ None = rw (k.0, k.1) m in
+    absurd (cc (sym e ∙ h.1))
+head_once cfg s s2 t2 xs ys zs a more (b ∷ bs) h k m =
+    let same : h.0 ≡ k.0 = some_same (sym h.1 ∙ k.1) in
+    (bs, ap (λ r. r ∷ bs) (k.2 ∙ ap (λ (p : Read). p.0) (sym same) ∙ sym h.2))
+
+module _ {R : Type 0} (rem : R → Option (List ℕ)) (d : ℕ) (c : Option ℕ) (text : List ℕ) (source : Source R) (fields : List (List ℕ)) (more records : List (List (List ℕ)))
+    (are : AreRows d c text records) where
+  given_first : (now : Next) → HasGivenIn d c rem text (fields ∷ more) source now → (rest : List (List (List ℕ))) × (records ≡ fields ∷ rest)
+  given_first next.Kept h =
+      head_once (config_by d c) st.StartRecord _ are.0 (strip_bom text) _ are.1 fields (more ++ (last_record source ∷ [])) records h.reached are.2 are.3
+  given_first next.Read h = head_once (config_by d c) st.StartRecord _ are.0 (strip_bom text) _ are.1 fields more records h.reached are.2 are.3
+  given_first next.Ended h = (more, rows-once d c text records (fields ∷ more) are h)
+
+module _ {R : Type 0} (rem : R → Option (List ℕ)) (form : Form) (text : List ℕ) (source : Source R) (records : List (List (List ℕ)))
+    (are : AreRows (delimiter_of form) (comment_of form) text records) where
+  gone_if : (has_header : Bool) (first : List (List (List ℕ))) → IsGoneHeader form text source.header.gone has_header first
+      → HasGiven (delimiter_of form) (comment_of form) rem text first source → GoneBy has_header records source.header.gone
+  gone_if true [] head given =
+      let none : records ≡ [] = rows-once (delimiter_of form) (comment_of form) text records [] are head.0 in
+      subst (λ r. GoneBy true r source.header.gone) (sym none) head.1
+  gone_if true (fields ∷ more) head given =
+      let at = given_first rem (delimiter_of form) (comment_of form) text source fields more records are source.next given in
+      subst (λ r. GoneBy true r source.header.gone) (sym at.1) head
+  gone_if false first head given = tt
+
+  pub gone-of : KnowsGone form rem text source → GoneOf form text source.header.gone
+  gone-of known = (records, are, gone_if form.has_header known.first known.header known.given)
+
+-- what holds of a text that is known, beside what else holds
+pub both-of : {P Q : List ℕ → Type 0} (m : Option (List ℕ)) → IfSome m P → IfSome m Q → IfSome m (λ t. P t × Q t)
+both-of None p q = tt
+both-of (Some t) p q = (p, q)
