@@ -7,6 +7,7 @@ pub mod LawLemmas
 pub mod LineLemmas
 pub mod NameLemmas
 pub mod NumberLemmas
+pub mod PartLemmas
 pub mod PlacedLemmas
 pub mod ReadingLemmas
 pub mod TableLemmas

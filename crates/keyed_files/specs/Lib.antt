@@ -17,6 +17,7 @@ pub mod Lost
 pub mod Names
 pub mod NewColumns
 pub mod Opening
+pub mod Parts
 pub mod Picked
 pub mod Reading
 pub mod Rows

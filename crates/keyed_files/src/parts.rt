@@ -1,5 +1,8 @@
 //! A table whose keys are strictly increasing, read part by part.
-ghost use Rattle.std.specs.Prelude.{◌≡◌, None, cond, option_map};
+ghost use Rattle.std.specs.Prelude.{◌≡◌, ◌++◌, ◌∷◌, [], ℕ, IfOk, List, MatchOption, None, OnOk, Option, Some};
+ghost use Rattle.std.specs.Prelude.{cond, false, is_some, option_map, true};
+ghost use Rattle.keyed_files.specs.Parts.{Fills, HasParts, IsFull, IsStep, RisesTo, TakesUpTo, first_within, keys_in, rises_behind};
+ghost use Rattle.keyed_files.specs.Reading.{HasGiven, PlacesOf};
 
 use crate::columns::Columns;
 use crate::fault::{Fault, Reason};
@@ -31,7 +34,13 @@ impl<'a, R: Read + Drop> Parts<'a, R> {
     ///
     /// Returns the fault of the file: `NoColumn` if its header lacks a column of the key, and `NoMemory` if a request for memory was
     /// refused.
-    pub fn new(alloc: Global, table: Opened<'a, R>, columns: &Columns) -> Result<Self, Fault<'a>> {
+    pub fn new(alloc: Global, table: Opened<'a, R>, columns: &Columns) -> Result<Self, Fault<'a>>
+        ensures places { IfOk result (λ parts. PlacesOf table.entry.source.value columns.now parts.places) }
+        ensures rises { IfOk result (λ parts. RisesTo (keys_in parts.waiting.items) parts.last) }
+        ensures begins { IfOk result (λ parts. (d : ℕ) (c : Option ℕ) (text : List ℕ) (given : List (List (List ℕ)))
+            → HasGiven d c R.remaining text given table.entry.source.value
+            → HasParts R.remaining d c text given [] parts) }
+    {
         let places = at(table.file, table.source.places(columns))?;
         Ok(Parts {
             file: table.file,
@@ -49,32 +58,68 @@ impl<'a, R: Read + Drop> Parts<'a, R> {
     ///
     /// Returns the fault of the file: `NotRising` if a key is not greater than the one before it, `CellCount` if a row has more or
     /// fewer cells than the first one, `Io` if the reader fails, and `NoMemory` if a request for memory was refused.
-    pub fn fill(&mut self) -> Result<(), Fault<'a>> {
+    pub fn fill(&mut self) -> Result<(), Fault<'a>>
+        ensures fills { OnOk result (Fills R.remaining self.old self.new) }
+        ensures full { OnOk result (IsFull self.new) }
+    {
         at(self.file, self.read_part())
     }
 
-    fn read_part(&mut self) -> Result<(), Reason> {
+    // The same, with no file.
+    fn read_part(&mut self) -> Result<(), Reason>
+        ensures fills { OnOk result (Fills R.remaining self.old self.new) }
+        ensures full { OnOk result (IsFull self.new) }
+    {
         for _ in self.waiting.len()..PART {
             if self.is_ended {
-                break;
+                return Ok(());
             }
-            match self.source.read_row(&self.places)? {
-                Some(row) => self.put(row)?,
-                None => self.is_ended = true,
-            }
+            self.read_next()?;
         }
         Ok(())
     }
 
-    fn put(&mut self, row: ReadRow) -> Result<(), Reason> {
-        if let Some(last) = &self.last {
-            if row.key <= *last {
-                return Err(Reason::NotRising(row.line));
+    // Reads the next row of a table that is not ended, if there is one.
+    fn read_next(&mut self) -> Result<(), Reason>
+        requires { self.now.is_ended ≡ false }
+        ensures fills { OnOk result (Fills R.remaining self.old self.new) }
+        ensures step { OnOk result (IsStep self.old self.new) }
+    {
+        match self.source.read_row(&self.places)? {
+            Some(row) => {
+                self.put(row)?;
+                Ok(())
             }
+            None => {
+                self.is_ended = true;
+                Ok(())
+            }
+        }
+    }
+
+    // Puts a row behind those that wait.
+    fn put(&mut self, row: ReadRow) -> Result<(), Reason>
+        ensures rises { OnOk result (rises_behind self.old.last row.key ≡ true) }
+        ensures last { OnOk result (self.new.last ≡ Some row.key) }
+        ensures puts { OnOk result (self.new.waiting.items ≡ self.old.waiting.items ++ row ∷ []) }
+        ensures same { self.new ≡ record self.old { last = self.new.last; waiting = self.new.waiting } }
+    {
+        if !self.rises(&row.key) {
+            return Err(Reason::NotRising(row.line));
         }
         self.last = Some(row.key.clone()?);
         self.waiting.push_back(row)?;
         Ok(())
+    }
+
+    // Whether a key is greater than the last one.
+    fn rises(&self, key: &Key) -> bool
+        ensures { result ≡ rises_behind self.now.last key.now }
+    {
+        match &self.last {
+            Some(last) => *last < *key,
+            None => true,
+        }
     }
 
     /// The key up to which all rows are read, or None where all are.
@@ -88,8 +133,42 @@ impl<'a, R: Read + Drop> Parts<'a, R> {
         }
     }
 
+    /// Takes the rows that wait, in their order, as far as they are not beyond a key.
+    ///
+    /// # Errors
+    ///
+    /// Returns the fault of the file: `NoMemory` if a request for memory was refused.
+    pub fn take_up_to(
+        &mut self,
+        alloc: Global,
+        bound: &Option<Key>,
+    ) -> Result<Vec<ReadRow>, Fault<'a>>
+        ensures { IfOk result (λ rows. TakesUpTo bound.now self.old self.new rows.items) }
+    {
+        at(self.file, self.take_rows(alloc, bound))
+    }
+
+    // The same, with no file.
+    fn take_rows(&mut self, alloc: Global, bound: &Option<Key>) -> Result<Vec<ReadRow>, Reason>
+        ensures { IfOk result (λ rows. TakesUpTo bound.now self.old self.new rows.items) }
+    {
+        let mut rows = Vec::new(alloc);
+        for _ in 0..u64::MAX {
+            match self.pop(bound) {
+                Some(row) => rows.push(row)?,
+                None => return Ok(rows),
+            }
+        }
+        Err(Reason::NoMemory)
+    }
+
     /// Takes the next row that waits, unless it is beyond a key.
-    pub fn pop(&mut self, bound: &Option<Key>) -> Option<ReadRow> {
+    pub fn pop(&mut self, bound: &Option<Key>) -> Option<ReadRow>
+        ensures first { result ≡ first_within bound.now self.old.waiting.items }
+        ensures rest { MatchOption result (self.new.waiting.items ≡ self.old.waiting.items)
+            (λ row. self.old.waiting.items ≡ row ∷ self.new.waiting.items) }
+        ensures same { self.new ≡ record self.old { waiting = self.new.waiting } }
+    {
         if self.is_within(bound) {
             self.waiting.pop_front()
         } else {
@@ -98,7 +177,9 @@ impl<'a, R: Read + Drop> Parts<'a, R> {
     }
 
     // Whether a row waits that is not beyond a key.
-    fn is_within(&self, bound: &Option<Key>) -> bool {
+    fn is_within(&self, bound: &Option<Key>) -> bool
+        ensures { result ≡ is_some (first_within bound.now self.now.waiting.items) }
+    {
         match self.waiting.front() {
             Some(row) => match bound {
                 Some(key) => row.key <= *key,
