@@ -1,16 +1,19 @@
 -- What `join` answers of two texts that are known.
-use Rattle.std.proofs.Common.{◌≡◌, ◌∙◌, ◌++◌, ℕ, Bool, Bor, true, List, [], ◌∷◌, filter, flat_map, map, IsPermutation, Option, None, ap, subst}
+use Rattle.std.proofs.Common.{◌≡◌, ◌∙◌, ◌++◌, ℕ, Bool, Bor, true, List, [], ◌∷◌, filter, flat_map, map, IsPermutation, Option, None, ap, refl, subst}
 use Rattle.std.specs.Prelude.{⊤}
 use Rattle.eob_lists.specs.Join.{IsJoin, Rising}
 use Rattle.eob_lists.proofs.MergeLemmas.{Up, merge}
 use Rattle.eob_joins.specs.Tables.{IsAntiJoin, IsInnerJoin, IsLeftJoin, IsRightJoin, IsSemiJoin, both_places, kept, lone_left, paired_left, paired_right, shared_left}
 use Rattle.keyed_files.specs.ColumnNames.{HaveNames, column_names, if_empty, is_beside, or_header, place_under_key}
+use Rattle.keyed_files.specs.JoinedNames.{joined_names, side_column, told_apart}
 use Rattle.keyed_files.specs.JoinedRows.{each_before, side_count, side_row}
 use Rattle.keyed_files.specs.Keys.{AreJoinColumns, first_name}
 use Rattle.keyed_files.specs.Rows.{first_cells}
 use Rattle.keyed_files.specs.Writing.{quoted_text}
 use Rattle.keyed_files.specs.declared.columns.JoinColumns.{JoinColumns}
 use Rattle.keyed_files.specs.declared.request.Form.{Form}
+use Rattle.keyed_files.specs.declared.request.JoinNames.{JoinNames}
+use Rattle.keyed_files.specs.declared.request.Joining.{Joining}
 use Rattle.keyed_files.specs.declared.request.Kind.{Kind}
 use Rattle.keyed_files.specs.declared.request.Kind.TheVariants as kind
 use Rattle.keyed_files.specs.declared.request.Settings.{Settings}
@@ -34,6 +37,11 @@ module _ (left_rest right_rest : List (List ℕ)) where
 
   abbrev pub joined_by : {V : Type 0} → (V → RowSides) → List (List (List ℕ) × V) → List (List (List ℕ))
   joined_by shows rows = flat_map (λ row. sides_by row.0 (shows row.1)) rows
+
+-- the names of the columns of a join that has columns of both tables, by those of the key and beside it
+abbrev pub names_by : Kind → JoinNames → (key left right : List (List ℕ)) → List (List ℕ)
+names_by made names key left right =
+    ((first_cells (side_column made names) ++ key) ++ map (told_apart names.left.now right) left) ++ map (told_apart names.right.now (key ++ left)) right
 
 -- the key of two tables, all names of one of them, and those beside the key
 abbrev pub join_key : (left right : List (List ℕ)) → List (List ℕ)
@@ -66,7 +74,7 @@ right_columns key left right columns e h =
     subst (λ k. HaveNames (if_empty right k (join_key left right)) (side_names right left) columns.right) names.0
     (subst (λ k. HaveNames (if_empty right h.first k) (side_names right left) columns.right) names.1 h.are_right)
 
--- the text of a join whose rows are known, under its header, which is not
+-- the text of a join whose rows are known, under a header
 text_of_join_is : {V : Type 0} (form : Form) (columns : JoinColumns) (names : List (List ℕ)) (keys : Option (List (List (List ℕ)))) (by_cells : Bool)
     (shows : V → RowSides) (alike : V → V → Type 0) (rows known : List (List (List ℕ) × V)) (text : List ℕ) (left right : List (List ℕ))
     → columns.left.rest ≡ left → columns.right.rest ≡ right → rows ≡ known → (keys ≡ None) × (by_cells ≡ true)
@@ -78,8 +86,8 @@ text_of_join_is form columns names keys by_cells shows alike rows known text lef
     ∙ ap (λ l. quoted_text form (heading_of_join form names ++ joined_by l columns.right.rest shows known)) el
     ∙ ap (λ r. quoted_text form (heading_of_join form names ++ joined_by left r shows known)) er
 
-module _ {settings : Settings} {by : Kind} {left_form right_form : Form} {left_bytes right_bytes : List ℕ} {answer : Answer}
-    (j : JoinsTexts settings by left_form right_form left_bytes right_bytes answer) (plain : IsPlain settings)
+module _ {settings : Settings} {how : Joining} {left_form right_form : Form} {left_bytes right_bytes : List ℕ} {answer : Answer}
+    (j : JoinsTexts settings how left_form right_form left_bytes right_bytes answer) (plain : IsPlain settings)
     (left_fields right_fields : List (List ℕ)) (left_records right_records : List (List (List ℕ)))
     (left_known : IsKnown left_form left_bytes left_fields left_records) (right_known : IsKnown right_form right_bytes right_fields right_records)
     (left right : KeyedRows) (left_up : Up key_cmp (λ k. ⊤) left) (right_up : Up key_cmp (λ k. ⊤) right)
@@ -139,10 +147,25 @@ module _ {settings : Settings} {by : Kind} {left_form right_form : Form} {left_b
       table_text settings.form (map (place_under_key (side_key left_fields right_fields left_fields)) (side_names left_fields right_fields))
       (side_key left_fields right_fields left_fields) (left_rest left_fields right_fields) rows
 
-  abbrev IsText : Kind → Type 0
-  IsText made = IsJoinText settings.form j.columns j.join.names j.join.keys j.join.by_cells made j.left j.right answer.bytes.items
+  abbrev names : List (List ℕ)
+  names = joined_names how.kind how.names j.columns
 
-  of_kind : (made : Kind) → by ≡ made → IsText made
+  -- the names of its columns
+  abbrev pub known_names : Kind → List (List ℕ)
+  known_names made = names_by made how.names (side_key left_fields right_fields left_fields) (left_rest left_fields right_fields) (right_rest left_fields right_fields)
+
+  names_are : (made : Kind) → how.kind ≡ made → joined_names made how.names j.columns ≡ names_by made how.names j.columns.left.key j.columns.left.rest j.columns.right.rest
+      → names ≡ known_names made
+  names_are made is same =
+      ap (λ k. joined_names k how.names j.columns) is ∙ same
+      ∙ ap (λ k. names_by made how.names k j.columns.left.rest j.columns.right.rest) on_left.key
+      ∙ ap (λ l. names_by made how.names (side_key left_fields right_fields left_fields) l j.columns.right.rest) on_left.rest
+      ∙ ap (λ r. names_by made how.names (side_key left_fields right_fields left_fields) (left_rest left_fields right_fields) r) on_right.rest
+
+  abbrev IsText : Kind → Type 0
+  IsText made = IsJoinText settings.form j.columns names j.join.keys j.join.by_cells made j.left j.right answer.bytes.items
+
+  of_kind : (made : Kind) → how.kind ≡ made → IsText made
   of_kind made is = subst IsText is j.join.join
 
   left_rises : Rising key_cmp (map alone left)
@@ -151,37 +174,41 @@ module _ {settings : Settings} {by : Kind} {left_form right_form : Form} {left_b
   right_rises : Rising key_cmp (map alone right)
   right_rises = alone_rise key_cmp key_total right right_up
 
-  pub outer_bytes : by ≡ kind.Outer → answer.bytes.items ≡ outer_text j.join.names
+  pub outer_bytes : how.kind ≡ kind.Outer → answer.bytes.items ≡ outer_text (known_names kind.Outer)
   outer_bytes is =
       let text = of_kind kind.Outer is in
-      text_of_join_is settings.form j.columns j.join.names j.join.keys j.join.by_cells outer_sides (AlikePlaces AlikeRows AlikeRows) text.0 (merge key_cmp (map alone left) (map alone right)) answer.bytes.items
+      text_of_join_is settings.form j.columns names j.join.keys j.join.by_cells outer_sides (AlikePlaces AlikeRows AlikeRows) text.0 (merge key_cmp (map alone left) (map alone right)) answer.bytes.items
       (left_rest left_fields right_fields) (right_rest left_fields right_fields) on_left.rest on_right.rest
       (joined key_cmp key_total key_exact (map alone left) (map alone right) left_rises right_rises text.0 (of_tables (λ a b. IsJoin key_cmp a b text.0) text.1))
       (j.join.order plain.order) text.2
+      ∙ ap outer_text (names_are kind.Outer is refl)
 
-  pub inner_bytes : by ≡ kind.Inner → answer.bytes.items ≡ inner_text j.join.names
+  pub inner_bytes : how.kind ≡ kind.Inner → answer.bytes.items ≡ inner_text (known_names kind.Inner)
   inner_bytes is =
       let text = of_kind kind.Inner is in
-      text_of_join_is settings.form j.columns j.join.names j.join.keys j.join.by_cells inner_sides AlikeBoth text.0 (kept both_places (merge key_cmp (map alone left) (map alone right))) answer.bytes.items
+      text_of_join_is settings.form j.columns names j.join.keys j.join.by_cells inner_sides AlikeBoth text.0 (kept both_places (merge key_cmp (map alone left) (map alone right))) answer.bytes.items
       (left_rest left_fields right_fields) (right_rest left_fields right_fields) on_left.rest on_right.rest
       (inner_joined key_cmp key_total key_exact (map alone left) (map alone right) left_rises right_rises text.0 (of_tables (λ a b. IsInnerJoin key_cmp a b text.0) text.1))
       (j.join.order plain.order) text.2
+      ∙ ap inner_text (names_are kind.Inner is refl)
 
-  pub left_join_bytes : by ≡ kind.Left → answer.bytes.items ≡ left_text j.join.names
+  pub left_join_bytes : how.kind ≡ kind.Left → answer.bytes.items ≡ left_text (known_names kind.Left)
   left_join_bytes is =
       let text = of_kind kind.Left is in
-      text_of_join_is settings.form j.columns j.join.names j.join.keys j.join.by_cells left_sides AlikeLeft text.0 (kept paired_left (merge key_cmp (map alone left) (map alone right))) answer.bytes.items
+      text_of_join_is settings.form j.columns names j.join.keys j.join.by_cells left_sides AlikeLeft text.0 (kept paired_left (merge key_cmp (map alone left) (map alone right))) answer.bytes.items
       (left_rest left_fields right_fields) (right_rest left_fields right_fields) on_left.rest on_right.rest
       (left_joined key_cmp key_total key_exact (map alone left) (map alone right) left_rises right_rises text.0 (of_tables (λ a b. IsLeftJoin key_cmp a b text.0) text.1))
       (j.join.order plain.order) text.2
+      ∙ ap left_text (names_are kind.Left is refl)
 
-  pub right_join_bytes : by ≡ kind.Right → answer.bytes.items ≡ right_text j.join.names
+  pub right_join_bytes : how.kind ≡ kind.Right → answer.bytes.items ≡ right_text (known_names kind.Right)
   right_join_bytes is =
       let text = of_kind kind.Right is in
-      text_of_join_is settings.form j.columns j.join.names j.join.keys j.join.by_cells right_sides AlikeRight text.0 (kept paired_right (merge key_cmp (map alone left) (map alone right))) answer.bytes.items
+      text_of_join_is settings.form j.columns names j.join.keys j.join.by_cells right_sides AlikeRight text.0 (kept paired_right (merge key_cmp (map alone left) (map alone right))) answer.bytes.items
       (left_rest left_fields right_fields) (right_rest left_fields right_fields) on_left.rest on_right.rest
       (right_joined key_cmp key_total key_exact (map alone left) (map alone right) left_rises right_rises text.0 (of_tables (λ a b. IsRightJoin key_cmp a b text.0) text.1))
       (j.join.order plain.order) text.2
+      ∙ ap right_text (names_are kind.Right is refl)
 
   -- the rows of the left table alone, whose header is known
   table_bytes : (rows known : TableRows) → rows ≡ known → IsTableText settings.form j.columns.left j.join.keys j.join.by_cells rows answer.bytes.items
@@ -192,13 +219,13 @@ module _ {settings : Settings} {by : Kind} {left_form right_form : Form} {left_b
       (side_key left_fields right_fields left_fields) (left_rest left_fields right_fields) on_left.order on_left.key on_left.rest (j.join.order plain.order) text
       ∙ ap left_text_of is
 
-  pub semi_bytes : by ≡ kind.Semi → answer.bytes.items ≡ left_text_of (kept shared_left (merge key_cmp (map alone left) (map alone right)))
+  pub semi_bytes : how.kind ≡ kind.Semi → answer.bytes.items ≡ left_text_of (kept shared_left (merge key_cmp (map alone left) (map alone right)))
   semi_bytes is =
       let text = of_kind kind.Semi is in
       table_bytes text.0 (kept shared_left (merge key_cmp (map alone left) (map alone right)))
       (semi_joined key_cmp key_total key_exact (map alone left) (map alone right) left_rises right_rises text.0 (of_tables (λ a b. IsSemiJoin key_cmp a b text.0) text.1)) text.2
 
-  pub anti_bytes : by ≡ kind.Anti → answer.bytes.items ≡ left_text_of (kept lone_left (merge key_cmp (map alone left) (map alone right)))
+  pub anti_bytes : how.kind ≡ kind.Anti → answer.bytes.items ≡ left_text_of (kept lone_left (merge key_cmp (map alone left) (map alone right)))
   anti_bytes is =
       let text = of_kind kind.Anti is in
       table_bytes text.0 (kept lone_left (merge key_cmp (map alone left) (map alone right)))

@@ -4,15 +4,17 @@ use Rattle.std.specs.Prelude.{if◌then◌else◌, unwrap_or}
 use Rattle.std.specs.List.{AllByRecursion}
 use Rattle.std.specs.Map.{lookup}
 use Rattle.keyed_files.specs.ColumnNames.{HaveNames, place_under_key}
+use Rattle.keyed_files.specs.JoinedNames.{found_names, told_apart}
 use Rattle.keyed_files.specs.JoinedRows.{join_heading}
 use Rattle.keyed_files.specs.Reading.{parts_of}
 use Rattle.keyed_files.specs.Rows.{placed}
 use Rattle.keyed_files.specs.Writing.{comment_of, delimiter_of, quoted_text}
 use Rattle.keyed_files.specs.declared.columns.JoinColumns.{JoinColumns}
 use Rattle.keyed_files.specs.declared.columns.Place.{Place}
+use Rattle.keyed_files.specs.declared.lookups.Finding.{Finding}
 use Rattle.keyed_files.specs.declared.lookups.LookupKind.{LookupKind}
 use Rattle.keyed_files.specs.declared.lookups.LookupKind.TheVariants as kind
-use Rattle.keyed_files.specs.declared.request.Form.{Form}
+use Rattle.keyed_files.specs.declared.request.JoinNames.{JoinNames}
 use Rattle.keyed_files.specs.declared.request.Layout.{Layout}
 use Rattle.keyed_commands.specs.JoinAnswers.{heading_of_join}
 use Rattle.keyed_commands.specs.LookupAnswers.{AppendsRows, LooksUpTexts, key_eq, lookup_rows, rows_of}
@@ -35,6 +37,17 @@ module _ (order : List Place) (names : List (List ℕ)) where
   abbrev pub looked_up : LookupKind → (right left : KeyedRows) → List (List (List ℕ))
   looked_up kind right left = flat_map (λ row. rows_with kind row.0 row.1 (lookup (key_eq row.0) right)) left
 
+-- the names of the columns that are written
+abbrev pub found_by : LookupKind → JoinNames → List Place → (key left right : List (List ℕ)) → List (List ℕ)
+found_by kind.Anti names order key left right = placed order key left
+found_by made names order key left right = placed order key (map (told_apart names.left.now right) left) ++ map (told_apart names.right.now (key ++ left)) right
+
+names_are : (made : LookupKind) (names : JoinNames) (columns : JoinColumns)
+    → found_names made names columns ≡ found_by made names columns.left.order.items columns.left.key columns.left.rest columns.right.rest
+names_are kind.Left names columns = refl
+names_are kind.Inner names columns = refl
+names_are kind.Anti names columns = refl
+
 rows_are : (columns : JoinColumns) (kind : LookupKind) (key rest : List (List ℕ)) (found : Option (List (List ℕ)))
     → rows_of columns kind key rest found ≡ rows_with columns.left.order.items columns.right.rest kind key rest found
 rows_are columns kind.Left key rest found = refl
@@ -50,8 +63,8 @@ looked_up_are columns kind right (row ∷ rows) =
     ap (λ l. l ++ lookup_rows columns kind (λ key. lookup (key_eq key) right) rows) (rows_are columns kind row.0 row.1 (lookup (key_eq row.0) right))
     ∙ ap (λ l. rows_with columns.left.order.items columns.right.rest kind row.0 row.1 (lookup (key_eq row.0) right) ++ l) (looked_up_are columns kind right rows)
 
-module _ {layout : Layout} {by : LookupKind} {left_form right_form : Form} {left_text right_text old new : List ℕ}
-    (l : LooksUpTexts layout by left_form right_form left_text right_text (Some old) (Some new)) (plain : layout.key ≡ None)
+module _ {layout : Layout} {how : Finding} {left_form right_form : Form} {left_text right_text old new : List ℕ}
+    (l : LooksUpTexts layout how left_form right_form left_text right_text (Some old) (Some new)) (plain : layout.key ≡ None)
     (left_fields right_fields : List (List ℕ)) (left_records right_records : List (List (List ℕ)))
     (left_known : IsKnown left_form left_text left_fields left_records) (right_known : IsKnown right_form right_text right_fields right_records) where
   abbrev left_key : List (List ℕ)
@@ -99,24 +112,38 @@ module _ {layout : Layout} {by : LookupKind} {left_form right_form : Form} {left
 
   -- the rows of the left table in their order, each with what the right one has under its key
   abbrev pub known_rows : List (List (List ℕ))
-  known_rows = looked_up order beside_right by (rows_by right_fields right_key beside_right right_records) (rows_by left_fields left_key beside_left left_records)
+  known_rows = looked_up order beside_right how.kind (rows_by right_fields right_key beside_right right_records) (rows_by left_fields left_key beside_left left_records)
 
-  rows_known : lookup_rows l.columns by (λ key. lookup (key_eq key) (map parts_of l.right)) (map parts_of l.left) ≡ known_rows
+  rows_known : lookup_rows l.columns how.kind (λ key. lookup (key_eq key) (map parts_of l.right)) (map parts_of l.left) ≡ known_rows
   rows_known =
-      looked_up_are l.columns by (map parts_of l.right) (map parts_of l.left)
-      ∙ ap (λ o. looked_up o l.columns.right.rest by (map parts_of l.right) (map parts_of l.left)) on_left.order
-      ∙ ap (λ n. looked_up order n by (map parts_of l.right) (map parts_of l.left)) on_right.rest
-      ∙ ap (λ r. looked_up order beside_right by r (map parts_of l.left)) right_rows
-      ∙ ap (λ r. looked_up order beside_right by (rows_by right_fields right_key beside_right right_records) r) left_rows
+      looked_up_are l.columns how.kind (map parts_of l.right) (map parts_of l.left)
+      ∙ ap (λ o. looked_up o l.columns.right.rest how.kind (map parts_of l.right) (map parts_of l.left)) on_left.order
+      ∙ ap (λ n. looked_up order n how.kind (map parts_of l.right) (map parts_of l.left)) on_right.rest
+      ∙ ap (λ r. looked_up order beside_right how.kind r (map parts_of l.left)) right_rows
+      ∙ ap (λ r. looked_up order beside_right how.kind (rows_by right_fields right_key beside_right right_records) r) left_rows
 
-  -- they are appended, under some header
-  adds_rows : AppendsRows layout.form (heading_of_join layout.form l.names ++ known_rows) (Some old) (Some new)
-  adds_rows = subst (λ r. AppendsRows layout.form (heading_of_join layout.form l.names ++ r) (Some old) (Some new)) rows_known l.written
+  -- the names of the columns that are written
+  abbrev pub known_names : List (List ℕ)
+  known_names = found_by how.kind how.names order left_key beside_left beside_right
+
+  names_known : found_names how.kind how.names l.columns ≡ known_names
+  names_known =
+      names_are how.kind how.names l.columns
+      ∙ ap (λ o. found_by how.kind how.names o l.columns.left.key l.columns.left.rest l.columns.right.rest) on_left.order
+      ∙ ap (λ k. found_by how.kind how.names order k l.columns.left.rest l.columns.right.rest) on_left.key
+      ∙ ap (λ n. found_by how.kind how.names order left_key n l.columns.right.rest) on_left.rest
+      ∙ ap (λ n. found_by how.kind how.names order left_key beside_left n) on_right.rest
+
+  -- they are appended, under the header
+  adds_rows : AppendsRows layout.form (heading_of_join layout.form known_names ++ known_rows) (Some old) (Some new)
+  adds_rows =
+      subst (λ n. AppendsRows layout.form (heading_of_join layout.form n ++ known_rows) (Some old) (Some new)) names_known
+      (subst (λ r. AppendsRows layout.form (heading_of_join layout.form (found_names how.kind how.names l.columns) ++ r) (Some old) (Some new)) rows_known l.written)
 
   -- and as one text, where none of them begins as a byte order mark
   pub adds_text : layout.form.has_header ≡ true → AllByRecursion (IsUnmarked (delimiter_of layout.form) (comment_of layout.form)) known_rows
-      → new ≡ old ++ quoted_text layout.form (join_heading l.names ++ known_rows)
+      → new ≡ old ++ quoted_text layout.form (join_heading known_names ++ known_rows)
   adds_text has unmarked =
-      let parts : AppendsRows layout.form (join_heading l.names ++ known_rows) (Some old) (Some new) =
-      subst (λ b. AppendsRows layout.form ((if b then join_heading l.names else []) ++ known_rows) (Some old) (Some new)) has adds_rows in
-      parts.2 ∙ ap (λ t. old ++ t) (written_parts (delimiter_of layout.form) (comment_of layout.form) l.names known_rows parts.0 parts.1 unmarked)
+      let parts : AppendsRows layout.form (join_heading known_names ++ known_rows) (Some old) (Some new) =
+      subst (λ b. AppendsRows layout.form ((if b then join_heading known_names else []) ++ known_rows) (Some old) (Some new)) has adds_rows in
+      parts.2 ∙ ap (λ t. old ++ t) (written_parts (delimiter_of layout.form) (comment_of layout.form) known_names known_rows parts.0 parts.1 unmarked)

@@ -2,10 +2,10 @@
 //! knows when it is written.
 #![tactic(auto)]
 
-ghost use Rattle.std.specs.Prelude.{◌≡◌, ◌∷◌, [], IfOk, codes};
+ghost use Rattle.std.specs.Prelude.{◌≡◌, IfOk, codes};
 ghost use Rattle.keyed_commands.specs.Answers.{Stops};
 ghost use Rattle.keyed_commands.specs.declared.answers.Outcome.TheVariants.{Made};
-ghost use Rattle.command_callers.specs.Answered.{HasRows, IsTableInStyle, IsTableOrReport};
+ghost use Rattle.command_callers.specs.Answered.{IsTableInStyle, IsTableOrReport};
 ghost use Rattle.command_callers.specs.OneSide.{OneSideLaw};
 
 pub mod layers;
@@ -398,16 +398,15 @@ pub fn cell_conflict(alloc: Global) -> Result<Answer, Fault<'static>>
     merge(alloc, PLAIN, BY_CELL, base, ours, theirs)
 }
 
-/// Returns the outer join of two tables: the rows of both, under some header.
+/// Returns the outer join of two tables: the rows of both, each behind the name of the side that has it.
 ///
 /// # Errors
 ///
 /// Returns the errors of `join`.
 pub fn outer_join(alloc: Global) -> Result<Answer, Fault<'static>>
     ensures status { IfOk result (λ answer. answer.status ≡ 0) }
-    ensures rows { IfOk result (HasRows ((codes "left" ∷ codes "1" ∷ codes "x" ∷ codes "" ∷ [])
-        ∷ (codes "both" ∷ codes "2" ∷ codes "y" ∷ codes "z" ∷ [])
-        ∷ (codes "right" ∷ codes "3" ∷ codes "" ∷ codes "w" ∷ []) ∷ [])) }
+    ensures bytes { IfOk result (λ answer.
+        answer.bytes.items ≡ codes "side,id,a,b\nleft,1,x,\nboth,2,y,z\nright,3,,w\n") }
 {
     let left = Stream {
         file: "left.csv",
@@ -422,14 +421,36 @@ pub fn outer_join(alloc: Global) -> Result<Answer, Fault<'static>>
     join(alloc, PLAIN, OUTER, left, right)
 }
 
-/// Returns the inner join of two tables: the rows whose keys both have, under some header.
+/// Returns the outer join of two tables with a column of the same name, which is told apart by the name of its side.
+///
+/// # Errors
+///
+/// Returns the errors of `join`.
+pub fn shared_column(alloc: Global) -> Result<Answer, Fault<'static>>
+    ensures status { IfOk result (λ answer. answer.status ≡ 0) }
+    ensures bytes { IfOk result (λ answer. answer.bytes.items ≡ codes "side,id,left.a,right.a\nboth,1,x,y\n") }
+{
+    let left = Stream {
+        file: "left.csv",
+        delimiter: None,
+        reader: Ok(b"id,a\n1,x\n".as_slice()),
+    };
+    let right = Stream {
+        file: "right.csv",
+        delimiter: None,
+        reader: Ok(b"id,a\n1,y\n".as_slice()),
+    };
+    join(alloc, PLAIN, OUTER, left, right)
+}
+
+/// Returns the inner join of two tables: the rows whose keys both have.
 ///
 /// # Errors
 ///
 /// Returns the errors of `join`.
 pub fn inner_join(alloc: Global) -> Result<Answer, Fault<'static>>
     ensures status { IfOk result (λ answer. answer.status ≡ 0) }
-    ensures rows { IfOk result (HasRows ((codes "2" ∷ codes "y" ∷ codes "z" ∷ []) ∷ [])) }
+    ensures bytes { IfOk result (λ answer. answer.bytes.items ≡ codes "id,a,b\n2,y,z\n") }
 {
     let left = Stream {
         file: "left.csv",
@@ -444,14 +465,14 @@ pub fn inner_join(alloc: Global) -> Result<Answer, Fault<'static>>
     join(alloc, PLAIN, INNER, left, right)
 }
 
-/// Returns the left join of two tables: each row of the left one, under some header.
+/// Returns the left join of two tables: each row of the left one.
 ///
 /// # Errors
 ///
 /// Returns the errors of `join`.
 pub fn left_join(alloc: Global) -> Result<Answer, Fault<'static>>
     ensures status { IfOk result (λ answer. answer.status ≡ 0) }
-    ensures rows { IfOk result (HasRows ((codes "1" ∷ codes "x" ∷ codes "" ∷ []) ∷ (codes "2" ∷ codes "y" ∷ codes "z" ∷ []) ∷ [])) }
+    ensures bytes { IfOk result (λ answer. answer.bytes.items ≡ codes "id,a,b\n1,x,\n2,y,z\n") }
 {
     let left = Stream {
         file: "left.csv",
@@ -466,14 +487,14 @@ pub fn left_join(alloc: Global) -> Result<Answer, Fault<'static>>
     join(alloc, PLAIN, LEFT, left, right)
 }
 
-/// Returns the right join of two tables: each row of the right one, under some header.
+/// Returns the right join of two tables: each row of the right one.
 ///
 /// # Errors
 ///
 /// Returns the errors of `join`.
 pub fn right_join(alloc: Global) -> Result<Answer, Fault<'static>>
     ensures status { IfOk result (λ answer. answer.status ≡ 0) }
-    ensures rows { IfOk result (HasRows ((codes "2" ∷ codes "y" ∷ codes "z" ∷ []) ∷ (codes "3" ∷ codes "" ∷ codes "w" ∷ []) ∷ [])) }
+    ensures bytes { IfOk result (λ answer. answer.bytes.items ≡ codes "id,a,b\n2,y,z\n3,,w\n") }
 {
     let left = Stream {
         file: "left.csv",

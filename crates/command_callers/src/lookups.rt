@@ -1,6 +1,5 @@
 //! Callers of `lookup`.
-ghost use Rattle.std.specs.Prelude.{◌≡◌, ◌∷◌, [], IfOk, OnOk, codes};
-ghost use Rattle.command_callers.specs.Answered.{AddsRows};
+ghost use Rattle.std.specs.Prelude.{◌≡◌, ◌++◌, IfOk, OnOk, codes};
 
 use keyed_commands::{
     Delimiter, Fault, Finding, Form, JoinNames, Layout, LookupKind, Reading, RowFormat, Stream,
@@ -42,8 +41,7 @@ const ANTI: Finding<'static> = Finding {
 /// Returns the errors of `lookup`.
 pub fn found_rows(alloc: Global, output: &mut Vec<u8>) -> Result<u8, Fault<'static>>
     ensures status { IfOk result (λ status. status ≡ 0) }
-    ensures rows { OnOk result (AddsRows ((codes "2" ∷ codes "y" ∷ codes "z" ∷ []) ∷ (codes "1" ∷ codes "x" ∷ codes "" ∷ []) ∷ [])
-        output.old.items output.new.items) }
+    ensures bytes { OnOk result (output.new.items ≡ output.old.items ++ codes "id,a,b\n2,y,z\n1,x,\n") }
 {
     let left = Stream {
         file: "left.csv",
@@ -65,7 +63,7 @@ pub fn found_rows(alloc: Global, output: &mut Vec<u8>) -> Result<u8, Fault<'stat
 /// Returns the errors of `lookup`.
 pub fn matched_rows(alloc: Global, output: &mut Vec<u8>) -> Result<u8, Fault<'static>>
     ensures status { IfOk result (λ status. status ≡ 0) }
-    ensures rows { OnOk result (AddsRows ((codes "2" ∷ codes "y" ∷ codes "z" ∷ []) ∷ []) output.old.items output.new.items) }
+    ensures bytes { OnOk result (output.new.items ≡ output.old.items ++ codes "id,a,b\n2,y,z\n") }
 {
     let left = Stream {
         file: "left.csv",
@@ -87,7 +85,7 @@ pub fn matched_rows(alloc: Global, output: &mut Vec<u8>) -> Result<u8, Fault<'st
 /// Returns the errors of `lookup`.
 pub fn missed_rows(alloc: Global, output: &mut Vec<u8>) -> Result<u8, Fault<'static>>
     ensures status { IfOk result (λ status. status ≡ 0) }
-    ensures rows { OnOk result (AddsRows ((codes "1" ∷ codes "x" ∷ []) ∷ []) output.old.items output.new.items) }
+    ensures bytes { OnOk result (output.new.items ≡ output.old.items ++ codes "id,a\n1,x\n") }
 {
     let left = Stream {
         file: "left.csv",

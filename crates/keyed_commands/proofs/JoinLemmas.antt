@@ -1,22 +1,30 @@
 -- Rows of a join as they are put, and from the tables that are joined to their texts.
-use Rattle.std.proofs.Common.{◌≡◌, ◌∙◌, ℕ, Bool, true, false, List, [], ◌∷◌, Option, refl, sym, ap, subst}
+use Rattle.std.proofs.Common.{◌≡◌, ◌∙◌, ℕ, Bool, true, false, List, [], ◌∷◌, ◌++◌, Option, refl, sym, ap, subst}
 use Rattle.std.specs.Prelude.{IfSome, option_map, if◌then◌else◌}
-use Rattle.keyed_files.specs.JoinedRows.{joined_rows, left_of, right_of}
+use Rattle.keyed_files.specs.JoinedNames.{joined_names}
+use Rattle.keyed_files.specs.JoinedRows.{join_heading, joined_rows, left_of, right_of}
 use Rattle.keyed_files.specs.Keys.{AreJoinColumns}
+use Rattle.keyed_files.specs.Names.{repeats}
 use Rattle.keyed_files.specs.Opening.{IsOpened, form_of}
-use Rattle.keyed_files.specs.Writing.{PutsRows, Wrote}
+use Rattle.keyed_files.specs.Writing.{PutsRows, Wrote, quoted_text}
 use Rattle.keyed_files.specs.declared.columns.JoinColumns.{JoinColumns}
 use Rattle.keyed_files.specs.declared.joined_rows.Sides.{Sides}
 use Rattle.keyed_files.specs.declared.opened.Stream.{Stream}
 use Rattle.keyed_files.specs.declared.opened.Two.{Two}
 use Rattle.keyed_files.specs.declared.request.Form.{Form}
+use Rattle.keyed_files.specs.declared.request.Joining.{Joining}
 use Rattle.keyed_files.specs.declared.request.Kind.{Kind}
+use Rattle.keyed_files.specs.declared.request.Kind.TheVariants as kind
+use Rattle.keyed_files.specs.declared.request.RowFormat.{RowFormat}
+use Rattle.keyed_files.specs.declared.request.RowFormat.TheVariants as format
 use Rattle.keyed_files.specs.declared.request.Settings.{Settings}
 use Rattle.keyed_files.specs.declared.source.Content.TheVariants.{Rows}
 use Rattle.keyed_files.specs.declared.written.Written.{Written}
 use Rattle.keyed_files.proofs.WritingLemmas.{no-rows-left, then-rows}
-use Rattle.keyed_commands.specs.ComeOut.{AlikeIn, HasGroups}
-use Rattle.keyed_commands.specs.JoinAnswers.{IsJoinText, JoinsSources, JoinsStreams, JoinsTexts, PutsJoin, PutsSides, RowSides, rows_of_sides}
+use Rattle.keyed_commands.specs.ComeOut.{AlikeIn, AlikePlaces, AlikeRows, HasGroups}
+use Rattle.keyed_commands.specs.JoinAnswers.{AlikeBoth, AlikeLeft, AlikeRight, IsJoinText, IsTextOfJoin, JoinsSources, JoinsStreams, JoinsTexts, PutsJoin, PutsSides, RowSides}
+use Rattle.keyed_commands.specs.JoinAnswers.{header_of_join, heading_of_join, inner_sides, join_rows, left_sides, names_as, outer_sides, right_sides, rows_of_sides}
+use Rattle.keyed_commands.specs.Answers.{TableRows}
 use Rattle.keyed_commands.specs.TablesRead.{IsUnordered, SaysTable}
 use Rattle.keyed_commands.specs.declared.answers.Answer.{Answer}
 use Rattle.keyed_commands.specs.declared.job.Job.{Job}
@@ -63,14 +71,53 @@ module _ {V : Type 0} (columns : JoinColumns) (shows : V → RowSides) (b : Bool
   pub join_none : (a : Written) (left : List (List (List ℕ) × V)) → left ≡ [] → PutsJoin columns shows b P a a left
   join_none a left is = subst (PutsJoin columns shows b P a a) (sym is) ([], groups_none (List (List ℕ)) P b, no-rows-left a [] refl)
 
+-- no name stands twice among none
+pub none-twice : repeats [] [] ≡ false
+unfolding repeats
+none-twice = refl
+
+-- the header that is written of names is that of the names that are asked for
+same_heading : (has : Bool) (made : RowFormat) (header names : List (List ℕ)) → made ≡ format.Csv → header ≡ (if has then names_as made names else [])
+    → (if has then join_heading header else []) ≡ (if has then join_heading names else [])
+same_heading true format.Csv header names csv is = ap join_heading is
+same_heading true format.Json header names csv is = absurd (cc csv)
+same_heading false made header names csv is = refl
+
+once_asked : (has : Bool) (made : RowFormat) (header names : List (List ℕ)) → made ≡ format.Csv → header ≡ (if has then names_as made names else [])
+    → repeats [] header ≡ false → has ≡ true → repeats [] names ≡ false
+once_asked true format.Csv header names csv is once headed = subst (λ l. repeats [] l ≡ false) is once
+once_asked true format.Json header names csv is once headed = absurd (cc csv)
+once_asked false made header names csv is once headed = absurd (cc headed)
+
+-- the text of a join whose header is that of other names
+module _ (form : Form) (columns : JoinColumns) (names others : List (List ℕ)) (noted : Option (List (List (List ℕ)))) (by_cells : Bool)
+    (same : heading_of_join form names ≡ heading_of_join form others) where
+  headed_by : {V : Type 0} (shows : V → RowSides) (alike : V → V → Type 0) (rows : List (List (List ℕ) × V)) (text : List ℕ)
+      → IsTextOfJoin form columns names noted by_cells shows alike rows text → IsTextOfJoin form columns others noted by_cells shows alike rows text
+  headed_by shows alike rows text h = (h.0, h.1, h.2 ∙ ap (λ heading. quoted_text form (heading ++ join_rows columns shows h.0)) same)
+
+  join_headed : (made : Kind) (left right : TableRows) (text : List ℕ) → IsJoinText form columns names noted by_cells made left right text
+      → IsJoinText form columns others noted by_cells made left right text
+  join_headed kind.Outer left right text h = (h.0, h.1, headed_by outer_sides (AlikePlaces AlikeRows AlikeRows) h.0 text h.2)
+  join_headed kind.Inner left right text h = (h.0, h.1, headed_by inner_sides AlikeBoth h.0 text h.2)
+  join_headed kind.Left left right text h = (h.0, h.1, headed_by left_sides AlikeLeft h.0 text h.2)
+  join_headed kind.Right left right text h = (h.0, h.1, headed_by right_sides AlikeRight h.0 text h.2)
+  join_headed kind.Semi left right text h = h
+  join_headed kind.Anti left right text h = h
+
 -- two streams that are joined, of their texts
-module _ {R : Type 0} (rem : R → Option (List ℕ)) (settings : Settings) (kind : Kind) (left right : Stream R) (sides : Two R) (job : Job JoinColumns) (answer : Answer) where
+module _ {R : Type 0} (rem : R → Option (List ℕ)) (settings : Settings) (how : Joining) (left right : Stream R) (sides : Two R) (job : Job JoinColumns)
+    (header : List (List ℕ)) (answer : Answer) where
+  abbrev names : List (List ℕ)
+  names = joined_names how.kind how.names job.columns.now
+
   pub join-streams : IsOpened rem settings.form Rows left sides.first → IsOpened rem settings.form Rows right sides.next
       → job.form ≡ settings.form → job.groups ≡ settings.groups → (settings.keeps_order ≡ false → IsUnordered job)
       → AreJoinColumns settings.key sides.first.source.value.header.names sides.next.source.value.header.names job.columns.now
-      → JoinsSources rem job kind sides answer → JoinsStreams rem settings kind left right answer
-  join-streams first next form groups unordered columned read =
-      both-known {T = λ t u. JoinsTexts settings kind (form_of settings.form left) (form_of settings.form right) t u answer} _ _ first next (λ t u opened beside. record {
+      → how.format ≡ format.Csv → header ≡ header_of_join settings.form how job.columns.now → repeats [] header ≡ false
+      → JoinsSources rem job how.kind header sides answer → JoinsStreams rem settings how left right answer
+  join-streams first next form groups unordered columned csv written once read =
+      both-known {T = λ t u. JoinsTexts settings how (form_of settings.form left) (form_of settings.form right) t u answer} _ _ first next (λ t u opened beside. record {
         columns = job.columns.now;
         left_header = sides.first.source.value.header.names;
         right_header = sides.next.source.value.header.names;
@@ -81,11 +128,13 @@ module _ {R : Type 0} (rem : R → Option (List ℕ)) (settings : Settings) (kin
             groups (read.left_read _ _ t _ opened);
         right_says = subst (λ g. SaysTable (form_of settings.form right) Rows g u sides.next.source.value.header.names sides.next.source.value.header.names job.columns.now.right read.right)
             groups (read.right_read _ _ u _ beside);
+        once = once_asked settings.form.has_header how.format header names csv written once;
         join = record {
-          names = read.join.names;
           keys = read.join.keys;
           by_cells = read.join.by_cells;
-          join = subst (λ f. IsJoinText f job.columns.now read.join.names read.join.keys read.join.by_cells kind read.left read.right answer.bytes.items) form read.join.join;
+          join = join_headed settings.form job.columns.now header names read.join.keys read.join.by_cells
+              (same_heading settings.form.has_header how.format header names csv written) how.kind read.left read.right answer.bytes.items
+              (subst (λ f. IsJoinText f job.columns.now header read.join.keys read.join.by_cells how.kind read.left read.right answer.bytes.items) form read.join.join);
           order = λ by_key. read.join.order (unordered by_key);
         };
         status = read.status;

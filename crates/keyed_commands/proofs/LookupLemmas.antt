@@ -7,11 +7,14 @@ use Rattle.std.proofs.KnownBytes.{Appends-kept, Appends-trans}
 use Rattle.std.proofs.lemmas.List.{append-nil, map-append}
 use Rattle.eob_joins.specs.Lookup.{with_found}
 use Rattle.eob_joins.proofs.TableLemmas.{by_test}
+use Rattle.keyed_files.specs.JoinedNames.{found_names}
 use Rattle.keyed_files.specs.Keys.{AreJoinColumns}
+use Rattle.keyed_files.specs.Names.{repeats}
 use Rattle.keyed_files.specs.Opening.{IsOpened, form_of}
 use Rattle.keyed_files.specs.Reading.{GivesRecord, HasGiven, IsPicked, IsTable, PlacesOf, ReadBehind, ReadsOn, ReadsRest, ReadsRows, last_record, parts_of, picked}
 use Rattle.keyed_files.specs.Writing.{Wrote, quoted_text}
 use Rattle.keyed_files.specs.declared.columns.JoinColumns.{JoinColumns}
+use Rattle.keyed_files.specs.declared.lookups.Finding.{Finding}
 use Rattle.keyed_files.specs.declared.lookups.LookupKind.{LookupKind}
 use Rattle.keyed_files.specs.declared.opened.Stream.{Stream}
 use Rattle.keyed_files.specs.declared.opened.Two.{Two}
@@ -122,19 +125,23 @@ held_keys [] = refl
 held_keys (entry ∷ entries) = ap (λ l. entry.0 ∷ l) (held_keys entries)
 
 -- from what is read of two sources and written of them to what is written of two texts
-module _ {R : Type 0} (rem : R → Option (List ℕ)) (layout : Layout) (kind : LookupKind) (left right : Stream R) (sides : Two R) (columns : JoinColumns) (places : Places)
-    (entries : List (List (List ℕ) × Found)) (names : List (List ℕ)) (old new : Option (List ℕ)) where
+module _ {R : Type 0} (rem : R → Option (List ℕ)) (layout : Layout) (how : Finding) (left right : Stream R) (sides : Two R) (columns : JoinColumns) (places : Places)
+    (entries : List (List (List ℕ) × Found)) (header : List (List ℕ)) (old new : Option (List ℕ)) where
+  abbrev names : List (List ℕ)
+  names = found_names how.kind how.names columns
+
   pub lookup-streams : IsOpened rem layout.form Rows left sides.first → IsOpened rem layout.form Rows right sides.next
       → AreJoinColumns layout.key sides.first.source.value.header.names sides.next.source.value.header.names columns
       → PlacesOf sides.first.source.value columns.left places
       → ReadsRows rem columns.right sides.next.source.value [] (held_rows entries) → IsDistinct key_eq (keys_of entries)
-      → WritesBehind rem layout.form kind columns (found_under entries) places (heading_of_join layout.form names) sides.first.source.value old new
-      → LooksUpStreams rem layout kind left right old new
-  lookup-streams first next columned placed reads unique writes =
+      → header ≡ names → repeats [] header ≡ false
+      → WritesBehind rem layout.form how.kind columns (found_under entries) places (heading_of_join layout.form header) sides.first.source.value old new
+      → LooksUpStreams rem layout how left right old new
+  lookup-streams first next columned placed reads unique named once writes =
       let left_header = sides.first.source.value.header.names in
       let right_header = sides.next.source.value.header.names in
       let find = cells_under (held_rows entries) in
-      both-known {T = λ t u. LooksUpTexts layout kind (form_of layout.form left) (form_of layout.form right) t u old new} _ _ first next (λ t u opened beside.
+      both-known {T = λ t u. LooksUpTexts layout how (form_of layout.form left) (form_of layout.form right) t u old new} _ _ first next (λ t u opened beside.
       let left_read = table-read rem columns.left places sides.first.source.value [] (as_rows writes.0) placed writes.1 _ _ t _ opened in
       let right_read = reads _ _ u _ beside in
       record {
@@ -147,7 +154,8 @@ module _ {R : Type 0} (rem : R → Option (List ℕ)) (layout : Layout) (kind : 
         left_says = subst (IsTable (form_of layout.form left) Rows t left_header left_header columns.left) (sym left_read.1) left_read.2;
         right_says = subst (IsTable (form_of layout.form right) Rows u right_header right_header columns.right) (sym right_read.1) right_read.2;
         unique = subst (IsDistinct key_eq) (sym (held_keys entries)) unique;
-        names = names;
+        once = subst (λ l. repeats [] l ≡ false) named once;
         written = subst (λ rows. AppendsRows layout.form (heading_of_join layout.form names ++ rows) old new)
-            (same_found columns kind (found_under entries) find (found_same entries) writes.0 ∙ ap (lookup_rows columns kind find) (sym (parts_held writes.0))) writes.2;
+            (same_found columns how.kind (found_under entries) find (found_same entries) writes.0 ∙ ap (lookup_rows columns how.kind find) (sym (parts_held writes.0)))
+            (subst (λ l. AppendsRows layout.form (heading_of_join layout.form l ++ lookup_rows columns how.kind (found_under entries) writes.0) old new) named writes.2);
       })

@@ -6,8 +6,10 @@ use Rattle.eob_both.specs.declared.either_or_both.EitherOrBoth.{EitherOrBoth}
 use Rattle.eob_both.specs.declared.either_or_both.EitherOrBoth.TheVariants.{Left, Both, Right}
 use Rattle.either_or_both.specs.Join.{IsJoin}
 use Rattle.eob_joins.specs.Tables.{IsAntiJoin, IsInnerJoin, IsLeftJoin, IsRightJoin, IsSemiJoin}
+use Rattle.keyed_files.specs.JoinedNames.{joined_names}
 use Rattle.keyed_files.specs.JoinedRows.{each_before, join_heading, side_count, side_row}
 use Rattle.keyed_files.specs.Keys.{AreJoinColumns}
+use Rattle.keyed_files.specs.Names.{repeats}
 use Rattle.keyed_files.specs.Opening.{form_of, text_of_stream}
 use Rattle.keyed_files.specs.Rows.{first_cells}
 use Rattle.keyed_files.specs.Writing.{PutsRows, quoted_text}
@@ -15,8 +17,11 @@ use Rattle.keyed_files.specs.declared.columns.JoinColumns.{JoinColumns}
 use Rattle.keyed_files.specs.declared.opened.Stream.{Stream}
 use Rattle.keyed_files.specs.declared.opened.Two.{Two}
 use Rattle.keyed_files.specs.declared.request.Form.{Form}
+use Rattle.keyed_files.specs.declared.request.Joining.{Joining}
 use Rattle.keyed_files.specs.declared.request.Kind.{Kind}
 use Rattle.keyed_files.specs.declared.request.Kind.TheVariants as kind
+use Rattle.keyed_files.specs.declared.request.RowFormat.{RowFormat}
+use Rattle.keyed_files.specs.declared.request.RowFormat.TheVariants as format
 use Rattle.keyed_files.specs.declared.request.Settings.{Settings}
 use Rattle.keyed_files.specs.declared.source.Content.TheVariants.{Rows}
 use Rattle.keyed_files.specs.declared.written.Written.{Written}
@@ -87,6 +92,15 @@ module _ {V : Type 0} (columns : JoinColumns) (shows : V → RowSides) where
     abbrev pub PutsJoin : List (List (List ℕ) × V) → Type 0
     PutsJoin rows = (shown : List (List (List ℕ) × V)) × HasGroups by_cells alike rows shown × PutsRows old new (join_rows shown)
 
+-- the names of the columns that are written of these: those of CSV, and no other
+abbrev pub names_as : RowFormat → List (List ℕ) → List (List ℕ)
+names_as format.Csv names = names
+names_as format.Json names = []
+
+-- the names of the columns of a join as it is written: where tables have a header
+abbrev pub header_of_join : Form → Joining → JoinColumns → List (List ℕ)
+header_of_join form how columns = if form.has_header then names_as how.format (joined_names how.kind how.names columns) else []
+
 -- the header of a join, where tables have one
 abbrev pub heading_of_join : Form → List (List ℕ) → List (List (List ℕ))
 heading_of_join form names = if form.has_header then join_heading names else []
@@ -112,16 +126,16 @@ module _ (form : Form) (columns : JoinColumns) (names : List (List ℕ)) (noted 
   IsJoinText kind.Anti left right text = (rows : TableRows) × IsAntiJoin key_cmp left right rows
       × IsTableText form columns.left noted by_cells rows text
 
--- the text of a join, and the order in which its rows come out
-pub record JoinOf (form : Form) (kind : Kind) (columns : JoinColumns) (unordered : Type 0) (left right : TableRows) (text : List ℕ) : Type 0 where
-  pub names : List (List ℕ)
+-- the text of a join under its header, and the order in which its rows come out
+pub record JoinOf (form : Form) (kind : Kind) (names : List (List ℕ)) (columns : JoinColumns) (unordered : Type 0) (left right : TableRows) (text : List ℕ) : Type 0 where
   pub keys : Option (List (List (List ℕ)))
   pub by_cells : Bool
   pub join : IsJoinText form columns names keys by_cells kind left right text
   pub order : unordered → (keys ≡ None) × (by_cells ≡ true)
 
--- what `join` answers of two texts: each says a table under its columns, and the answer is the text of the join of both
-pub record JoinsTexts (settings : Settings) (kind : Kind) (left_form right_form : Form) (left_text right_text : List ℕ) (answer : Answer) : Type 0 where
+-- what `join` answers of two texts: each says a table under its columns, and the answer is the text of the join of both, under a header that
+-- has no name twice
+pub record JoinsTexts (settings : Settings) (how : Joining) (left_form right_form : Form) (left_text right_text : List ℕ) (answer : Answer) : Type 0 where
   pub columns : JoinColumns
   pub left_header : List (List ℕ)
   pub right_header : List (List ℕ)
@@ -130,23 +144,24 @@ pub record JoinsTexts (settings : Settings) (kind : Kind) (left_form right_form 
   pub right : TableRows
   pub left_says : SaysTable left_form Rows settings.groups left_text left_header left_header columns.left left
   pub right_says : SaysTable right_form Rows settings.groups right_text right_header right_header columns.right right
-  pub join : JoinOf settings.form kind columns (settings.keeps_order ≡ false) left right answer.bytes.items
+  pub once : settings.form.has_header ≡ true → repeats [] (joined_names how.kind how.names columns) ≡ false
+  pub join : JoinOf settings.form how.kind (joined_names how.kind how.names columns) columns (settings.keeps_order ≡ false) left right answer.bytes.items
   pub status : answer.status ≡ 0
   pub outcome : answer.outcome ≡ Made
 
 module _ {R : Type 0} (remaining : R → Option (List ℕ)) where
-  -- an answer to `join` of two sources: the text of the join of their tables
-  pub record JoinsSources (job : Job JoinColumns) (kind : Kind) (sides : Two R) (answer : Answer) : Type 0 where
+  -- an answer to `join` of two sources: the text of the join of their tables, under these names
+  pub record JoinsSources (job : Job JoinColumns) (kind : Kind) (names : List (List ℕ)) (sides : Two R) (answer : Answer) : Type 0 where
     pub left : TableRows
     pub right : TableRows
     pub left_read : ReadsTable remaining job.groups job.columns.now.left sides.first.source.value left
     pub right_read : ReadsTable remaining job.groups job.columns.now.right sides.next.source.value right
-    pub join : JoinOf job.form kind job.columns.now (IsUnordered job) left right answer.bytes.items
+    pub join : JoinOf job.form kind names job.columns.now (IsUnordered job) left right answer.bytes.items
     pub status : answer.status ≡ 0
     pub outcome : answer.outcome ≡ Made
 
   -- and of two streams whose texts are known
-  abbrev pub JoinsStreams : Settings → Kind → Stream R → Stream R → Answer → Type 0
-  JoinsStreams settings kind left right answer = IfSome (text_of_stream remaining settings.form left) (λ left_text.
+  abbrev pub JoinsStreams : Settings → Joining → Stream R → Stream R → Answer → Type 0
+  JoinsStreams settings how left right answer = IfSome (text_of_stream remaining settings.form left) (λ left_text.
       IfSome (text_of_stream remaining settings.form right) (λ right_text.
-      JoinsTexts settings kind (form_of settings.form left) (form_of settings.form right) left_text right_text answer))
+      JoinsTexts settings how (form_of settings.form left) (form_of settings.form right) left_text right_text answer))

@@ -5,12 +5,15 @@ use Rattle.std.specs.Io.KnownBytes.{Appends}
 use Rattle.std.specs.List.{IsDistinct, flat_map}
 use Rattle.std.specs.Map.{keys_of, lookup}
 use Rattle.keyed_files.specs.FoundRows.{found_row}
+use Rattle.keyed_files.specs.JoinedNames.{found_names}
 use Rattle.keyed_files.specs.Keys.{AreJoinColumns}
+use Rattle.keyed_files.specs.Names.{repeats}
 use Rattle.keyed_files.specs.Opening.{form_of, text_of_stream}
 use Rattle.keyed_files.specs.Reading.{IsTable, ReadsOn, ReadsRest, parts_of}
 use Rattle.keyed_files.specs.Rows.{placed}
 use Rattle.keyed_files.specs.Writing.{Wrote, quoted_text}
 use Rattle.keyed_files.specs.declared.columns.JoinColumns.{JoinColumns}
+use Rattle.keyed_files.specs.declared.lookups.Finding.{Finding}
 use Rattle.keyed_files.specs.declared.lookups.LookupKind.{LookupKind}
 use Rattle.keyed_files.specs.declared.lookups.LookupKind.TheVariants as kind
 use Rattle.keyed_files.specs.declared.opened.Stream.{Stream}
@@ -78,9 +81,9 @@ as_row row = record { key = row.0; line = 0; cells = row.1 }
 abbrev pub as_rows : List (List (List ℕ) × List (List ℕ)) → List ReadRow
 as_rows rows = map as_row rows
 
--- what is written of two texts: each says a table, in the right one each key stands once, and behind the header come the rows of the left
--- one in their order, with what the right one has under their keys
-pub record LooksUpTexts (layout : Layout) (kind : LookupKind) (left_form right_form : Form) (left_text right_text : List ℕ) (old new : Option (List ℕ)) : Type 0 where
+-- what is written of two texts: each says a table, in the right one each key stands once, and behind a header that has no name twice come
+-- the rows of the left one in their order, with what the right one has under their keys
+pub record LooksUpTexts (layout : Layout) (how : Finding) (left_form right_form : Form) (left_text right_text : List ℕ) (old new : Option (List ℕ)) : Type 0 where
   pub columns : JoinColumns
   pub left_header : List (List ℕ)
   pub right_header : List (List ℕ)
@@ -90,9 +93,9 @@ pub record LooksUpTexts (layout : Layout) (kind : LookupKind) (left_form right_f
   pub left_says : IsTable left_form Rows left_text left_header left_header columns.left left
   pub right_says : IsTable right_form Rows right_text right_header right_header columns.right right
   pub unique : IsDistinct key_eq (keys_of (map parts_of right))
-  pub names : List (List ℕ)
+  pub once : repeats [] (found_names how.kind how.names columns) ≡ false
   pub written : AppendsRows layout.form
-      (heading_of_join layout.form names ++ lookup_rows columns kind (cells_under right) (map parts_of left)) old new
+      (heading_of_join layout.form (found_names how.kind how.names columns) ++ lookup_rows columns how.kind (cells_under right) (map parts_of left)) old new
 
 module _ {R : Type 0} (remaining : R → Option (List ℕ)) where
   -- rows of a source are read: the last ones, or some before others
@@ -117,7 +120,7 @@ module _ {R : Type 0} (remaining : R → Option (List ℕ)) where
     WritesRest source written old new = (pending : List (List (List ℕ))) → Wrote form pending written → WritesBehind pending source old new
 
   -- what `lookup` writes of two streams whose texts are known
-  abbrev pub LooksUpStreams : Layout → LookupKind → Stream R → Stream R → Option (List ℕ) → Option (List ℕ) → Type 0
-  LooksUpStreams layout kind left right old new = IfSome (text_of_stream remaining layout.form left) (λ left_text.
+  abbrev pub LooksUpStreams : Layout → Finding → Stream R → Stream R → Option (List ℕ) → Option (List ℕ) → Type 0
+  LooksUpStreams layout how left right old new = IfSome (text_of_stream remaining layout.form left) (λ left_text.
       IfSome (text_of_stream remaining layout.form right) (λ right_text.
-      LooksUpTexts layout kind (form_of layout.form left) (form_of layout.form right) left_text right_text old new))
+      LooksUpTexts layout how (form_of layout.form left) (form_of layout.form right) left_text right_text old new))

@@ -1,6 +1,8 @@
 //! Joins of two tables, written as CSV: an absent side has empty cells.
-ghost use Rattle.std.specs.Prelude.{◌≡◌, ◌++◌, IfOk, None, OnOk, is_none, option_map, true};
+ghost use Rattle.std.specs.Prelude.{◌≡◌, ◌++◌, [], IfErr, IfOk, None, OnOk, false, is_none, option_map, true};
+ghost use Rattle.keyed_files.specs.JoinedNames.{ExplainsNames, joined_names, side_column};
 ghost use Rattle.keyed_files.specs.JoinedRows.{left_of, right_of};
+ghost use Rattle.keyed_files.specs.Names.{repeats};
 ghost use Rattle.keyed_files.specs.Writing.{Wrote, quoted_text};
 ghost use Rattle.keyed_files.specs.declared.request.RowFormat.TheVariants.{Csv};
 ghost use Rattle.keyed_tables.specs.Arranged.{noted};
@@ -8,7 +10,7 @@ ghost use Rattle.keyed_commands.specs.Answers.{IsTableText};
 ghost use Rattle.keyed_commands.specs.ComeOut.{AlikePlaces, AlikeRows};
 ghost use Rattle.keyed_commands.specs.JoinAnswers.{AlikeBoth, AlikeLeft, AlikeRight, IsJoinText, IsTextOfJoin};
 ghost use Rattle.keyed_commands.specs.JoinAnswers.{JoinsSources, JoinsStreams, PutsJoin, PutsSides, RowSides};
-ghost use Rattle.keyed_commands.specs.JoinAnswers.{heading_of_join, inner_sides, left_sides, outer_sides, right_sides, side_name};
+ghost use Rattle.keyed_commands.specs.JoinAnswers.{header_of_join, heading_of_join, inner_sides, left_sides, outer_sides, right_sides, side_name};
 
 use crate::answers::{Answer, Outcome};
 use crate::job::{Job, Table};
@@ -39,7 +41,7 @@ pub fn join<'a, R: Read + Drop>(
     right: Stream<'a, R>,
 ) -> Result<Answer, Fault<'a>>
     ensures { IfOk result (λ answer. how.entry.format ≡ Csv →
-        JoinsStreams R.remaining settings.entry how.entry.kind left.entry right.entry answer) }
+        JoinsStreams R.remaining settings.entry how.entry left.entry right.entry answer) }
 {
     let mut sides = Two::new(alloc, settings.form, Content::Rows, left, right)?;
     let columns = sides.join_columns(alloc, settings.key)?;
@@ -55,7 +57,7 @@ fn join_files<'a, R: Read + Drop>(
     sides: &mut Two<'a, R>,
 ) -> Result<Answer, Fault<'a>>
     ensures { IfOk result (λ answer. form.now.format ≡ Csv →
-        JoinsSources R.remaining job.entry form.now.kind sides.old answer) }
+        JoinsSources R.remaining job.entry form.now.kind form.now.header sides.old answer) }
 {
     let tables = job.read_sides(sides)?;
     let (left, right) = tables;
@@ -236,6 +238,10 @@ impl JoinForm {
     ) -> Result<Self, Reason>
         ensures kind { IfOk result (λ made. made.kind ≡ how.entry.kind) }
         ensures format { IfOk result (λ made. made.format ≡ how.entry.format) }
+        ensures header { IfOk result (λ made. made.header ≡ header_of_join form how.entry columns.now) }
+        ensures once { IfOk result (λ made. repeats [] made.header ≡ false) }
+        ensures twice { IfErr result (ExplainsNames (side_column how.entry.kind how.entry.names)
+            (joined_names how.entry.kind how.entry.names columns.now)) }
     {
         let header = match how.format {
             RowFormat::Csv if form.has_header => join_header(alloc, how, columns)?,

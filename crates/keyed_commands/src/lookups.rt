@@ -50,7 +50,7 @@ pub fn lookup<'a, R: Read + Drop, W: Write>(
     output: &mut W,
 ) -> Result<u8, Fault<'a>>
     ensures status { IfOk result (λ status. status ≡ 0) }
-    ensures text { OnOk result (how.entry.format ≡ Csv → LooksUpStreams R.remaining layout.entry how.entry.kind
+    ensures text { OnOk result (how.entry.format ≡ Csv → LooksUpStreams R.remaining layout.entry how.entry
         left.entry right.entry (W.contents output.old) (W.contents output.new)) }
 {
     let mut sides = Two::new(alloc, layout.form, Content::Rows, left, right)?;

@@ -10,11 +10,9 @@ use Rattle.command_callers.proofs.KnownTables.{known_text}
 use Rattle.command_callers.proofs.Texts.{id_a, id_b, one_x, three_w, two_y, two_z, with_y_then_x, with_z_and_w}
 use Rattle.command_callers.proofs.lookups.missed_rows.Goals as goal
 
-pub returns-clause-rows : goal.returns-clause-rows
+pub returns-clause-bytes : goal.returns-clause-bytes
 unfolding distinct escaped field_at fields_text is_blank placed repeats
-returns-clause-rows c =
-    IfOk-weaker c.lookup.result _ _ (λ status told. let looks = told refl in (
-      looks.names,
-      adds_text looks refl id_a id_b (two_y ∷ one_x ∷ []) (two_z ∷ three_w ∷ []) (known_text _ _ _ _ _ c.as_slice.ensures refl with_y_then_x refl)
-          (known_text _ _ _ _ _ c.as_slice-2.ensures refl with_z_and_w refl) refl (λ more. refl, tt),
-    )) c.lookup.ensures.text
+returns-clause-bytes c =
+    IfOk-weaker c.lookup.result _ _ (λ status told. let looks = told refl in
+    adds_text looks refl id_a id_b (two_y ∷ one_x ∷ []) (two_z ∷ three_w ∷ []) (known_text _ _ _ _ _ c.as_slice.ensures refl with_y_then_x refl)
+    (known_text _ _ _ _ _ c.as_slice-2.ensures refl with_z_and_w refl) refl (λ more. refl, tt)) c.lookup.ensures.text

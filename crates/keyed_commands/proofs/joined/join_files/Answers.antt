@@ -16,7 +16,6 @@ returns g c =
       left_read = read.left;
       right_read = read.right;
       join = record {
-        names = form.header;
         keys = noted job.order;
         by_cells = is_none job.row_order.files;
         join = subst (λ j. IsJoinText j.form j.columns.now form.header (noted job.order) (is_none job.row_order.files) form.kind tables.0.pairs.items tables.1.pairs.items c.in_ok-bytes.bytes.items)
