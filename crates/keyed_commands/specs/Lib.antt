@@ -12,5 +12,6 @@ pub mod Lost
 pub mod MergedTexts
 pub mod OneSide
 pub mod OverlayAnswers
+pub mod PartAnswers
 pub mod TablesRead
 pub mod TextLaws

@@ -1,7 +1,12 @@
 //! Tables whose keys rise, compared and joined as they are read: part by part, so that memory does not grow with the tables.
 //!
 //! Where all rows of both tables up to a key are read, their join is the first part of the whole join (`law_cut_join` of `eob_joins`).
-ghost use Rattle.std.specs.Prelude.{◌≡◌, ◌↔◌, ◌⊎◌, IfSome, IsNone, option_map};
+ghost use Rattle.std.specs.Prelude.{◌≡◌, ◌==◌, ◌↔◌, ◌⊎◌, IfOk, IfSome, IsNone, is_none, length, option_map};
+ghost use Rattle.keyed_files.specs.declared.request.RowFormat.TheVariants.{Csv};
+ghost use Rattle.keyed_tables.specs.Arranged.{noted};
+ghost use Rattle.keyed_commands.specs.Answers.{status_of};
+ghost use Rattle.keyed_commands.specs.JoinAnswers.{IsJoinText};
+ghost use Rattle.keyed_commands.specs.PartAnswers.{SaysChanges, SaysChangesIn};
 ghost use Rattle.keyed_commands.specs.Keys.{IsAtMost};
 
 use crate::by_number::changed_by_number;
@@ -10,12 +15,13 @@ use crate::job::{Job, Table};
 use crate::joined::JoinForm;
 use crate::joined_json::write_join;
 use crate::written::write_changes;
+use eob_joins::Change;
 use keyed_files::{
     ColumnChanges, Columns, Content, Decimal, Fault, JoinColumns, Joining, Layout, Parts, Picked,
     Reason, SortedChanges, Stream, Two, at, names_among, picked_columns,
 };
 use keyed_reports::{Counts, count, count_rows, json_rows, row_changes};
-use keyed_rows::{Cells, Key, Release};
+use keyed_rows::{Cells, Group, Key, Release};
 use keyed_tables::{changes_of, unique_rows};
 use std::alloc::{AllocError, Global};
 use std::io::{Read, Write};
@@ -83,25 +89,29 @@ fn changes_of_part(
     job: &Job<'_, Columns>,
     form: &ChangesForm<'_>,
     part: Part,
-) -> Result<PartAnswer, Reason> {
+) -> Result<PartAnswer, Reason>
+    ensures { IfOk result (SaysChangesIn job.now.form job.now.columns.now
+        part.left.pairs.items part.right.pairs.items form.now) }
+{
+    match form {
+        ChangesForm::Csv(marked) => {
+            let answer = csv_of_part(job, marked, part)?;
+            Ok(answer)
+        }
+        ChangesForm::Json(tolerance) => json_of_part(job, *tolerance, part),
+    }
+}
+
+// The same as CSV, with the names of the columns as they are marked.
+fn csv_of_part(job: &Job<'_, Columns>, marked: &Cells, part: Part) -> Result<PartAnswer, Reason>
+    ensures { IfOk result (SaysChanges job.now.form job.now.columns.now marked.now
+        part.left.pairs.items part.right.pairs.items) }
+{
     let old_rows = count_rows(&part.left.pairs);
     let changes = changes_of(job.alloc, part.left, part.right)?;
-    let changes = match form {
-        ChangesForm::Json(Some(tolerance)) => changed_by_number(job.alloc, *tolerance, changes)?,
-        ChangesForm::Csv(_) | ChangesForm::Json(None) => changes,
-    };
-    let status = if changes.is_empty() { 0 } else { 1 };
     let counts = StreamCounts::Changes(count(old_rows, &changes));
-    let bytes = match form {
-        ChangesForm::Csv(marked) => write_changes(job, marked, changes)?,
-        ChangesForm::Json(_) => {
-            json_rows(
-                job.alloc,
-                job.columns,
-                &row_changes(job.alloc, false, &changes)?,
-            )?
-        }
-    };
+    let status = changes_status(&changes);
+    let bytes = write_changes(job, marked, changes)?;
     Ok(PartAnswer {
         bytes,
         status,
@@ -109,18 +119,51 @@ fn changes_of_part(
     })
 }
 
+// The same as JSON. Cells that are numbers are compared by value where a tolerance is given.
+fn json_of_part(
+    job: &Job<'_, Columns>,
+    tolerance: Option<Decimal<'_>>,
+    part: Part,
+) -> Result<PartAnswer, Reason> {
+    let old_rows = count_rows(&part.left.pairs);
+    let changes = changes_of(job.alloc, part.left, part.right)?;
+    let changes = match tolerance {
+        Some(tolerance) => changed_by_number(job.alloc, tolerance, changes)?,
+        None => changes,
+    };
+    let rows = row_changes(job.alloc, false, &changes)?;
+    Ok(PartAnswer {
+        bytes: json_rows(job.alloc, job.columns, &rows)?,
+        status: changes_status(&changes),
+        counts: StreamCounts::Changes(count(old_rows, &changes)),
+    })
+}
+
+// The status of changes: 0 where there are none, and else 1.
+fn changes_status(changes: &[(Key, Change<Group>)]) -> u8
+    ensures { result ≡ status_of (length changes.now == 0) }
+{
+    if changes.is_empty() { 0 } else { 1 }
+}
+
 // The join of a part.
 fn join_of_part(
     job: &Job<'_, JoinColumns>,
     form: &JoinForm,
     part: Part,
-) -> Result<PartAnswer, Reason> {
+) -> Result<PartAnswer, Reason>
+    ensures text { IfOk result (λ answer. form.now.format ≡ Csv → IsJoinText job.now.form job.now.columns.now
+        form.now.header (noted job.now.order) (is_none job.now.row_order.files) form.now.kind
+        part.left.pairs.items part.right.pairs.items answer.bytes.items) }
+    ensures status { IfOk result (λ answer. answer.status ≡ 0) }
+{
     let counts = StreamCounts::Rows(SideCounts {
         left: count_rows(&part.left.pairs),
         right: count_rows(&part.right.pairs),
     });
+    let bytes = write_join(job, form, part.left, part.right)?;
     Ok(PartAnswer {
-        bytes: write_join(job, form, part.left, part.right)?,
+        bytes,
         status: 0,
         counts,
     })
