@@ -17,6 +17,7 @@ pub mod OneSideLemmas
 pub mod OverlayLemmas
 pub mod ReadLemmas
 pub mod SignedLemmas
+pub mod SortedLemmas
 pub mod TableBackLemmas
 pub mod TextAnswerLemmas
 pub mod TextLawLemmas

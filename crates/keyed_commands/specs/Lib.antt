@@ -13,5 +13,6 @@ pub mod MergedTexts
 pub mod OneSide
 pub mod OverlayAnswers
 pub mod PartAnswers
+pub mod SortedParts
 pub mod TablesRead
 pub mod TextLaws

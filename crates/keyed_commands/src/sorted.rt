@@ -1,13 +1,17 @@
 //! Tables whose keys rise, compared and joined as they are read: part by part, so that memory does not grow with the tables.
 //!
 //! Where all rows of both tables up to a key are read, their join is the first part of the whole join (`law_cut_join` of `eob_joins`).
-ghost use Rattle.std.specs.Prelude.{◌≡◌, ◌==◌, ◌↔◌, ◌⊎◌, IfOk, IfSome, IsNone, is_none, length, option_map};
+ghost use Rattle.std.specs.Prelude.{◌≡◌, ◌==◌, ◌↔◌, ◌⊎◌, IfOk, IfSome, IsNone, List, false, is_none, length, option_map};
+ghost use Rattle.keyed_files.specs.Parts.{TakesUpTo, key_cmp};
 ghost use Rattle.keyed_files.specs.declared.request.RowFormat.TheVariants.{Csv};
+ghost use Rattle.keyed_rows.specs.declared.row.ReadRow.{ReadRow};
 ghost use Rattle.keyed_tables.specs.Arranged.{noted};
 ghost use Rattle.keyed_commands.specs.Answers.{status_of};
 ghost use Rattle.keyed_commands.specs.JoinAnswers.{IsJoinText};
-ghost use Rattle.keyed_commands.specs.PartAnswers.{SaysChanges, SaysChangesIn};
 ghost use Rattle.keyed_commands.specs.Keys.{IsAtMost};
+ghost use Rattle.keyed_commands.specs.PartAnswers.{SaysChanges, SaysChangesIn};
+ghost use Rattle.keyed_commands.specs.SortedParts.{IsLesser, ReadsNext, TakesPart, bound_of};
+ghost use Rattle.keyed_commands.specs.TablesRead.{Gathers};
 
 use crate::by_number::changed_by_number;
 use crate::finished::{Finished, SideCounts, StreamCounts};
@@ -344,37 +348,60 @@ fn write_part<'a, R: Read + Drop, W: Write>(
     })
 }
 
+// Reads both tables on, and takes the rows of both as far as all are read.
 fn next_part<'a, R: Read + Drop>(
     alloc: Global,
     tables: &mut TwoParts<'a, R>,
-) -> Result<Part, Fault<'a>> {
-    let TwoParts { left, right } = tables;
-    left.fill()?;
-    right.fill()?;
-    let bound = at(left.file, clone_key(lesser(left.bound(), right.bound())))?;
-    let left_rows = at(left.file, rows_up_to(alloc, left, &bound))?;
-    let right_rows = at(right.file, rows_up_to(alloc, right, &bound))?;
+) -> Result<Part, Fault<'a>>
+    ensures { IfOk result (ReadsNext R.remaining tables.old tables.new) }
+{
+    tables.left.fill()?;
+    tables.right.fill()?;
+    let bound = at(tables.left.file, next_bound(&tables.left, &tables.right))?;
+    let part = take_part(alloc, tables, &bound)?;
+    Ok(part)
+}
+
+// The key up to which all rows of both tables are read, or None where all are.
+fn next_bound<'a, R: Read + Drop>(
+    left: &Parts<'a, R>,
+    right: &Parts<'a, R>,
+) -> Result<Option<Key>, AllocError>
+    ensures { IfOk result (IsLesser key_cmp (bound_of left.now) (bound_of right.now)) }
+{
+    let bound = clone_key(lesser(left.bound(), right.bound()))?;
+    Ok(bound)
+}
+
+// Takes the rows that wait up to a key, or all of them.
+fn take_part<'a, R: Read + Drop>(
+    alloc: Global,
+    tables: &mut TwoParts<'a, R>,
+    bound: &Option<Key>,
+) -> Result<Part, Fault<'a>>
+    ensures { IfOk result (TakesPart bound.now tables.old tables.new) }
+{
+    let left = rows_up_to(alloc, &mut tables.left, bound)?;
+    let right = rows_up_to(alloc, &mut tables.right, bound)?;
     Ok(Part {
-        left: left_rows,
-        right: right_rows,
+        left,
+        right,
         is_last: bound.is_none(),
     })
 }
 
-// The rows that wait up to a key, or all of them.
-fn rows_up_to<R: Read + Drop>(
+// The rows of a table that wait up to a key, or all of them, by key.
+fn rows_up_to<'a, R: Read + Drop>(
     alloc: Global,
-    parts: &mut Parts<'_, R>,
+    parts: &mut Parts<'a, R>,
     bound: &Option<Key>,
-) -> Result<Table, Reason> {
-    let mut rows = Vec::new(alloc);
-    for _ in 0..u64::MAX {
-        match parts.pop(bound) {
-            Some(row) => rows.push(row)?,
-            None => break,
-        }
-    }
-    Ok(unique_rows(alloc, rows, Release::AtDrop)?)
+) -> Result<Table, Fault<'a>>
+    ensures { IfOk result (λ table. (rows : List ReadRow) × TakesUpTo bound.now parts.old parts.new rows
+        × Gathers false rows table.pairs.items) }
+{
+    let rows = parts.take_up_to(alloc, bound)?;
+    let table = at(parts.file, unique_rows(alloc, rows, Release::AtDrop))?;
+    Ok(table)
 }
 
 // The lesser key of those that are there.
@@ -394,7 +421,10 @@ fn lesser<'k, K: Ord>(left: Option<&'k K>, right: Option<&'k K>) -> Option<&'k K
     }
 }
 
-fn clone_key(key: Option<&Key>) -> Result<Option<Key>, AllocError> {
+// The same key, once more.
+fn clone_key(key: Option<&Key>) -> Result<Option<Key>, AllocError>
+    ensures { IfOk result (λ copy. copy ≡ option_map (λ key. key.now) key.entry) }
+{
     match key {
         Some(key) => Ok(Some(key.clone()?)),
         None => Ok(None),

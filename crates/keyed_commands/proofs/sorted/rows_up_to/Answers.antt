@@ -1,0 +1,8 @@
+use Rattle.keyed_commands.proofs.sorted.rows_up_to.Goals as goal
+
+pub returns : goal.returns
+returns g c = (
+  c.in_ok-rows.rows.items,
+  c.in_ok-rows.ensures,
+  (rw c.in_ok-table.ensures at c.unique_rows.ensures.rows, rw c.in_ok-table.ensures at c.unique_rows.ensures.unique),
+)
