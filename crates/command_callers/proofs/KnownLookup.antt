@@ -14,6 +14,7 @@ use Rattle.keyed_files.specs.declared.columns.Place.{Place}
 use Rattle.keyed_files.specs.declared.lookups.Finding.{Finding}
 use Rattle.keyed_files.specs.declared.lookups.LookupKind.{LookupKind}
 use Rattle.keyed_files.specs.declared.lookups.LookupKind.TheVariants as kind
+use Rattle.keyed_files.specs.declared.request.Form.{Form}
 use Rattle.keyed_files.specs.declared.request.JoinNames.{JoinNames}
 use Rattle.keyed_files.specs.declared.request.Layout.{Layout}
 use Rattle.keyed_commands.specs.JoinAnswers.{heading_of_join}

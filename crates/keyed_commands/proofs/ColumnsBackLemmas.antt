@@ -271,7 +271,7 @@ none_first false b e = refl
 going_kept : (name : List ℕ) (b : Bool) → begins_marked name ≡ b → going (if b then 61 ∷ name else name) ≡ []
 going_kept name true e = refl
 going_kept [] false e = refl
-going_kept (byte ∷ name) false e = rw (none_first (byte == 45) _ e) refl
+going_kept (byte ∷ name) false e = rw (none_first (byte == 45) (byte == 43) (none_first ((byte == 45) || (byte == 43)) (byte == 61) e)) refl
 
 going_one : (f : Fate) (name : List ℕ) → going (marked_name f name) ≡ name_if_goes f name
 going_one fate.Goes name = refl

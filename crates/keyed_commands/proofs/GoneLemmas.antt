@@ -54,6 +54,6 @@ module _ {R : Type 0} (rem : R → Option (List ℕ)) (form : Form) (text : List
   gone-of known = (records, are, gone_if form.has_header known.first known.header known.given)
 
 -- what holds of a text that is known, beside what else holds
-pub both-of : {P Q : List ℕ → Type 0} (m : Option (List ℕ)) → IfSome m P → IfSome m Q → IfSome m (λ t. P t × Q t)
-both-of None p q = tt
-both-of (Some t) p q = (p, q)
+pub both-of : (P Q : List ℕ → Type 0) (m : Option (List ℕ)) → IfSome m P → IfSome m Q → IfSome m (λ t. P t × Q t)
+both-of P Q None p q = tt
+both-of P Q (Some t) p q = (p, q)

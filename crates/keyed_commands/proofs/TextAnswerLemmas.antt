@@ -65,7 +65,7 @@ module _ {R : Type 0} (rem : R → Option (List ℕ)) (settings : Settings) (old
       → AppliesSources rem job named answer → AppliesStreams rem settings old changes answer
   apply-streams first next goes renamed same form groups unordered columned read =
       both-known {T = λ t u. AppliesTexts settings (form_of settings.form old) (form_of settings.form changes) t u answer} _ _ first
-      (both-of (text_of_stream rem settings.form changes) next (goes refl)) (λ t u opened beside. record {
+      (both-of _ _ (text_of_stream rem settings.form changes) next (goes refl)) (λ t u opened beside. record {
         columns = job.columns.now;
         header = inputs.first.source.value.header.names;
         names = named.first.source.value.header.names;
