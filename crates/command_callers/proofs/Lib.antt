@@ -10,5 +10,4 @@ pub mod KnownMerge
 pub mod KnownApply
 pub mod KnownLayers
 pub mod KnownLookup
-pub mod OneSideLemmas
 pub mod Texts

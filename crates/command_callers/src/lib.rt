@@ -6,7 +6,6 @@ ghost use Rattle.std.specs.Prelude.{◌≡◌, ◌∷◌, [], IfOk, codes};
 ghost use Rattle.keyed_commands.specs.Answers.{Stops};
 ghost use Rattle.keyed_commands.specs.declared.answers.Outcome.TheVariants.{Made};
 ghost use Rattle.command_callers.specs.Answered.{HasRows, IsTableInStyle, IsTableOrReport};
-ghost use Rattle.command_callers.specs.OneSide.{OneSideLaw};
 
 pub mod layers;
 pub mod lookups;
@@ -78,12 +77,6 @@ const ANTI: Joining<'static> = Joining {
     names: JoinNames::PLAIN,
     format: RowFormat::Csv,
 };
-
-/// What one side alone changed stands in the table that `merge` makes of three texts row by row, whatever the texts are: under each key at
-/// which one version is as the base is, the table has what the other one has. Calling this does nothing: its contract gives a caller the law.
-pub fn law_one_side()
-    ensures { OneSideLaw }
-{}
 
 /// Returns the changes between two tables in which a row has other cells: the row that goes, and the one that comes, with status 1.
 ///

@@ -11,6 +11,7 @@ pub mod LawLemmas
 pub mod LookupLemmas
 pub mod LossLemmas
 pub mod OnceLemmas
+pub mod OneSideLemmas
 pub mod OverlayLemmas
 pub mod ReadLemmas
 pub mod SignedLemmas

@@ -9,6 +9,7 @@ pub mod Laws
 pub mod LookupAnswers
 pub mod Lost
 pub mod MergedTexts
+pub mod OneSide
 pub mod OverlayAnswers
 pub mod TablesRead
 pub mod TextLaws

@@ -1,6 +1,7 @@
 //! What follows of the answers of commands, of tables in memory and of texts. Calling one of these functions does nothing: its contract
 //! gives the caller's proof the law.
 ghost use Rattle.keyed_commands.specs.Laws.{ChangesFitLaw, ChangesMakeLaw, DiffApplyLaw, DiffReadsLaw};
+ghost use Rattle.keyed_commands.specs.OneSide.{OneSideLaw};
 ghost use Rattle.keyed_commands.specs.TextLaws.{DiffSaysLaw, DiffedTextByLaw, DiffedTextLaw, OneChangesLaw, OneTableLaw};
 
 /// The changes between two tables fit the old one, and made to it they give the new one: what `apply` answers to them is the text of the
@@ -38,4 +39,11 @@ pub fn law_diff_says()
 pub fn law_diff_apply_texts()
     ensures by { DiffedTextByLaw }
     ensures plain { DiffedTextLaw }
+{}
+
+/// What one side alone changed stands in the table that `merge` makes of three texts row by row, whatever the texts are: under each key at
+/// which one version has what the base has, or lacks what it lacks, the table has what the other version has, and lacks what that lacks.
+/// Call it where three texts are merged, and the answer is a table and no report.
+pub fn law_one_side()
+    ensures { OneSideLaw }
 {}

@@ -47,7 +47,8 @@ pub use keyed_files::{
 };
 pub use keyed_reports::Counts;
 pub use laws::{
-    law_diff_apply, law_diff_apply_texts, law_diff_reads, law_diff_says, law_text_once,
+    law_diff_apply, law_diff_apply_texts, law_diff_reads, law_diff_says, law_one_side,
+    law_text_once,
 };
 pub use layers::overlay;
 pub use lookups::lookup;

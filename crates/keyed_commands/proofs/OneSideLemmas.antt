@@ -13,7 +13,7 @@ use Rattle.keyed_commands.specs.MergedTexts.{AnswersByRow, MergesTexts}
 use Rattle.keyed_commands.specs.declared.answers.Answer.{Answer}
 use Rattle.keyed_commands.specs.declared.answers.Outcome.TheVariants.{Made, Stopped}
 use Rattle.keyed_commands.proofs.AnswerLemmas.{rows_decides}
-use Rattle.command_callers.specs.OneSide.{OneSideLaw}
+use Rattle.keyed_commands.specs.OneSide.{OneSideLaw}
 
 -- groups that count as the same are the same, where there are any
 same_places : (m n : Option (List (List (List ℕ)))) → option_eq rows_eq m n ≡ true → m ≡ n
