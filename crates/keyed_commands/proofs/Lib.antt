@@ -1,4 +1,5 @@
 pub mod AnswerLemmas
+pub mod ByNumberLemmas
 pub mod ChangeLemmas
 pub mod ChangesBackLemmas
 pub mod ColumnsBackLemmas

@@ -1,5 +1,6 @@
 pub mod Answers
 pub mod AppliedTexts
+pub mod ByNumber
 pub mod ChangeRows
 pub mod ChangesRead
 pub mod ComeOut

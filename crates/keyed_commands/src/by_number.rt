@@ -1,4 +1,14 @@
 //! Rows whose cells are compared by value where they are numbers: which of them changed, and which of those in conflict are settled.
+ghost use Rattle.std.specs.Prelude.{◌≡◌, ◌||◌, IfOk, Some, option_map, zip};
+ghost use Rattle.std.specs.List.{list_all};
+ghost use Rattle.std.specs.Option.{option_and_then};
+ghost use Rattle.eob_both.specs.Places.{item_left, item_right, left_place, right_place};
+ghost use Rattle.eob_joins.specs.Cells.{same_length};
+ghost use Rattle.keyed_numbers.specs.Decimals.{same_cell};
+ghost use Rattle.keyed_tables.specs.RowsByCell.{one_row, only_row};
+ghost use Rattle.keyed_tables.specs.declared.marked.Marked.TheVariants.{Settled, Stuck};
+ghost use Rattle.keyed_commands.specs.ByNumber.{changed_by_number, is_same_change, mark_of, same_place, same_row, same_rows};
+ghost use Rattle.keyed_commands.specs.ByNumber.{settled_by, settled_by_number, settled_cell, settled_cells, settled_mark, settled_row};
 
 use either_or_both::EitherOrBoth;
 use eob_joins::{Change, Versions};
@@ -7,7 +17,7 @@ use keyed_rows::{Cells, Group, Key};
 use keyed_tables::Marked;
 use std::alloc::{AllocError, Global};
 
-/// The changes by which a cell is another one, by value where both are numbers. A key has one row.
+/// The changes by which a cell is another one, by value where both are numbers, or a row comes or goes.
 ///
 /// # Errors
 ///
@@ -16,7 +26,9 @@ pub fn changed_by_number(
     alloc: Global,
     tolerance: Decimal<'_>,
     changes: Vec<(Key, Change<Group>)>,
-) -> Result<Vec<(Key, Change<Group>)>, AllocError> {
+) -> Result<Vec<(Key, Change<Group>)>, AllocError>
+    ensures { IfOk result (λ changed. changed.items ≡ changed_by_number tolerance.entry changes.items) }
+{
     let mut changed = Vec::new(alloc);
     for (key, change) in changes {
         if !is_same_change(tolerance, &change) {
@@ -26,42 +38,65 @@ pub fn changed_by_number(
     Ok(changed)
 }
 
-// Whether a row has the same cells before and after.
-fn is_same_change(tolerance: Decimal<'_>, change: &Change<Group>) -> bool {
+// Whether a key has the same rows before and after.
+fn is_same_change(tolerance: Decimal<'_>, change: &Change<Group>) -> bool
+    ensures { result ≡ is_same_change tolerance.entry change.now }
+{
     match change {
-        EitherOrBoth::Both(old, new) => are_same(tolerance, row_of(Some(old)), row_of(Some(new))),
-        EitherOrBoth::Left(_) | EitherOrBoth::Right(_) => false,
+        EitherOrBoth::Left(_) => false,
+        EitherOrBoth::Both(old, new) => are_same_rows(tolerance, old.rows(), new.rows()),
+        EitherOrBoth::Right(_) => false,
     }
 }
 
-// The one row of a group, if there is a group.
-fn row_of(group: Option<&Group>) -> Option<&Cells> {
+// Whether two places have the same rows, or neither has any.
+fn is_same_place(tolerance: Decimal<'_>, group: Option<&Group>, other: Option<&Group>) -> bool
+    ensures { result ≡ same_place tolerance.entry (option_map (λ rows. rows.now) group.entry) (option_map (λ rows. rows.now) other.entry) }
+{
     match group {
-        Some(group) => group.rows().first(),
-        None => None,
+        Some(group) => match other {
+            Some(other) => are_same_rows(tolerance, group.rows(), other.rows()),
+            None => false,
+        },
+        None => other.is_none(),
     }
 }
 
-// Whether two rows have the same cells, or neither is there.
-fn are_same(tolerance: Decimal<'_>, row: Option<&Cells>, other: Option<&Cells>) -> bool {
-    match (row, other) {
-        (Some(row), Some(other)) => are_same_cells(tolerance, row, other),
-        (None, None) => true,
-        _ => false,
-    }
+// Whether two groups have the same rows, one after another.
+fn are_same_rows(tolerance: Decimal<'_>, rows: &[Cells], others: &[Cells]) -> bool
+    ensures { result ≡ same_rows tolerance.entry rows.now others.now }
+{
+    rows.len() == others.len() && has_same_rows(tolerance, rows, others)
 }
 
-fn are_same_cells(tolerance: Decimal<'_>, row: &Cells, other: &Cells) -> bool {
-    for (cell, next) in row.iter().zip(other.iter()) {
-        if !is_same_cell(Some(tolerance), cell, next) {
-            return false;
-        }
-    }
-    true
+// Whether each row is the same as the one beside it.
+fn has_same_rows(tolerance: Decimal<'_>, rows: &[Cells], others: &[Cells]) -> bool
+    ensures { result ≡ list_all (λ pair. same_row tolerance.entry pair.0 pair.1) (zip rows.now others.now) }
+{
+    rows.iter()
+        .zip(others.iter())
+        .all(|(row, other)| is_same_row(tolerance, row, other))
+}
+
+// Whether two rows have as many cells, and the same ones.
+fn is_same_row(tolerance: Decimal<'_>, row: &Cells, other: &Cells) -> bool
+    ensures { result ≡ same_row tolerance.entry row.now other.now }
+{
+    row.len() == other.len() && has_same_cells(tolerance, row, other)
+}
+
+// Whether each cell is the same as the one beside it.
+fn has_same_cells(tolerance: Decimal<'_>, row: &Cells, other: &Cells) -> bool
+    ensures { result ≡ list_all (λ pair. same_cell (Some tolerance.entry) pair.0 pair.1) (zip row.now other.now) }
+{
+    row.iter()
+        .zip(other.iter())
+        .all(|(cell, next)| is_same_cell(Some(tolerance), cell, next))
 }
 
 /// The merged rows, with those in conflict in their places, of which those are settled that are in conflict only because numbers are written
-/// in other ways: what is ours stays where both sides have the same value, and what one side alone changed is as that side has it.
+/// in other ways: what is ours stays where both sides have the same value, and what one side alone changed is as that side has it. A key
+/// with several rows is settled as a whole, or not.
 ///
 /// # Errors
 ///
@@ -71,81 +106,273 @@ pub fn settled_by_number(
     tolerance: Decimal<'_>,
     unit: Unit,
     rows: Vec<(Key, Marked<Group>)>,
-) -> Result<Vec<(Key, Marked<Group>)>, AllocError> {
+) -> Result<Vec<(Key, Marked<Group>)>, AllocError>
+    ensures { IfOk result (λ merged. merged.items ≡ settled_by_number tolerance.entry unit rows.items) }
+{
     let mut merged = Vec::new(alloc);
-    for (key, row) in rows {
-        match row {
-            Marked::Settled(group) => merged.push((key, Marked::Settled(group)))?,
-            Marked::Stuck(versions) => match settle(alloc, tolerance, unit, &versions)? {
-                Settlement::Row(row) => merged.push((key, Marked::Settled(Group::new(row))))?,
-                Settlement::Gone => {}
-                Settlement::Stuck => merged.push((key, Marked::Stuck(versions)))?,
-            },
+    for (key, mark) in rows {
+        match settled_mark(alloc, tolerance, unit, mark)? {
+            Some(row) => merged.push((key, row))?,
+            None => {}
         }
     }
     Ok(merged)
 }
 
-// What becomes of a row in conflict.
-#[derive(Drop)]
-enum Settlement {
-    Row(Cells),
-    Gone,
-    Stuck,
+// What stands of a key, if anything does.
+fn settled_mark(
+    alloc: Global,
+    tolerance: Decimal<'_>,
+    unit: Unit,
+    mark: Marked<Group>,
+) -> Result<Option<Marked<Group>>, AllocError>
+    ensures { IfOk result (λ settled. settled ≡ settled_mark tolerance.entry unit mark) }
+{
+    match mark {
+        Marked::Settled(group) => Ok(Some(Marked::Settled(group))),
+        Marked::Stuck(versions) => settle(alloc, tolerance, unit, versions),
+    }
 }
 
-// What becomes of the versions of a row: as a whole, or else cell by cell where that is how tables are merged.
+// What becomes of a key in conflict: what one side has, or else by cell where that is how tables are merged.
 fn settle(
     alloc: Global,
     tolerance: Decimal<'_>,
     unit: Unit,
-    versions: &Versions<Group>,
-) -> Result<Settlement, AllocError> {
-    let (base, sides) = versions.as_ref().unzip();
-    let (ours, theirs) = match sides {
-        Some(sides) => sides.as_ref().unzip(),
-        None => (None, None),
-    };
-    let (base, ours, theirs) = (row_of(base), row_of(ours), row_of(theirs));
-    if are_same(tolerance, ours, theirs) || are_same(tolerance, base, theirs) {
-        settled_as(ours)
-    } else if are_same(tolerance, base, ours) {
-        settled_as(theirs)
+    versions: Versions<Group>,
+) -> Result<Option<Marked<Group>>, AllocError>
+    ensures { IfOk result (λ mark. mark ≡ settled_mark tolerance.entry unit (Stuck versions)) }
+{
+    if ours_stays(tolerance, &versions) {
+        Ok(settled_as(ours_of(versions)))
+    } else if theirs_comes(tolerance, &versions) {
+        Ok(settled_as(theirs_of(versions)))
     } else {
-        match unit {
-            Unit::Row => Ok(Settlement::Stuck),
-            Unit::Cell => settle_cells(alloc, tolerance, base, ours, theirs),
-        }
+        settle_by(alloc, tolerance, unit, versions)
     }
 }
 
-// A row in conflict that is settled as one of the sides has it.
-fn settled_as(side: Option<&Cells>) -> Result<Settlement, AllocError> {
-    match side {
-        Some(row) => Ok(Settlement::Row(row.clone()?)),
-        None => Ok(Settlement::Gone),
+// Whether theirs has the same rows as ours or as the base.
+fn ours_stays(tolerance: Decimal<'_>, versions: &Versions<Group>) -> bool
+    ensures { result ≡ (same_place tolerance.entry (item_left (right_place versions.now)) (item_right (right_place versions.now))
+        || same_place tolerance.entry (left_place versions.now) (item_right (right_place versions.now))) }
+{
+    is_same_place(tolerance, ours_in(versions), theirs_in(versions))
+        || is_same_place(tolerance, base_in(versions), theirs_in(versions))
+}
+
+// Whether ours has the same rows as the base.
+fn theirs_comes(tolerance: Decimal<'_>, versions: &Versions<Group>) -> bool
+    ensures { result ≡ same_place tolerance.entry (left_place versions.now) (item_left (right_place versions.now)) }
+{
+    is_same_place(tolerance, base_in(versions), ours_in(versions))
+}
+
+// The rows of each version.
+fn base_in(versions: &Versions<Group>) -> Option<&Group>
+    ensures { option_map (λ rows. rows.now) result ≡ left_place versions.now }
+{
+    match versions {
+        EitherOrBoth::Left(base) => Some(base),
+        EitherOrBoth::Both(base, _) => Some(base),
+        EitherOrBoth::Right(_) => None,
     }
 }
 
-// A row in conflict that is in each version, merged cell by cell.
-fn settle_cells(
+fn ours_in(versions: &Versions<Group>) -> Option<&Group>
+    ensures { option_map (λ rows. rows.now) result ≡ item_left (right_place versions.now) }
+{
+    match versions {
+        EitherOrBoth::Left(_) => None,
+        EitherOrBoth::Both(_, sides) => left_in(sides),
+        EitherOrBoth::Right(sides) => left_in(sides),
+    }
+}
+
+fn theirs_in(versions: &Versions<Group>) -> Option<&Group>
+    ensures { option_map (λ rows. rows.now) result ≡ item_right (right_place versions.now) }
+{
+    match versions {
+        EitherOrBoth::Left(_) => None,
+        EitherOrBoth::Both(_, sides) => right_in(sides),
+        EitherOrBoth::Right(sides) => right_in(sides),
+    }
+}
+
+fn left_in(sides: &EitherOrBoth<Group, Group>) -> Option<&Group>
+    ensures { option_map (λ rows. rows.now) result ≡ left_place sides.now }
+{
+    match sides {
+        EitherOrBoth::Left(left) => Some(left),
+        EitherOrBoth::Both(left, _) => Some(left),
+        EitherOrBoth::Right(_) => None,
+    }
+}
+
+fn right_in(sides: &EitherOrBoth<Group, Group>) -> Option<&Group>
+    ensures { option_map (λ rows. rows.now) result ≡ right_place sides.now }
+{
+    match sides {
+        EitherOrBoth::Left(_) => None,
+        EitherOrBoth::Both(_, right) => Some(right),
+        EitherOrBoth::Right(right) => Some(right),
+    }
+}
+
+// The rows of each side, of which the others are dropped.
+fn ours_of(versions: Versions<Group>) -> Option<Group>
+    ensures { result ≡ item_left (right_place versions) }
+{
+    match versions.right() {
+        Some(sides) => sides.left(),
+        None => None,
+    }
+}
+
+fn theirs_of(versions: Versions<Group>) -> Option<Group>
+    ensures { result ≡ item_right (right_place versions) }
+{
+    match versions.right() {
+        Some(sides) => sides.right(),
+        None => None,
+    }
+}
+
+// A key that is settled as one of the sides has it.
+fn settled_as(rows: Option<Group>) -> Option<Marked<Group>>
+    ensures { result ≡ option_map Settled rows }
+{
+    match rows {
+        Some(rows) => Some(Marked::Settled(rows)),
+        None => None,
+    }
+}
+
+// What becomes of a key that no side settles.
+fn settle_by(
+    alloc: Global,
+    tolerance: Decimal<'_>,
+    unit: Unit,
+    versions: Versions<Group>,
+) -> Result<Option<Marked<Group>>, AllocError>
+    ensures { IfOk result (λ mark. mark ≡ mark_of versions (settled_by tolerance.entry unit
+        (left_place versions) (item_left (right_place versions)) (item_right (right_place versions)))) }
+{
+    match unit {
+        Unit::Row => Ok(Some(Marked::Stuck(versions))),
+        Unit::Cell => match settled_versions(alloc, tolerance, &versions)? {
+            Some(row) => Ok(Some(Marked::Settled(Group::new(row)))),
+            None => Ok(Some(Marked::Stuck(versions))),
+        },
+    }
+}
+
+// The row of three versions that have one row each, merged cell by cell.
+fn settled_versions(
+    alloc: Global,
+    tolerance: Decimal<'_>,
+    versions: &Versions<Group>,
+) -> Result<Option<Cells>, AllocError>
+    ensures { IfOk result (λ row. row ≡ settled_row tolerance.entry (option_and_then one_row (left_place versions.now))
+        (option_and_then one_row (item_left (right_place versions.now))) (option_and_then one_row (item_right (right_place versions.now)))) }
+{
+    let base = row_of(base_in(versions));
+    let ours = row_of(ours_in(versions));
+    let theirs = row_of(theirs_in(versions));
+    settled_row(alloc, tolerance, base, ours, theirs)
+}
+
+// The row of a group of one.
+fn row_of(group: Option<&Group>) -> Option<&Cells>
+    ensures { option_map (λ row. row.now) result ≡ option_and_then one_row (option_map (λ rows. rows.now) group.entry) }
+{
+    match group {
+        Some(group) => one_row(group.rows()),
+        None => None,
+    }
+}
+
+fn one_row(rows: &[Cells]) -> Option<&Cells>
+    ensures { option_map (λ row. row.now) result ≡ one_row rows.now }
+{
+    match rows.split_first() {
+        Some((row, rest)) => only_row(row, rest),
+        None => None,
+    }
+}
+
+// A row with no others behind it.
+fn only_row<'a>(row: &'a Cells, rest: &[Cells]) -> Option<&'a Cells>
+    ensures { option_map (λ row. row.now) result ≡ only_row row.now rest.now }
+{
+    if rest.is_empty() { Some(row) } else { None }
+}
+
+// A row that is in each version, merged cell by cell.
+fn settled_row(
     alloc: Global,
     tolerance: Decimal<'_>,
     base: Option<&Cells>,
     ours: Option<&Cells>,
     theirs: Option<&Cells>,
-) -> Result<Settlement, AllocError> {
-    let (Some(base), Some(ours), Some(theirs)) = (base, ours, theirs) else {
-        return Ok(Settlement::Stuck);
-    };
+) -> Result<Option<Cells>, AllocError>
+    ensures { IfOk result (λ row. row ≡ settled_row tolerance.entry (option_map (λ row. row.now) base.entry)
+        (option_map (λ row. row.now) ours.entry) (option_map (λ row. row.now) theirs.entry)) }
+{
+    match base {
+        Some(base) => match ours {
+            Some(ours) => match theirs {
+                Some(theirs) => settled_of_three(alloc, tolerance, base, ours, theirs),
+                None => Ok(None),
+            },
+            None => Ok(None),
+        },
+        None => Ok(None),
+    }
+}
+
+// The same of rows that are there.
+fn settled_of_three(
+    alloc: Global,
+    tolerance: Decimal<'_>,
+    base: &Cells,
+    ours: &Cells,
+    theirs: &Cells,
+) -> Result<Option<Cells>, AllocError>
+    ensures { IfOk result (λ row. row ≡ settled_row tolerance.entry (Some base.now) (Some ours.now) (Some theirs.now)) }
+{
+    if are_same_length(base, ours, theirs) {
+        settled_cells(alloc, tolerance, base, ours, theirs)
+    } else {
+        Ok(None)
+    }
+}
+
+// Whether three rows have one length.
+fn are_same_length(base: &Cells, ours: &Cells, theirs: &Cells) -> bool
+    ensures { result ≡ same_length base.now ours.now theirs.now }
+{
+    ours.len() == base.len() && theirs.len() == base.len()
+}
+
+// The cells of three rows, if each of them is settled.
+fn settled_cells(
+    alloc: Global,
+    tolerance: Decimal<'_>,
+    base: &Cells,
+    ours: &Cells,
+    theirs: &Cells,
+) -> Result<Option<Cells>, AllocError>
+    ensures { IfOk result (λ row. row ≡ settled_cells tolerance.entry (zip base.now (zip ours.now theirs.now))) }
+{
     let mut merged = Cells::new(alloc);
     for (old, (our, their)) in base.iter().zip(ours.iter().zip(theirs.iter())) {
         match settled_cell(tolerance, old, our, their) {
             Some(cell) => merged.push(cell)?,
-            None => return Ok(Settlement::Stuck),
+            None => return Ok(None),
         }
     }
-    Ok(Settlement::Row(merged))
+    Ok(Some(merged))
 }
 
 // The cell of three versions, unless both sides changed it, and not alike.
@@ -154,7 +381,9 @@ fn settled_cell<'a>(
     base: &[u8],
     ours: &'a [u8],
     theirs: &'a [u8],
-) -> Option<&'a [u8]> {
+) -> Option<&'a [u8]>
+    ensures { option_map (λ cell. cell.now) result ≡ settled_cell tolerance.entry base.now ours.now theirs.now }
+{
     let tolerance = Some(tolerance);
     if base == ours {
         Some(theirs)

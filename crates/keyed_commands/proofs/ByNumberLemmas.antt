@@ -1,0 +1,72 @@
+-- Rows that are compared by value.
+use Rattle.std.proofs.Common.{◌≡◌, ◌++◌, ◌&&◌, ◌⊎◌, ⊎_elim, inl, inr, ℕ, Bool, Bor, List, [], ◌∷◌, append_assoc, length, zip, Option, None, Some, option_map, arith, ap, refl}
+use Rattle.std.specs.Cmp.Lexicographic.{pointwise}
+use Rattle.std.specs.Iterator.{YieldsFirstRef}
+use Rattle.std.specs.Iterator.Adapters.{zip_first, zip_second, zip_steps}
+use Rattle.std.specs.List.{list_all}
+use Rattle.std.specs.declared.iter.Zip.{Zip}
+use Rattle.eob_both.proofs.SideLemmas.{filter_map-push_none, filter_map-push_some}
+use Rattle.eob_joins.specs.Tables.{kept}
+use Rattle.keyed_numbers.specs.declared.decimal.Decimal.{Decimal}
+use Rattle.keyed_commands.specs.ByNumber.{settled_cell, settled_cells}
+
+-- lists of one length are compared pair by pair
+pub each_pair : {A B : Type 0} (E : A → B → Bool) (xs : List A) (ys : List B) → length xs ≡ length ys
+    → list_all (λ p. E p.0 p.1) (zip xs ys) ≡ pointwise E xs ys
+each_pair E [] [] l = refl
+each_pair E [] (y ∷ ys) l = absurd (omega arith)
+each_pair E (x ∷ xs) [] l = absurd (omega arith)
+each_pair E (x ∷ xs) (y ∷ ys) l = ap (λ b. E x y && b) (each_pair E xs ys (omega arith))
+
+behind : (merged : List (List ℕ)) (cell : List ℕ) (rest : Option (List (List ℕ)))
+    → option_map (λ r. (merged ++ cell ∷ []) ++ r) rest ≡ option_map (λ r. merged ++ r) (option_map (λ r. cell ∷ r) rest)
+behind merged cell None = refl
+behind merged cell (Some r) = ap Some (append_assoc merged (cell ∷ []) r)
+
+-- one cell more
+pub settled-more : (tolerance : Decimal) (merged : List (List ℕ)) (cell : List ℕ) (z : List ℕ × (List ℕ × List ℕ)) (zs : List (List ℕ × (List ℕ × List ℕ)))
+    → settled_cell tolerance z.0 z.1.0 z.1.1 ≡ Some cell
+    → option_map (λ r. (merged ++ cell ∷ []) ++ r) (settled_cells tolerance zs) ≡ option_map (λ r. merged ++ r) (settled_cells tolerance (z ∷ zs))
+settled-more tolerance merged cell z zs e = rw e (behind merged cell (settled_cells tolerance zs))
+
+-- and one that is not settled
+pub settled-none : (tolerance : Decimal) (merged : List (List ℕ)) (z : List ℕ × (List ℕ × List ℕ)) (zs : List (List ℕ × (List ℕ × List ℕ)))
+    → settled_cell tolerance z.0 z.1.0 z.1.1 ≡ None → option_map (λ r. merged ++ r) (settled_cells tolerance (z ∷ zs)) ≡ None
+settled-none tolerance merged z zs e = rw e refl
+
+-- the cells of three rows that are still to come
+abbrev Three : Type 0
+Three = Zip (List (List ℕ)) (Zip (List (List ℕ)) (List (List ℕ)))
+
+abbrev pub still : Three → List (List ℕ × (List ℕ × List ℕ))
+still s = zip (zip_first s) (zip (zip_first (zip_second s)) (zip_second (zip_second s)))
+
+abbrev Steps : Three → Option (Bor (List ℕ) × (Bor (List ℕ) × Bor (List ℕ))) → Three → Type 0
+Steps = zip_steps (YieldsFirstRef (λ cells. cells)) (zip_steps (YieldsFirstRef (λ cells. cells)) (YieldsFirstRef (λ cells. cells)))
+
+zip_none : {A B : Type 0} (a : List A) (b : List B) → (a ≡ []) ⊎ (b ≡ []) → zip a b ≡ []
+zip_none [] b e = refl
+zip_none (x ∷ xs) [] e = refl
+zip_none (x ∷ xs) (y ∷ ys) e = ⊎_elim (λ g. absurd (cc)) (λ g. absurd (cc)) e
+
+-- three cells are taken, or one of the rows has ended
+pub cells-then : (s t : Three) (p : Bor (List ℕ) × (Bor (List ℕ) × Bor (List ℕ))) → Steps s (Some p) t
+    → still s ≡ (p.0.now, (p.1.0.now, p.1.1.now)) ∷ still t
+cells-then s t p h = rw (h.0, h.1.0, h.1.1) refl
+
+pub none-left : (s t : Three) (r : Option (Bor (List ℕ) × (Bor (List ℕ) × Bor (List ℕ)))) → r ≡ None → Steps s r t → still s ≡ []
+none-left s t (Some p) e h = absurd (cc)
+none-left s t None e h =
+    ⊎_elim
+    (λ g. zip_none (zip_first s) (zip (zip_first (zip_second s)) (zip_second (zip_second s))) (inl g.1.0))
+    (λ g. zip_none (zip_first s) (zip (zip_first (zip_second s)) (zip_second (zip_second s))) (inr
+    (zip_none (zip_first (zip_second s)) (zip_second (zip_second s)) (⊎_elim (λ k. inl k.1.0) (λ k. inr k.1.0) g.1))))
+    h
+
+-- one more key, of which something stands or not
+pub kept-some : {K V W : Type 0} (g : V → Option W) (zs : List (K × V)) (key : K) (v : V) (w : W) → g v ≡ Some w
+    → kept g (zs ++ (key, v) ∷ []) ≡ kept g zs ++ (key, w) ∷ []
+kept-some g zs key v w e = filter_map-push_some (λ z. option_map (λ w. (z.0, w)) (g z.1)) zs (key, v) (key, w) (ap (option_map (λ w. (key, w))) e)
+
+pub kept-none : {K V W : Type 0} (g : V → Option W) (zs : List (K × V)) (key : K) (v : V) → g v ≡ None → kept g (zs ++ (key, v) ∷ []) ≡ kept g zs
+kept-none g zs key v e = filter_map-push_none (λ z. option_map (λ w. (z.0, w)) (g z.1)) zs (key, v) (ap (option_map (λ w. (key, w))) e)
