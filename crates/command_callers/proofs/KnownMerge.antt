@@ -81,7 +81,7 @@ merge_columns key base ours theirs columns e h =
     subst (λ k. AreMergedColumns k base ours theirs columns) (plain_key key (base ∷ ours ∷ theirs ∷ []) h.first h.others e h.names).1 h.are
 
 module _ {settings : Settings} {by : Unit} {base_form ours_form theirs_form : Form} {base_text ours_text theirs_text : List ℕ} {answer : Answer}
-    (m : MergesTexts by settings base_form ours_form theirs_form base_text ours_text theirs_text answer) (plain : IsPlain settings)
+    (m : MergesTexts None by settings base_form ours_form theirs_form base_text ours_text theirs_text answer) (plain : IsPlain settings)
     (base_fields ours_fields theirs_fields : List (List ℕ)) (base_records ours_records theirs_records : List (List (List ℕ)))
     (base_known : IsKnown base_form base_text base_fields base_records) (ours_known : IsKnown ours_form ours_text ours_fields ours_records)
     (theirs_known : IsKnown theirs_form theirs_text theirs_fields theirs_records)
@@ -139,7 +139,7 @@ module _ {settings : Settings} {by : Unit} {base_form ours_form theirs_form : Fo
       subst (λ t. P t m.ours m.theirs) (sym base_table) (subst (λ t. P (map alone base) t m.theirs) (sym ours_table) (subst (λ t. P (map alone base) (map alone ours) t) (sym theirs_table) h))
 
   by_row : by ≡ unit.Row → AnswersByRow settings.form m.columns m.merged.keys m.merged.by_cells m.base m.ours m.theirs m.merged.made
-  by_row is = subst (AnswersBy settings.form m.columns m.merged.keys m.merged.by_cells m.base m.ours m.theirs m.merged.made) is m.merged.merged
+  by_row is = subst (AnswersBy settings.form m.columns m.merged.keys m.merged.by_cells m.base m.ours m.theirs m.merged.made None) is m.merged.merged
 
   base_rises : Rising key_cmp (map alone base)
   base_rises = alone_rise key_cmp key_total base base_up
@@ -172,7 +172,7 @@ module _ {settings : Settings} {by : Unit} {base_form ours_form theirs_form : Fo
   merge_stops is k clash = styled_report m.merged.made answer ((by_row is).conflict (from_tables HasConflict (k, clash))) m.merged.styled
 
   by_cell : by ≡ unit.Cell → AnswersByCell settings.form m.columns m.merged.keys m.merged.by_cells m.base m.ours m.theirs m.merged.made
-  by_cell is = subst (AnswersBy settings.form m.columns m.merged.keys m.merged.by_cells m.base m.ours m.theirs m.merged.made) is m.merged.merged
+  by_cell is = subst (AnswersBy settings.form m.columns m.merged.keys m.merged.by_cells m.base m.ours m.theirs m.merged.made None) is m.merged.merged
 
   -- the same of a merge by cell
   abbrev pub merged_cells_of_three : TableRows

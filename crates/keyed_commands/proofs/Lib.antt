@@ -4,6 +4,7 @@ pub mod ChangeLemmas
 pub mod ChangesBackLemmas
 pub mod ColumnsBackLemmas
 pub mod ComeLemmas
+pub mod ComparedLemmas
 pub mod DiffedTextLemmas
 pub mod GatheredLemmas
 pub mod JoinLemmas
@@ -11,6 +12,7 @@ pub mod KeyLemmas
 pub mod LawLemmas
 pub mod LookupLemmas
 pub mod LossLemmas
+pub mod NumberMergeLemmas
 pub mod OnceLemmas
 pub mod OneSideLemmas
 pub mod OverlayLemmas

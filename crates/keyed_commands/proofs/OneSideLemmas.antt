@@ -39,7 +39,7 @@ stopped_made : Stopped ≡ Made → ⊥
 stopped_made e = absurd (cc)
 
 module _ (settings : Settings) (base_form ours_form theirs_form : Form) (base_text ours_text theirs_text : List ℕ) (answer : Answer)
-    (merges : MergesTexts unit.Row settings base_form ours_form theirs_form base_text ours_text theirs_text answer) (made : answer.outcome ≡ Made) where
+    (merges : MergesTexts None unit.Row settings base_form ours_form theirs_form base_text ours_text theirs_text answer) (made : answer.outcome ≡ Made) where
   not_stopped : Stops merges.merged.made → ⊥
   not_stopped stops = stopped_made (sym stops.1 ∙ (sym merges.merged.styled.1.outcome ∙ made))
 

@@ -13,6 +13,7 @@ use Rattle.keyed_files.specs.declared.columns.Columns.{Columns}
 use Rattle.keyed_files.specs.declared.request.Form.{Form}
 use Rattle.keyed_files.specs.declared.request.Settings.{Settings}
 use Rattle.keyed_files.specs.declared.source.Content.TheVariants.{Changes, Rows}
+use Rattle.keyed_numbers.specs.declared.decimal.Decimal.{Decimal}
 use Rattle.keyed_commands.specs.AppliedTexts.{AnswersApplied, AppliedIn, AppliesSources, AppliesStreams, AppliesTexts}
 use Rattle.keyed_commands.specs.ChangesRead.{SaysChanges}
 use Rattle.keyed_commands.specs.MergedTexts.{AnswersBy, MergedIn, MergesSources, MergesStreams, MergesTexts}
@@ -86,15 +87,15 @@ module _ {R : Type 0} (rem : R → Option (List ℕ)) (settings : Settings) (old
       })
 
 -- three streams of versions of a table, of their texts
-module _ {R : Type 0} (rem : R → Option (List ℕ)) (by : Unit) (settings : Settings) (base ours theirs : Stream R) (opened named : Opened R) (sides : Two R) (job : Job Columns)
+module _ {R : Type 0} (rem : R → Option (List ℕ)) (tolerance : Option Decimal) (by : Unit) (settings : Settings) (base ours theirs : Stream R) (opened named : Opened R) (sides : Two R) (job : Job Columns)
     (answer : Answer) where
   pub merge-streams : IsOpened rem settings.form Rows base opened → IsOpened rem settings.form Rows ours sides.first → IsOpened rem settings.form Rows theirs sides.next
       → IsNamedAnew settings opened.source.value named.source.value
       → job.form ≡ settings.form → job.groups ≡ settings.groups → (settings.keeps_order ≡ false → IsUnordered job)
       → AreMergedColumnsBy settings.key named.source.value.header.names sides.first.source.value.header.names sides.next.source.value.header.names job.columns.now
-      → MergesSources rem by job named sides answer → MergesStreams rem by settings base ours theirs answer
+      → MergesSources rem tolerance by job named sides answer → MergesStreams rem tolerance by settings base ours theirs answer
   merge-streams first second third renamed form groups unordered columned read =
-      three-known {T = λ t u v. MergesTexts by settings (form_of settings.form base) (form_of settings.form ours) (form_of settings.form theirs) t u v answer}
+      three-known {T = λ t u v. MergesTexts tolerance by settings (form_of settings.form base) (form_of settings.form ours) (form_of settings.form theirs) t u v answer}
       _ _ _ first second third (λ t u v one two three. record {
         columns = job.columns.now;
         header = opened.source.value.header.names;
@@ -113,7 +114,7 @@ module _ {R : Type 0} (rem : R → Option (List ℕ)) (by : Unit) (settings : Se
           keys = read.merged.keys;
           by_cells = read.merged.by_cells;
           made = read.merged.made;
-          merged = subst (λ f. AnswersBy f job.columns.now read.merged.keys read.merged.by_cells read.base read.ours read.theirs read.merged.made by) form read.merged.merged;
+          merged = subst (λ f. AnswersBy f job.columns.now read.merged.keys read.merged.by_cells read.base read.ours read.theirs read.merged.made tolerance by) form read.merged.merged;
           styled = read.merged.styled;
           order = λ by_key. read.merged.order (unordered by_key);
         };

@@ -90,3 +90,13 @@ module _ (tolerance : Decimal) where
   -- the merged rows in their order, each as what stands of it
   abbrev pub settled_by_number : {K : Type 0} → Unit → List (K × Marked (List (List (List ℕ)))) → List (K × Marked (List (List (List ℕ))))
   settled_by_number by rows = kept (settled_mark by) rows
+
+-- the rows of what stands of a key, and its versions where it is in conflict
+abbrev pub rows_of : Marked (List (List (List ℕ))) → Option (List (List (List ℕ)))
+rows_of (Settled rows) = Some rows
+rows_of (Stuck versions) = None
+
+abbrev pub stuck_of : Marked (List (List (List ℕ)))
+    → Option (EitherOrBoth (List (List (List ℕ))) (EitherOrBoth (List (List (List ℕ))) (List (List (List ℕ)))))
+stuck_of (Settled rows) = None
+stuck_of (Stuck versions) = Some versions

@@ -4,11 +4,13 @@ pub mod ByNumber
 pub mod ChangeRows
 pub mod ChangesRead
 pub mod ComeOut
+pub mod Compared
 pub mod JoinAnswers
 pub mod Keys
 pub mod Laws
 pub mod LookupAnswers
 pub mod Lost
+pub mod MergedByNumber
 pub mod MergedTexts
 pub mod OneSide
 pub mod OverlayAnswers

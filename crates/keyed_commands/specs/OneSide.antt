@@ -1,5 +1,5 @@
 -- What a merge keeps of what one side alone changed.
-use Rattle.std.specs.Prelude.{◌≡◌, ℕ, List}
+use Rattle.std.specs.Prelude.{◌≡◌, ℕ, List, None}
 use Rattle.eob_lists.specs.Join.{value_under}
 use Rattle.keyed_files.specs.declared.request.Form.{Form}
 use Rattle.keyed_files.specs.declared.request.Settings.{Settings}
@@ -19,6 +19,6 @@ pub record KeepsOneSide (base ours theirs rows : TableRows) : Type 0 where
 -- the table that `merge` makes of three texts row by row has what one side alone changed, whatever the texts are
 abbrev pub OneSideLaw : Type 0
 OneSideLaw = (settings : Settings) (base_form ours_form theirs_form : Form) (base_text ours_text theirs_text : List ℕ) (answer : Answer)
-    → (merges : MergesTexts unit.Row settings base_form ours_form theirs_form base_text ours_text theirs_text answer) → answer.outcome ≡ Made
+    → (merges : MergesTexts None unit.Row settings base_form ours_form theirs_form base_text ours_text theirs_text answer) → answer.outcome ≡ Made
     → (rows : TableRows) × KeepsOneSide merges.base merges.ours merges.theirs rows
     × IsTableText settings.form merges.columns merges.merged.keys merges.merged.by_cells rows merges.merged.made.bytes.items

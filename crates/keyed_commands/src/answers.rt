@@ -1,18 +1,21 @@
 //! The answer to each request, of streams.
 //!
 //! Each has three steps: its headers are read, then the rows under its columns, and then the tables are answered.
-ghost use Rattle.std.specs.Prelude.{◌≡◌, ◌↔◌, IfOk, None, OnOk, is_none, length};
+ghost use Rattle.std.specs.Prelude.{◌≡◌, ◌≢◌, ◌↔◌, IfOk, None, OnOk, is_none, length};
 ghost use Rattle.keyed_files.specs.Keys.{AreChangeColumns, AreMergedColumnsBy};
 ghost use Rattle.keyed_files.specs.Opening.{first_header, next_header};
 ghost use Rattle.keyed_files.specs.declared.request.Format.TheVariants.{Csv};
 ghost use Rattle.keyed_tables.specs.Arranged.{noted};
-ghost use Rattle.keyed_commands.specs.Answers.{ChangesComeOut, IsDiffStatus};
+ghost use Rattle.keyed_tables.specs.Marked.{IsMarkedMerge};
+ghost use Rattle.keyed_commands.specs.Answers.{ChangesComeOut, IsDiffStatus, columns_differ, key_cmp, rows_eq};
 ghost use Rattle.keyed_commands.specs.AppliedTexts.{AppliesSources, AppliesStreams, IsInStyle, watched_left};
+ghost use Rattle.keyed_commands.specs.Compared.{AreComparedColumns, AreSameBy, ComparedComeOut, ComparesSources, ComparesStreams, IsStatusBy, names_of};
+ghost use Rattle.keyed_commands.specs.MergedByNumber.{AnswersByNumber, AnswersParted, can_by, gives_by};
 ghost use Rattle.keyed_commands.specs.MergedTexts.{AnswersBy, IsReported, MergesSources, MergesStreams};
 ghost use Rattle.keyed_commands.specs.TablesRead.{DiffsSources, DiffsStreams, IsUnordered, ReadsTable};
 
-use crate::by_number::{changed_by_number, settled_by_number};
-use crate::changed::{changes_shown, diff_as_csv, diff_status};
+use crate::by_number::settled_by_number;
+use crate::changed::{changes_by_number, changes_shown, diff_as_csv, diff_status};
 use crate::job::{Job, Table};
 use crate::marks::{has_conflict, parted, write_marked};
 use crate::tables::{answer_of_rows, apply_tables, merge_by_cell, merge_by_row, report_conflicts};
@@ -59,8 +62,10 @@ pub fn diff<'a, R: Read + Drop>(
     old: Stream<'a, R>,
     new: Stream<'a, R>,
 ) -> Result<Answer, Fault<'a>>
-    ensures { IfOk result (λ answer. how.entry.format ≡ Csv →
+    ensures changes { IfOk result (λ answer. how.entry.format ≡ Csv →
         DiffsStreams R.remaining settings.entry old.entry new.entry answer) }
+    ensures compared { IfOk result (λ answer. how.entry.format ≢ Csv →
+        ComparesStreams R.remaining settings.entry how.entry old.entry new.entry answer) }
 {
     let mut versions = Two::new(alloc, settings.form, Content::Rows, old, new)?;
     versions.first.rename(alloc, settings)?;
@@ -75,8 +80,10 @@ fn columns_of_diff<'a, R>(
     how: Comparing<'_>,
     versions: &Two<'a, R>,
 ) -> Result<Columns, Fault<'a>>
-    ensures { IfOk result (λ columns. how.entry.format ≡ Csv →
+    ensures changes { IfOk result (λ columns. how.entry.format ≡ Csv →
         AreChangeColumns settings.entry.key (first_header versions.now) (next_header versions.now) columns) }
+    ensures compared { IfOk result (λ columns. how.entry.format ≢ Csv → AreComparedColumns settings.entry.key how.entry.view.columns
+        (first_header versions.now) (next_header versions.now) columns) }
 {
     match how.format {
         Format::Csv => versions.change_columns(alloc, settings.key),
@@ -90,9 +97,12 @@ fn columns_compared<'a, R>(
     settings: Settings<'_>,
     picked: Picked<'_>,
     versions: &Two<'a, R>,
-) -> Result<Columns, Fault<'a>> {
-    let columns = versions.columns(alloc, settings.key)?;
-    at(versions.next.file, picked_columns(alloc, picked, columns))
+) -> Result<Columns, Fault<'a>>
+    ensures { IfOk result (λ columns.
+        AreComparedColumns settings.entry.key picked.entry (first_header versions.now) (next_header versions.now) columns) }
+{
+    let all = versions.columns(alloc, settings.key)?;
+    at(versions.next.file, picked_columns(alloc, picked, all))
 }
 
 fn diff_files<'a, R: Read + Drop>(
@@ -100,8 +110,10 @@ fn diff_files<'a, R: Read + Drop>(
     how: Comparing<'_>,
     versions: &mut Two<'a, R>,
 ) -> Result<Answer, Fault<'a>>
-    ensures { IfOk result (λ answer. how.entry.format ≡ Csv →
+    ensures changes { IfOk result (λ answer. how.entry.format ≡ Csv →
         DiffsSources R.remaining job.entry versions.old answer) }
+    ensures compared { IfOk result (λ answer. how.entry.format ≢ Csv →
+        ComparesSources R.remaining how.entry job.entry versions.old answer) }
 {
     match how.format {
         Format::Csv => diff_files_as_csv(job, versions),
@@ -129,19 +141,30 @@ fn diff_files_as_report<'a, R: Read + Drop>(
     look: Look,
     how: Comparing<'_>,
     versions: &mut Two<'a, R>,
-) -> Result<Answer, Fault<'a>> {
-    let (old, new) = job.read_both(versions)?;
-    let before = at(
-        versions.first.file,
-        names_among(job.alloc, versions.first.header(), job.columns),
-    )?;
-    let after = at(
-        versions.next.file,
-        names_among(job.alloc, versions.next.header(), job.columns),
-    )?;
+) -> Result<Answer, Fault<'a>>
+    ensures { IfOk result (ComparesSources R.remaining how.entry job.entry versions.old) }
+{
+    let tables = job.read_both(versions)?;
+    let (old, new) = tables;
+    let before = names_compared(&job, &versions.first)?;
+    let after = names_compared(&job, &versions.next)?;
     let columns = ColumnChanges::new(&before, &after);
     let answer = diff_as_report(&job, look, how, columns, old, new);
     at(versions.next.file, answer)
+}
+
+// The names of the columns of a table that are compared.
+fn names_compared<'a, R>(
+    job: &Job<'_, Columns>,
+    table: &Opened<'a, R>,
+) -> Result<Cells, Fault<'a>>
+    ensures { IfOk result
+        (λ names. names ≡ names_of job.now.columns.now table.now.source.value.header.names) }
+{
+    at(
+        table.file,
+        names_among(job.alloc, table.header(), job.columns),
+    )
 }
 
 fn diff_as_report<'a>(
@@ -152,8 +175,10 @@ fn diff_as_report<'a>(
     old: Table,
     new: Table,
 ) -> Result<Answer, Reason>
-    ensures { IfOk result (λ answer. how.entry.tolerance ≡ None →
+    ensures plain { IfOk result (λ answer. how.entry.tolerance ≡ None →
         IsDiffStatus column_changes.entry old.pairs.items new.pairs.items answer.status) }
+    ensures status { IfOk result (λ answer. IsStatusBy how.entry.tolerance (columns_differ column_changes.entry)
+        old.pairs.items new.pairs.items answer.status) }
 {
     let old_rows = count_rows(&old.pairs);
     let changes = compared(job, how, old, new)?;
@@ -186,11 +211,14 @@ fn compared(
         (is_none job.now.row_order.files) old.pairs.items new.pairs.items shown.items) }
     ensures none { IfOk result (λ shown. how.entry.tolerance ≡ None →
         (length shown.items ≡ 0) ↔ (old.pairs.items ≡ new.pairs.items)) }
+    ensures compared { IfOk result (λ shown. ComparedComeOut how.entry.tolerance (noted job.now.order)
+        (is_none job.now.row_order.files) old.pairs.items new.pairs.items shown.items) }
+    ensures same { IfOk result (λ shown.
+        (length shown.items ≡ 0) ↔ AreSameBy how.entry.tolerance old.pairs.items new.pairs.items) }
 {
-    let changes = changes_shown(job, old, new)?;
     match how.tolerance {
-        Some(tolerance) => changed_by_number(job.alloc, tolerance, changes),
-        None => Ok(changes),
+        Some(tolerance) => changes_by_number(job, tolerance, old, new),
+        None => changes_shown(job, old, new),
     }
 }
 
@@ -254,8 +282,8 @@ pub fn merge<'a, R: Read + Drop>(
     ours: Stream<'a, R>,
     theirs: Stream<'a, R>,
 ) -> Result<Answer, Fault<'a>>
-    ensures { IfOk result (λ answer. IsReported how.entry →
-        MergesStreams R.remaining how.entry.unit settings.entry base.entry ours.entry theirs.entry answer) }
+    ensures { IfOk result (λ answer. IsReported how.entry.conflicts → MergesStreams R.remaining how.entry.tolerance
+        how.entry.unit settings.entry base.entry ours.entry theirs.entry answer) }
 {
     let base = watch(settings.form, base);
     let ours = watch(settings.form, ours);
@@ -293,8 +321,8 @@ fn merge_files<'a, R: Read + Drop>(
     base: &mut Opened<'a, Watched<R>>,
     sides: &mut Two<'a, Watched<R>>,
 ) -> Result<Answer, Fault<'a>>
-    ensures { IfOk result (λ answer. IsReported how.entry →
-        MergesSources (watched_left R.remaining) how.entry.unit job.entry base.old sides.old answer) }
+    ensures { IfOk result (λ answer. IsReported how.entry.conflicts → MergesSources (watched_left R.remaining)
+        how.entry.tolerance how.entry.unit job.entry base.old sides.old answer) }
 {
     let versions = read_versions(&mut job, base, sides)?;
     let answer = at(sides.next.file, merge_tables(&job, how, versions))?;
@@ -335,9 +363,9 @@ fn merge_tables(
     how: Merging<'_>,
     versions: ThreeVersions,
 ) -> Result<Answer, Reason>
-    ensures { IfOk result (λ answer. IsReported how.entry → AnswersBy job.now.form job.now.columns.now
-        (noted job.now.order) (is_none job.now.row_order.files)
-        versions.base.pairs.items versions.ours.pairs.items versions.theirs.pairs.items answer how.entry.unit) }
+    ensures { IfOk result (λ answer. IsReported how.entry.conflicts → AnswersBy job.now.form job.now.columns.now
+        (noted job.now.order) (is_none job.now.row_order.files) versions.base.pairs.items
+        versions.ours.pairs.items versions.theirs.pairs.items answer how.entry.tolerance how.entry.unit) }
 {
     match how.tolerance {
         Some(tolerance) => merge_by_number(job, how, tolerance, versions),
@@ -354,17 +382,36 @@ fn merge_by_number(
     how: Merging<'_>,
     tolerance: Decimal<'_>,
     versions: ThreeVersions,
-) -> Result<Answer, Reason> {
-    let rows = marked_rows(job.alloc, how.unit, versions)?;
-    let rows = settled_by_number(job.alloc, tolerance, how.unit, rows)?;
-    match how.conflicts {
+) -> Result<Answer, Reason>
+    ensures { IfOk result (λ answer. IsReported how.entry.conflicts → AnswersByNumber job.now.form job.now.columns.now
+        (noted job.now.order) (is_none job.now.row_order.files) tolerance.entry how.entry.unit
+        versions.base.pairs.items versions.ours.pairs.items versions.theirs.pairs.items answer) }
+{
+    let marked = marked_rows(job.alloc, how.unit, versions)?;
+    let rows = settled_by_number(job.alloc, tolerance, how.unit, marked)?;
+    answer_of_marked(job, how.conflicts, rows)
+}
+
+// The merged table, with rows in conflict between marks or reported.
+fn answer_of_marked(
+    job: &Job<'_, Columns>,
+    conflicts: Conflicts,
+    rows: Vec<(Key, Marked<Group>)>,
+) -> Result<Answer, Reason>
+    ensures { IfOk result (λ answer. IsReported conflicts → AnswersParted job.now.form job.now.columns.now
+        (noted job.now.order) (is_none job.now.row_order.files) rows.items answer) }
+{
+    match conflicts {
         Conflicts::Marks => mark_conflicts(job, rows),
         Conflicts::Report => merge_parted(job, rows),
     }
 }
 
 // The merged table, or a report of the rows in conflict.
-fn merge_parted(job: &Job<'_, Columns>, rows: Vec<(Key, Marked<Group>)>) -> Result<Answer, Reason> {
+fn merge_parted(job: &Job<'_, Columns>, rows: Vec<(Key, Marked<Group>)>) -> Result<Answer, Reason>
+    ensures { IfOk result (AnswersParted job.now.form job.now.columns.now (noted job.now.order)
+        (is_none job.now.row_order.files) rows.items) }
+{
     let (settled, stuck) = parted(job.alloc, rows)?;
     if stuck.is_empty() {
         answer_of_rows(job, "merged", settled)
@@ -397,7 +444,7 @@ fn merge_reported(
 ) -> Result<Answer, Reason>
     ensures { IfOk result (λ answer. AnswersBy job.now.form job.now.columns.now
         (noted job.now.order) (is_none job.now.row_order.files)
-        versions.base.pairs.items versions.ours.pairs.items versions.theirs.pairs.items answer unit) }
+        versions.base.pairs.items versions.ours.pairs.items versions.theirs.pairs.items answer None unit) }
 {
     let ThreeVersions { base, ours, theirs } = versions;
     match unit {
@@ -411,7 +458,10 @@ fn marked_rows(
     alloc: Global,
     unit: Unit,
     versions: ThreeVersions,
-) -> Result<Vec<(Key, Marked<Group>)>, AllocError> {
+) -> Result<Vec<(Key, Marked<Group>)>, AllocError>
+    ensures { IfOk result (λ rows. IsMarkedMerge key_cmp rows_eq (can_by unit) (gives_by unit)
+        versions.base.pairs.items versions.ours.pairs.items versions.theirs.pairs.items rows.items) }
+{
     let ThreeVersions { base, ours, theirs } = versions;
     match unit {
         Unit::Row => marked_merge_of(alloc, base, ours, theirs),

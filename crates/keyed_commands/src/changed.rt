@@ -1,14 +1,16 @@
 //! What changed between two tables in memory: as CSV, and the status of `diff`.
-ghost use Rattle.std.specs.Prelude.{◌≡◌, ◌↔◌, ◌==◌, ◌&&◌, IfOk, is_none, length, not};
+ghost use Rattle.std.specs.Prelude.{◌≡◌, ◌↔◌, ◌==◌, ◌&&◌, IfOk, None, Some, is_none, length, not};
 ghost use Rattle.keyed_tables.specs.Arranged.{noted};
 ghost use Rattle.keyed_commands.specs.Answers.{ChangesComeOut, IsDiffStatus, IsDiffText, columns_differ, status_of};
+ghost use Rattle.keyed_commands.specs.Compared.{AreSameBy, ComparedComeOut};
 ghost use Rattle.keyed_commands.specs.declared.answers.Outcome.TheVariants.{Made};
 
 use crate::answers::{Answer, Outcome};
+use crate::by_number::changed_by_number;
 use crate::job::{Job, Table};
 use crate::written::write_changes;
 use eob_joins::Change;
-use keyed_files::{ColumnChanges, Columns, Reason};
+use keyed_files::{ColumnChanges, Columns, Decimal, Reason};
 use keyed_rows::{Cells, Group, Key};
 use keyed_tables::changes_of;
 use std::alloc::{AllocError, Global};
@@ -54,8 +56,31 @@ pub fn changes_shown(
     ensures changes { IfOk result (λ shown. ChangesComeOut (noted job.now.order) (is_none job.now.row_order.files)
         old.pairs.items new.pairs.items shown.items) }
     ensures none { IfOk result (λ shown. (length shown.items ≡ 0) ↔ (old.pairs.items ≡ new.pairs.items)) }
+    ensures same { IfOk result (λ shown. (length shown.items ≡ 0) ↔ AreSameBy None old.pairs.items new.pairs.items) }
 {
     let changes = changes_of(job.alloc, old, new)?;
+    let shown = job.arrange(changes)?;
+    Ok(shown)
+}
+
+/// The changes between two tables whose cells are compared by value where they are numbers, as they come out.
+///
+/// # Errors
+///
+/// Returns `AllocError` if a request for memory was refused.
+pub fn changes_by_number(
+    job: &Job<'_, Columns>,
+    tolerance: Decimal<'_>,
+    old: Table,
+    new: Table,
+) -> Result<Vec<(Key, Change<Group>)>, AllocError>
+    ensures changes { IfOk result (λ shown. ComparedComeOut (Some tolerance.entry) (noted job.now.order)
+        (is_none job.now.row_order.files) old.pairs.items new.pairs.items shown.items) }
+    ensures same { IfOk result (λ shown.
+        (length shown.items ≡ 0) ↔ AreSameBy (Some tolerance.entry) old.pairs.items new.pairs.items) }
+{
+    let all = changes_of(job.alloc, old, new)?;
+    let changes = changed_by_number(job.alloc, tolerance, all)?;
     let shown = job.arrange(changes)?;
     Ok(shown)
 }

@@ -1,4 +1,7 @@
 //! A merged table in which rows in conflict stand between marks, as git writes them.
+ghost use Rattle.std.specs.Prelude.{◌≡◌, IfOk};
+ghost use Rattle.eob_joins.specs.Tables.{kept};
+ghost use Rattle.keyed_commands.specs.ByNumber.{rows_of, stuck_of};
 ghost use Rattle.keyed_commands.specs.ComeOut.{AlikeMarked};
 
 use crate::job::Job;
@@ -40,7 +43,10 @@ fn is_stuck(row: &Marked<Group>) -> bool {
 pub fn parted(
     alloc: Global,
     rows: Vec<(Key, Marked<Group>)>,
-) -> Result<(Vec<(Key, Group)>, Vec<(Key, Versions<Group>)>), AllocError> {
+) -> Result<(Vec<(Key, Group)>, Vec<(Key, Versions<Group>)>), AllocError>
+    ensures settled { IfOk result (λ pair. pair.0.items ≡ kept rows_of rows.items) }
+    ensures stuck { IfOk result (λ pair. pair.1.items ≡ kept stuck_of rows.items) }
+{
     let mut settled = Vec::new(alloc);
     let mut stuck = Vec::new(alloc);
     for (key, row) in rows {

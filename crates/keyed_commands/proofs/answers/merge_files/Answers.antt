@@ -24,7 +24,7 @@ returns g c =
         by_cells = is_none job.row_order.files;
         made = made;
         merged = subst (λ j. AnswersBy j.form j.columns.now (noted job.order) (is_none job.row_order.files)
-            versions.base.pairs.items versions.ours.pairs.items versions.theirs.pairs.items made c.args.how.unit)
+            versions.base.pairs.items versions.ours.pairs.items versions.theirs.pairs.items made c.args.how.tolerance c.args.how.unit)
             read.same ((rw c.in_ok-answer.ensures at c.merge_tables.ensures) reported);
         styled = styled;
         order = λ unordered. let after = read.unordered unordered in (after.keys, after.rows);

@@ -2,6 +2,7 @@ use Rattle.std.proofs.Common.{◌∙◌, ap, length, sym}
 use Rattle.keyed_commands.specs.Answers.{key_cmp, rows_eq}
 use Rattle.keyed_commands.proofs.AnswerLemmas.{key_exact, key_total, none_same, rows_decides, same_none}
 use Rattle.keyed_commands.proofs.ComeLemmas.{comes_length, none_of}
+use Rattle.keyed_commands.proofs.ComparedLemmas.{none-compared}
 use Rattle.keyed_commands.proofs.changed.changes_shown.Goals as goal
 
 pub returns-clause-none : goal.returns-clause-none
@@ -14,3 +15,8 @@ returns-clause-none c =
       λ e. none_same rows_eq rows_decides key_cmp key_total key_exact old.pairs.items new.pairs.items changes old.rises new.rises kept (none_of changes (sym long ∙ e)),
       λ e. long ∙ ap length (same_none rows_eq rows_decides key_cmp key_total key_exact old.pairs.items new.pairs.items changes kept e),
     )
+
+pub returns-clause-same : goal.returns-clause-same
+returns-clause-same c =
+    none-compared None _ _ c.args.old.pairs.items c.args.new.pairs.items c.in_ok-shown.shown.items
+    (c.in_ok-changes.changes.items, c.in_ok-changes.ensures, c.in_ok-shown.ensures)
