@@ -1,19 +1,18 @@
--- How many boundaries are not above a key, and rows dealt one by one.
-use Rattle.std.proofs.Common.{◌≡◌, ◌∙◌, ◌==◌, ℕ, zero, suc, ◌+◌, ◌<◌, ◌≤◌, Bool, true, false, List, [], ◌∷◌, ◌++◌, length, map, All, cond, filter, get_or, slice_index_or, slice_set, arith, refl, sym, ap}
+-- How many boundaries are not above a key.
+use Rattle.std.proofs.Common.{◌≡◌, ◌∙◌, ◌==◌, ℕ, zero, suc, ◌≤◌, Bool, true, false, List, [], ◌∷◌, length, All, cond, slice_index_or, arith, refl, sym, ap}
 use Rattle.std.specs.Prelude.{count_by}
 use Rattle.std.specs.Cmp.{IsTotalOrder}
 use Rattle.std.specs.List.{AllWithin}
 use Rattle.std.specs.List.Sorted.{IsPartitionPoint, IsPartitionedBy, IsSorted}
 use Rattle.std.specs.Map.{keys_of}
-use Rattle.std.specs.Ordering.{is_le, is_lt, ordering_index, ordering_reverse}
+use Rattle.std.specs.Ordering.{is_le, ordering_index, ordering_reverse}
 use Rattle.std.specs.declared.cmp.Ordering.{Ordering}
 use Rattle.std.specs.declared.cmp.Ordering.TheVariants.{Less, Equal, Greater}
-use Rattle.std.proofs.lemmas.List.{append_assoc, append-nil, get_or-set_same, get_or-set_other, length-set, length_push}
 use Rattle.std.proofs.lemmas.List.Elements.{All-nil, All-cons, All-head, All-tail, filter_passes}
 use Rattle.std.proofs.lemmas.List.Sorted.{searchable_from_sorted}
 use Rattle.std.proofs.lemmas.List.Sums.{sum_by-cons}
 use Rattle.std.proofs.lemmas.Bool.Decides.{nat_tests}
-use Rattle.keyed_parts.specs.Parts.{AreEmpty, IsDealt, part_in, rows_in, with_row, PartOrderLaw, PartsBelowLaw}
+use Rattle.keyed_parts.specs.Parts.{part_in, rows_in, PartOrderLaw, PartsBelowLaw}
 
 by_test : {G : Type 0} (t : Bool) → (t ≡ true → G) → (t ≡ false → G) → G
 by_test true f g = f refl
@@ -125,69 +124,3 @@ module _ {K : Type 0} (cmp : K → K → Ordering) (o : IsTotalOrder cmp) where
   pub point_is_part : (bounds : List K) (key : K) (i : ℕ) → i ≤ length bounds
       → IsPartitionPoint (λ b. is_le (cmp b key) ≡ true) (λ b. is_le (cmp b key) ≡ false) bounds i → i ≡ part_in cmp bounds key
   point_is_part bounds key i b p = count_point (λ x. is_le (cmp x key)) bounds i b p.0 p.1
-
-get_or_push_empty : {X : Type 0} (parts : List (List X)) (i : ℕ) → get_or parts i [] ≡ [] → get_or (parts ++ [] ∷ []) i [] ≡ []
-get_or_push_empty [] zero e = refl
-get_or_push_empty [] (suc i) e = refl
-get_or_push_empty (p ∷ ps) zero e = e
-get_or_push_empty (p ∷ ps) (suc i) e = get_or_push_empty ps i e
-
-pub none_yet : {X : Type 0} → AreEmpty {X = X} 0 []
-none_yet = record {
-  count = refl;
-  empty = λ i. none i;
-}
-  where
-    none : {X : Type 0} (i : ℕ) → get_or {A = List X} [] i [] ≡ []
-    none zero = refl
-    none (suc i) = refl
-
--- one more part with no row
-pub one_more_empty : {X : Type 0} (n : ℕ) (parts more : List (List X)) → AreEmpty n parts → more ≡ parts ++ [] ∷ [] → AreEmpty (n + 1) more
-one_more_empty n parts more a e = record {
-  count = ap length e ∙ length_push parts [] ∙ ap (λ m. m + 1) a.count;
-  empty = λ i. ap (λ ps. get_or ps i []) e ∙ get_or_push_empty parts i (a.empty i);
-}
-
--- some rows are dealt, and the rest is to come
-pub record DealsBefore {K V : Type 0} (cmp : K → K → Ordering) (bounds : List K) (rows rest : List (K × V)) (parts : List (List (K × V))) : Type 0 where
-  pub count : length parts ≡ length bounds + 1
-  pub part : (i : ℕ) → i ≤ length bounds → get_or parts i [] ++ rows_in cmp bounds i rest ≡ rows_in cmp bounds i rows
-
-module _ {K V : Type 0} (cmp : K → K → Ordering) (bounds : List K) where
-  pub none_dealt : (rows rest : List (K × V)) (parts : List (List (K × V))) → AreEmpty (length bounds + 1) parts → rest ≡ rows → DealsBefore cmp bounds rows rest parts
-  none_dealt rows rest parts a e = record {
-    count = a.count;
-    part = λ i b. rw (a.empty i, e) refl;
-  }
-
-  pub one_dealt : (rows rest : List (K × V)) (row : K × V) (place : ℕ) (parts more : List (List (K × V))) → DealsBefore cmp bounds rows (row ∷ rest) parts
-      → place ≡ part_in cmp bounds row.0 → place ≤ length bounds → more ≡ with_row place row parts → DealsBefore cmp bounds rows rest more
-  one_dealt rows rest row place parts more d e b f = record {
-    count = ap length f ∙ length-set parts place _ ∙ d.count;
-    part = λ i c. by_test (part_in cmp bounds row.0 == i)
-        (λ t. here i c t)
-        (λ n. there i c n);
-  }
-    where
-      is_not : (m n : ℕ) → (m == n) ≡ false → n ≡ m → ⊥
-      is_not m n e f = let t : (m == n) ≡ true = rw f (grind (arith, nat_tests)) in absurd (cc)
-
-      here : (i : ℕ) → i ≤ length bounds → (part_in cmp bounds row.0 == i) ≡ true → get_or more i [] ++ rows_in cmp bounds i rest ≡ rows_in cmp bounds i rows
-      here i c t =
-          let same : place ≡ i = e ∙ is_number (part_in cmp bounds row.0) i t in
-          let put : get_or more i [] ≡ get_or parts i [] ++ row ∷ [] = rw (f, sym same) (get_or-set_same parts place _ [] (omega (arith, b, d.count))) in
-          let old : get_or parts i [] ++ row ∷ rows_in cmp bounds i rest ≡ rows_in cmp bounds i rows = rw t at (d.part i c) in
-          rw put (append_assoc (get_or parts i []) (row ∷ []) (rows_in cmp bounds i rest)) ∙ old
-
-      there : (i : ℕ) → i ≤ length bounds → (part_in cmp bounds row.0 == i) ≡ false → get_or more i [] ++ rows_in cmp bounds i rest ≡ rows_in cmp bounds i rows
-      there i c n =
-          let put : get_or more i [] ≡ get_or parts i [] = rw (f, e) (get_or-set_other parts (part_in cmp bounds row.0) i _ [] (is_not (part_in cmp bounds row.0) i n)) in
-          let old : get_or parts i [] ++ rows_in cmp bounds i rest ≡ rows_in cmp bounds i rows = rw n at (d.part i c) in
-          rw put old
-
-  pub all_dealt : (rows rest : List (K × V)) (parts : List (List (K × V))) → DealsBefore cmp bounds rows rest parts → rest ≡ [] → IsDealt cmp bounds rows parts
-  all_dealt rows rest parts d e = record {
-    count = d.count;
-    part = λ i b. sym (append-nil (get_or parts i [])) ∙ (let old : get_or parts i [] ++ [] ≡ rows_in cmp bounds i rows = rw e at (d.part i b) in old);
-  }

@@ -1,19 +1,9 @@
--- Keys parted by boundaries, and rows dealt into their parts.
-use Rattle.std.specs.Prelude.{◌≡◌, ◌==◌, ℕ, ◌+◌, ◌<◌, ◌≤◌, Bool, List, [], ◌∷◌, ◌++◌, All, length, count_by, filter, get_or, slice_set}
-use Rattle.std.specs.List.Sorted.{IsSorted}
+-- Keys parted by boundaries, and the rows of a part.
+use Rattle.std.specs.Prelude.{◌≡◌, ◌==◌, ℕ, ◌<◌, List, ◌++◌, All, count_by, filter}
 use Rattle.std.specs.Map.{keys_of}
 use Rattle.std.specs.Ordering.{is_le}
 use Rattle.std.specs.declared.cmp.Ordering.{Ordering}
 use Rattle.std.specs.declared.cmp.Ordering.TheVariants.{Less}
-
--- so many parts, none with a row
-pub record AreEmpty {X : Type 0} (n : ℕ) (parts : List (List X)) : Type 0 where
-  pub count : length parts ≡ n
-  pub empty : (i : ℕ) → get_or parts i [] ≡ []
-
--- parts with a row put behind those of the one at a place
-abbrev pub with_row : {X : Type 0} → ℕ → X → List (List X) → List (List X)
-with_row i x parts = slice_set parts i (get_or parts i [] ++ x ∷ [])
 
 module _ {K : Type 0} (cmp : K → K → Ordering) where
   -- the part of a key: how many boundaries are not above it
@@ -23,11 +13,6 @@ module _ {K : Type 0} (cmp : K → K → Ordering) where
   -- the rows of a part, in their order
   abbrev pub rows_in : {V : Type 0} → List K → ℕ → List (K × V) → List (K × V)
   rows_in bounds i rows = filter (λ row. part_in bounds row.0 == i) rows
-
-  -- parts, one more than there are boundaries, of which each has its rows and no other
-  pub record IsDealt {V : Type 0} (bounds : List K) (rows : List (K × V)) (parts : List (List (K × V))) : Type 0 where
-    pub count : length parts ≡ length bounds + 1
-    pub part : (i : ℕ) → i ≤ length bounds → get_or parts i [] ≡ rows_in bounds i rows
 
   -- a key of a lesser part is less
   abbrev pub PartOrderLaw : Type 0

@@ -18,8 +18,8 @@ pub fn law_part_order<K: Ord>()
 /// ```
 /// law_parts_below::<u32, char, char>();
 /// let bounds = Boundaries::new(vec![in alloc; 10]?);
-/// let parts = deal(alloc, &bounds, vec![in alloc; (12, 'a'), (3, 'b')]?)?;
-/// assert!(rt; parts[0][0].0 < parts[1][0].0);
+/// let (low, high) = ([(3, 'b')], [(12, 'x')]);
+/// assert!(rt; bounds.part_of(&low[0].0) < bounds.part_of(&high[0].0) && low[0].0 < high[0].0);
 /// ```
 pub fn law_parts_below<K: Ord, V, W>()
     ensures { PartsBelowLaw K.cmp V W }
@@ -31,8 +31,13 @@ pub fn law_parts_below<K: Ord, V, W>()
 /// ```
 /// law_dealt_in_turn::<u32, char>();
 /// let bounds = Boundaries::new(vec![in alloc; 10]?);
-/// let parts = deal(alloc, &bounds, vec![in alloc; (12, 'a')]?)?;
-/// assert!(rt; parts[0].is_empty() && parts[1].len() == 1);
+/// let mut high = Vec::new(alloc);
+/// for row in [(12, 'a'), (3, 'b'), (10, 'c')] {
+///     if bounds.part_of(&row.0) == 1 {
+///         high.push(row)?;
+///     }
+/// }
+/// assert_eq!(rt; high, vec![in alloc; (12, 'a'), (10, 'c')]?);
 /// ```
 pub fn law_dealt_in_turn<K: Ord, V>()
     ensures { DealtInTurnLaw K.cmp V }

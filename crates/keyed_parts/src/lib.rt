@@ -1,16 +1,14 @@
-//! Keys parted by boundaries: which part a key is in, and rows dealt into their parts. Tables that are cut at the same boundaries are
-//! joined part by part, by `law_cut_joins` of `eob_parts`.
+//! Keys parted by boundaries: which part a key is in, and what the rows of a part are. Tables that are cut at the same boundaries are joined
+//! part by part, by `law_cut_joins` of `eob_parts`.
 //!
 //! `Boundaries` are keys in order; there is one part more than there are boundaries. The part of a key is how many boundaries are not above
-//! it. `Sample` chooses keys from which boundaries are taken. How tables are read and written stands above this crate, in `keyed_cut`.
+//! it. `Sample` chooses keys from which boundaries are taken. How tables are read, dealt and written stands above this crate, in `keyed_cut`.
 #![tactic(auto)]
 
 mod boundaries;
-mod dealing;
 mod laws;
 mod sample;
 
 pub use boundaries::Boundaries;
-pub use dealing::deal;
 pub use laws::{law_dealt_in_turn, law_part_order, law_parts_below};
 pub use sample::Sample;
