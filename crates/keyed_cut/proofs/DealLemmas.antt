@@ -16,10 +16,10 @@ use Rattle.keyed_text.proofs.WriteLemmas.{rows-more, rows-none}
 use Rattle.keyed_cut.specs.Dealt.{DealsOn, DealsRest, PutsDealt, PutsRowAt, by_key, fitted, key_cmp}
 
 -- what stands at a place that is set, and at another
-set-here : {X : Type 0} (xs : List X) (i : ℕ) (x : X) → i < length xs → slice_get (slice_set xs i x) i ≡ Some x
+pub set-here : {X : Type 0} (xs : List X) (i : ℕ) (x : X) → i < length xs → slice_get (slice_set xs i x) i ≡ Some x
 set-here xs i x l = slice_get-get_or (slice_set xs i x) i x (omega (arith, length-set xs i x, l)) ∙ ap Some (get_or-set_same xs i x x l)
 
-set-there : {X : Type 0} (xs : List X) (i j : ℕ) (x : X) → (i ≡ j → ⊥) → slice_get (slice_set xs i x) j ≡ slice_get xs j
+pub set-there : {X : Type 0} (xs : List X) (i j : ℕ) (x : X) → (i ≡ j → ⊥) → slice_get (slice_set xs i x) j ≡ slice_get xs j
 set-there [] i j x n = refl
 set-there (y ∷ xs) zero zero x n = absurd (n refl)
 set-there (y ∷ xs) zero (suc j) x n = refl

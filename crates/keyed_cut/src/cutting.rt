@@ -1,14 +1,15 @@
 //! Tables read twice and written into the files of their parts.
-ghost use Rattle.std.specs.Prelude.{◌<◌, OnOk, length};
-ghost use Rattle.keyed_cut.specs.Dealt.{DealsRest};
+ghost use Rattle.std.specs.Prelude.{◌<◌, [], IfOk, OnOk, length};
+ghost use Rattle.keyed_cut.specs.Counted.{AreCounted, CountsEach, CountsRest};
+ghost use Rattle.keyed_cut.specs.Dealt.{DealsRest, key_cmp};
 
 use crate::fault::{CutFault, CutReason};
 use crate::listing::listing_text;
 use crate::names::{draft_name, listing_name, part_name, stems_of};
 use crate::request::{Cut, Divided};
 use crate::sampling::{Sampled, key_size, sample_tables, weight_of};
-use crate::sinks::{Count, Counts, Sinks, Target, make_sinks};
-use crate::tables::{Table, open_tables};
+use crate::sinks::{Count, Counts, Sinks, Target, make_sinks, put};
+use crate::tables::{Table, Tables, open_tables};
 use keyed_files::{Reason, Shown, ShownName};
 use keyed_parts::Boundaries;
 use keyed_rows::{Cells, Key};
@@ -76,11 +77,28 @@ fn write_parts<'a, R: Files + AllocGlobal>(
     cut: Cut<'a>,
     sampled: &Sampled,
 ) -> Result<CutStatus, CutFault<'a>> {
-    let alloc = rt.alloc();
+    let Tables { tables, key } = open_tables(rt, cut)?;
+    let counts = cut_tables(rt, cut, sampled, tables)?;
+    write_listing(rt, cut, &key, &sampled.bounds, &counts)?;
+    Ok(CutStatus {
+        heavy: heavy_parts(rt.alloc(), cut, &sampled.bounds, &counts)?,
+    })
+}
+
+// Deals the rows of all tables into the files of their parts, all by the same boundaries. Each table has as many as at its first reading.
+fn cut_tables<'a, R: Files + AllocGlobal>(
+    rt: &R,
+    cut: Cut<'a>,
+    sampled: &Sampled,
+    tables: Vec<Table<'a, R::File>>,
+) -> Result<Vec<Counts>, CutFault<'a>>
+    ensures { IfOk result (λ counts. CountsEach R.File.remaining sampled.now.bounds.keys.items
+        tables.entry.items counts.items) }
+{
     let stems = stems_of(cut.tables);
-    let tables = open_tables(rt, cut)?;
-    let mut counts = Vec::new(alloc);
-    for (place, mut table) in tables.tables.into_iter().enumerate() {
+    let mut counts = Vec::new(rt.alloc());
+    for mut table in tables {
+        let place = counts.len();
         let target = Target {
             into: cut.into,
             stem: stems.get(place).copied().unwrap_or("table"),
@@ -95,15 +113,7 @@ fn write_parts<'a, R: Files + AllocGlobal>(
         }
         put(&mut counts, found)?;
     }
-    write_listing(rt, cut, &tables.key, &sampled.bounds, &counts)?;
-    Ok(CutStatus {
-        heavy: heavy_parts(alloc, cut, &sampled.bounds, &counts)?,
-    })
-}
-
-fn put<T: Drop>(items: &mut Vec<T>, item: T) -> Result<(), AllocError> {
-    items.push(item)?;
-    Ok(())
+    Ok(counts)
 }
 
 // How many rows the parts of a table have.
@@ -121,12 +131,14 @@ fn cut_table<'a, R: Files + AllocGlobal>(
     target: Target<'a>,
     bounds: &Boundaries<Key>,
     table: &mut Table<'a, R::File>,
-) -> Result<Counts, CutFault<'a>> {
+) -> Result<Counts, CutFault<'a>>
+    ensures { IfOk result (λ counts. CountsRest R.File.remaining bounds.now.keys.items table.old counts) }
+{
     let alloc = rt.alloc();
     let header = table.part_header(alloc)?;
     let mut sinks = make_sinks(rt, target, bounds, header, table.count_cells())?;
     deal_rows(alloc, target, bounds, table, &mut sinks)?;
-    sinks.end(alloc, target)
+    Ok(sinks.end(alloc, target)?)
 }
 
 // Puts the rows that a table has left behind those of the parts of their keys. No input has more of them than a number counts.
@@ -137,9 +149,11 @@ fn deal_rows<'a, F: Read + Drop, W: Write + Drop>(
     table: &mut Table<'a, F>,
     sinks: &mut Sinks<W>,
 ) -> Result<(), CutFault<'a>>
-    requires { length bounds.now.keys.items < length sinks.old.writers.items }
-    ensures { OnOk result (DealsRest F.remaining W.contents bounds.now.keys.items table.old.places
+    requires many { length bounds.now.keys.items < length sinks.old.writers.items }
+    requires counts { AreCounted key_cmp bounds.now.keys.items [] sinks.old.counts }
+    ensures dealt { OnOk result (DealsRest F.remaining W.contents bounds.now.keys.items table.old.places
         sinks.old.columns table.old.opened.source.value sinks.old.writers.items sinks.new.writers.items) }
+    ensures counted { OnOk result (CountsRest F.remaining bounds.now.keys.items table.old sinks.new.counts) }
 {
     for _ in 0..u64::MAX {
         match table.next_key()? {

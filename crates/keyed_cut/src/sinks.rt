@@ -1,10 +1,11 @@
 //! The files of the parts of a table, while its rows are dealt into them.
-ghost use Rattle.std.specs.Prelude.{◌≡◌, ◌↔◌, ◌<◌, ◌+◌, ◌∷◌, ◌++◌, [], IfOk, IsTrue, OnOk, length};
+ghost use Rattle.std.specs.Prelude.{◌≡◌, ◌↔◌, ◌<◌, ◌+◌, ◌-◌, ◌^◌, ◌∷◌, ◌++◌, [], IfOk, IsTrue, OnOk, length, min};
 ghost use Rattle.std.specs.Prelude.{unwrap_or};
 ghost use Rattle.csv.specs.Records.{field_at, fields_of};
 ghost use Rattle.keyed_text.specs.Streams.{PutsCells, PutsRows};
 ghost use Rattle.keyed_parts.specs.Parts.{part_in};
-ghost use Rattle.keyed_cut.specs.Dealt.{PutsRowAt, fitted};
+ghost use Rattle.keyed_cut.specs.Counted.{AreCounted, CountsRowAt};
+ghost use Rattle.keyed_cut.specs.Dealt.{PutsRowAt, fitted, key_cmp};
 
 use crate::fault::{CutFault, not_made};
 use crate::names::part_name;
@@ -44,7 +45,9 @@ const NONE: Count = Count {
 
 impl Count {
     // Notes one more row of a part that begins at a boundary, by its key, and how many bytes of memory it takes.
-    fn note(&mut self, bound: Option<&Key>, key: &Key, weight: u64) {
+    fn note(&mut self, bound: Option<&Key>, key: &Key, weight: u64)
+        ensures { self.new.rows ≡ min (self.old.rows + 1) (2 ^ 64 - 1) }
+    {
         self.rows = self.rows.saturating_add(1);
         self.bytes = self.bytes.saturating_add(weight);
         if !self.has_others {
@@ -61,11 +64,12 @@ pub struct Counts {
 
 impl Counts {
     // Notes one more row of a part, by its key, and how many bytes of memory it takes.
-    fn note(&mut self, bounds: &Boundaries<Key>, part: usize, key: &Key, weight: u64) {
+    fn note(&mut self, bounds: &Boundaries<Key>, part: usize, key: &Key, weight: u64)
+        requires { part < length self.old.parts.items }
+        ensures { CountsRowAt part self.old self.new }
+    {
         let bound = bounds.keys().get(part.wrapping_sub(1));
-        if let Some(count) = self.parts.get_mut(part) {
-            count.note(bound, key, weight);
-        }
+        self.parts[part].note(bound, key, weight);
     }
 }
 
@@ -120,7 +124,8 @@ pub fn make_sinks<'a, R: Files + AllocGlobal>(
     header: Option<Cells>,
     columns: usize,
 ) -> Result<Sinks<BufWriter<R::File>>, CutFault<'a>>
-    ensures { IfOk result (λ sinks. length sinks.writers.items ≡ length bounds.now.keys.items + 1) }
+    ensures writers { IfOk result (λ sinks. length sinks.writers.items ≡ length bounds.now.keys.items + 1) }
+    ensures counts { IfOk result (λ sinks. AreCounted key_cmp bounds.now.keys.items [] sinks.counts) }
 {
     let alloc = rt.alloc();
     let top = top_text(alloc, target.form, header)?;
@@ -179,8 +184,12 @@ fn top_text(alloc: Global, form: Form, header: Option<Cells>) -> Result<Vec<u8>,
     }
 }
 
-// Puts an item behind the others.
-fn put<T: Drop>(items: &mut Vec<T>, item: T) -> Result<(), AllocError>
+/// Puts an item behind the others.
+///
+/// # Errors
+///
+/// Returns `AllocError` if a request for memory was refused.
+pub fn put<T: Drop>(items: &mut Vec<T>, item: T) -> Result<(), AllocError>
     ensures { OnOk result (items.new.items ≡ items.old.items ++ item ∷ []) }
 {
     items.push(item)?;
@@ -207,12 +216,15 @@ impl<W: Write + Drop> Sinks<W> {
         row: &ByteRecord,
         weight: u64,
     ) -> Result<(), CutFault<'a>>
-        requires { length bounds.now.keys.items < length self.old.writers.items }
+        requires writers { length bounds.now.keys.items < length self.old.writers.items }
+        requires counts { length bounds.now.keys.items < length self.old.counts.parts.items }
         ensures put { OnOk result (PutsRowAt W.contents
             (part_in ⟦<Key as Ord>⟧.cmp bounds.now.keys.items key.now)
             (fitted self.old.columns (fields_of row.now)) self.old.writers.items self.new.writers.items) }
         ensures columns { OnOk result (self.new.columns ≡ self.old.columns) }
         ensures many { OnOk result (length self.new.writers.items ≡ length self.old.writers.items) }
+        ensures counted { OnOk result (CountsRowAt (part_in ⟦<Key as Ord>⟧.cmp bounds.now.keys.items key.now)
+            self.old.counts self.new.counts) }
     {
         let part = bounds.part_of(key);
         match put_at(&mut self.writers, part, self.columns, row) {
@@ -232,7 +244,9 @@ impl<W: Write + Drop> Sinks<W> {
     /// # Errors
     ///
     /// Returns the fault of the first file that does not take it.
-    pub fn end<'a>(self, alloc: Global, target: Target<'a>) -> Result<Counts, CutFault<'a>> {
+    pub fn end<'a>(self, alloc: Global, target: Target<'a>) -> Result<Counts, CutFault<'a>>
+        ensures { IfOk result (λ counts. counts ≡ self.counts) }
+    {
         let Sinks {
             writers,
             columns: _,

@@ -1,5 +1,9 @@
-use Rattle.std.proofs.Common.{◌≡◌, ◌+◌, length}
+use Rattle.std.proofs.Common.{◌≡◌, ◌+◌, All, length}
 use Rattle.keyed_cut.proofs.sinks.make_sinks.Given as goal
 
 abbrev pub invariant-loop-place : goal.invariant-loop-place
-invariant-loop-place g l = length l.writers.items ≡ l.place + 1
+invariant-loop-place g l = record {
+  writers : length l.writers.items ≡ l.place + 1;
+  counts : length l.counts.items ≡ l.place + 1;
+  none : All (λ count. count.rows ≡ 0) l.counts.items;
+}
