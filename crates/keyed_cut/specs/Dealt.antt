@@ -7,7 +7,9 @@ use Rattle.keyed_files.specs.Reading.{HasGiven, key_in}
 use Rattle.keyed_files.specs.declared.source.Places.{Places}
 use Rattle.keyed_files.specs.declared.source.Source.{Source}
 use Rattle.keyed_parts.specs.Parts.{rows_in}
-use Rattle.keyed_text.specs.Streams.{PutsRows}
+use Rattle.keyed_files.specs.Writing.{comment_of, delimiter_of}
+use Rattle.keyed_files.specs.declared.request.Form.{Form}
+use Rattle.keyed_text.specs.Streams.{HasWritten, PutsRows}
 use Rattle.keyed_text.specs.Texts.{AreRows}
 use Rattle.keyed_text.specs.declared.row_writer.RowWriter.{RowWriter}
 
@@ -16,6 +18,10 @@ abbrev pub fitted : ℕ → List (List ℕ) → List (List ℕ)
 fitted zero cells = []
 fitted (suc n) [] = [] ∷ fitted n []
 fitted (suc n) (cell ∷ cells) = cell ∷ fitted n cells
+
+-- a writer of rows in a form has written none yet, behind what stood there
+abbrev pub Begins : {W : Type 0} → Form → (W → Option (List ℕ)) → RowWriter W → Type 0
+Begins form contents writer = (there : Option (List ℕ)) × HasWritten (delimiter_of form) (comment_of form) contents there [] [] writer
 
 -- of the writers of parts the one at a place has a row more, and all others are as they were
 pub record PutsRowAt {W : Type 0} (contents : W → Option (List ℕ)) (i : ℕ) (row : List (List ℕ)) (old new : List (RowWriter W)) : Type 0 where

@@ -1,11 +1,13 @@
 //! The files of the parts of a table, while its rows are dealt into them.
-ghost use Rattle.std.specs.Prelude.{◌≡◌, ◌↔◌, ◌<◌, ◌+◌, ◌-◌, ◌^◌, ◌∷◌, ◌++◌, [], IfOk, IsTrue, OnOk, length, min};
+ghost use Rattle.std.specs.Prelude.{◌≡◌, ◌↔◌, ◌<◌, ◌+◌, ◌-◌, ◌^◌, ◌∷◌, ◌++◌, [], All, IfOk, IsTrue, OnOk, length, min};
 ghost use Rattle.std.specs.Prelude.{unwrap_or};
+ghost use Rattle.std.specs.Io.Buffered.{writer_contents};
 ghost use Rattle.csv.specs.Records.{field_at, fields_of};
 ghost use Rattle.keyed_text.specs.Streams.{PutsCells, PutsRows};
+ghost use Rattle.keyed_files.specs.Writing.{comment_of, delimiter_of};
 ghost use Rattle.keyed_parts.specs.Parts.{part_in};
 ghost use Rattle.keyed_cut.specs.Counted.{AreCounted, CountsRowAt};
-ghost use Rattle.keyed_cut.specs.Dealt.{PutsRowAt, fitted, key_cmp};
+ghost use Rattle.keyed_cut.specs.Dealt.{Begins, PutsRowAt, fitted, key_cmp};
 
 use crate::fault::{CutFault, not_made};
 use crate::names::part_name;
@@ -91,7 +93,10 @@ pub struct Target<'a> {
 }
 
 // The bytes that part what is written.
-fn marks_of(form: Form) -> Marks {
+fn marks_of(form: Form) -> Marks
+    ensures delimiter { result.delimiter ≡ delimiter_of form }
+    ensures comment { result.comment ≡ comment_of form }
+{
     Marks {
         delimiter: form.delimiter.byte(),
         comment: match form.reading.comment {
@@ -126,6 +131,7 @@ pub fn make_sinks<'a, R: Files + AllocGlobal>(
 ) -> Result<Sinks<BufWriter<R::File>>, CutFault<'a>>
     ensures writers { IfOk result (λ sinks. length sinks.writers.items ≡ length bounds.now.keys.items + 1) }
     ensures counts { IfOk result (λ sinks. AreCounted key_cmp bounds.now.keys.items [] sinks.counts) }
+    ensures begin { IfOk result (λ sinks. All (Begins target.entry.form (writer_contents R.File.contents)) sinks.writers.items) }
 {
     let alloc = rt.alloc();
     let top = top_text(alloc, target.form, header)?;
@@ -152,7 +158,9 @@ fn make_part<'a, R: Files + AllocGlobal>(
     top: &[u8],
     part: usize,
     parts: usize,
-) -> Result<RowWriter<BufWriter<R::File>>, CutFault<'a>> {
+) -> Result<RowWriter<BufWriter<R::File>>, CutFault<'a>>
+    ensures { IfOk result (λ writer. Begins target.entry.form (writer_contents R.File.contents) writer) }
+{
     let alloc = rt.alloc();
     let name = part_name(alloc, target.into, target.stem, part)?;
     let mut file = match File::create_new(rt, name.as_str()) {

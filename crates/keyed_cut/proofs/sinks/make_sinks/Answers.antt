@@ -1,6 +1,8 @@
-use Rattle.std.proofs.Common.{◌∙◌, ◌+◌, ap, length, refl, rules}
+use Rattle.std.proofs.Common.{◌∙◌, ◌+◌, All, ap, length, refl, rules, subst, sym}
+use Rattle.std.specs.Io.Buffered.{writer_contents}
 use Rattle.std.proofs.lemmas.List.{length_push}
-use Rattle.keyed_cut.specs.Dealt.{key_cmp}
+use Rattle.std.proofs.lemmas.List.Elements.{All-push}
+use Rattle.keyed_cut.specs.Dealt.{Begins, key_cmp}
 use Rattle.keyed_cut.proofs.CountLemmas.{counted-none, none-more}
 use Rattle.keyed_cut.proofs.sinks.make_sinks.Goals as goal
 
@@ -8,6 +10,8 @@ pub loop-place-preserved : goal.loop-place-preserved
 loop-place-preserved g c = record {
   writers = ap length c.in_ok-put-3.ensures ∙ length_push _ _ ∙ ap (λ n. n + 1) c.loop-place.invariant.writers;
   counts = ap length c.in_ok-put-4.ensures ∙ length_push _ _ ∙ ap (λ n. n + 1) c.loop-place.invariant.counts;
+  begin = subst (All (Begins c.args.target.form (writer_contents g.R.File.Write.contents))) (sym c.in_ok-put-3.ensures)
+      (All-push _ c.loop-place.writers.items _ c.loop-place.invariant.begin c.in_ok-make_part-2.ensures);
   none = none-more _ _ _ c.loop-place.invariant.none refl c.in_ok-put-4.ensures;
 }
 
