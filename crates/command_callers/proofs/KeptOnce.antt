@@ -17,7 +17,7 @@ module _ {X : Type 0} where
   none_behind x [] e = refl
   none_behind x (y ∷ ys) e = absurd (omega (arith, e))
 
-  pub same_first : (x y : X) (xs ys : List X) → x ∷ xs ≡ y ∷ ys → x ≡ y
+  same_first : (x y : X) (xs ys : List X) → x ∷ xs ≡ y ∷ ys → x ≡ y
   same_first x y xs ys e = cc
 
   pub same_rest : (x y : X) (xs ys : List X) → x ∷ xs ≡ y ∷ ys → xs ≡ ys

@@ -56,6 +56,16 @@ styled_table form columns keys by_cells rows made answer order key rest eo ek er
 pub styled_report : (made answer : Answer) → Stops made → IsInStyle made answer → Stops answer
 styled_report made answer stops styled = subst Stops (sym (styled.1.stopped stops.1)) stops
 
+-- and where cells are lost, the answer is one
+pub styled_loss : (form : Form) (columns : Columns) (keys : Option (List (List (List ℕ)))) (by_cells : Bool) (rows : TableRows) (made answer : Answer) (order : List Place) (rest : List (List ℕ))
+    → columns.order.items ≡ order → columns.rest ≡ rest → loses_by order rest rows ≡ true
+    → AnswersTable form columns keys by_cells rows made → IsInStyle made answer → Stops answer
+styled_loss form columns keys by_cells rows made answer order rest eo er some h styled =
+    let lost : loses columns rows ≡ true = ap (λ o. loses_by o columns.rest rows) eo ∙ ap (λ r. loses_by order r rows) er ∙ some in
+    styled_report made answer
+    (subst (λ b. MatchBool b (Stops made) ((made.status ≡ 0) × (made.outcome ≡ Made) × IsTableText form columns keys by_cells rows made.bytes.items)) lost h)
+    styled
+
 -- the names of the columns of three versions
 abbrev pub merge_key : (base ours theirs : List (List ℕ)) → List (List ℕ)
 merge_key base ours theirs = first_name (base ∷ ours ∷ theirs ∷ [])

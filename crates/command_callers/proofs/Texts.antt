@@ -103,6 +103,21 @@ pub from_x_to_y : AreRows 44 None (codes "change,id,a\n-,1,x\n+,1,y\n") (change_
 unfolding csv_on_literals Reached
 from_x_to_y = (st.StartRecord, [], (_, refl, refl, (_, refl, refl, (_, refl, refl, (refl, refl)))), refl)
 
+-- changes in which a column goes, and a table with no cell there in a row
+abbrev pub change_id_without_a : List (List ℕ)
+change_id_without_a = codes "change" ∷ codes "id" ∷ codes "-a" ∷ []
+
+pub without_column : AreRows 44 None (codes "change,id,-a\n-,1,x\n") (change_id_without_a ∷ minus_one_x ∷ [])
+unfolding csv_on_literals Reached
+without_column = (st.StartRecord, [], (_, refl, refl, (_, refl, refl, (refl, refl))), refl)
+
+abbrev pub two_blank : List (List ℕ)
+two_blank = codes "2" ∷ codes "" ∷ []
+
+pub with_x_and_blank : AreRows 44 None (codes "id,a\n1,x\n2,\n") (id_a ∷ one_x ∷ two_blank ∷ [])
+unfolding csv_on_literals Reached
+with_x_and_blank = (st.StartRecord, [], (_, refl, refl, (_, refl, refl, (_, refl, refl, (refl, refl)))), refl)
+
 pub from_z_to_y : AreRows 44 None (codes "change,id,a\n-,1,z\n+,1,y\n") (change_id_a ∷ minus_one_z ∷ plus_one_y ∷ [])
 unfolding csv_on_literals Reached
 from_z_to_y = (st.StartRecord, [], (_, refl, refl, (_, refl, refl, (_, refl, refl, (refl, refl)))), refl)

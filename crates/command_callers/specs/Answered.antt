@@ -1,6 +1,5 @@
 -- What a caller knows of an answer whose text is not known to the last byte.
-use Rattle.std.specs.Prelude.{◌≡◌, ◌⊎◌, ℕ, List}
-use Rattle.keyed_commands.specs.Answers.{Stops}
+use Rattle.std.specs.Prelude.{◌≡◌, ℕ, List}
 use Rattle.keyed_commands.specs.AppliedTexts.{IsInStyle}
 use Rattle.keyed_commands.specs.declared.answers.Answer.{Answer}
 use Rattle.keyed_commands.specs.declared.answers.Outcome.TheVariants.{Made}
@@ -12,7 +11,3 @@ pub record IsTableInStyle (text : List ℕ) (answer : Answer) : Type 0 where
   pub styled : IsInStyle made answer
   pub status : answer.status ≡ 0
   pub outcome : answer.outcome ≡ Made
-
--- an answer is a table, or a report
-abbrev pub IsTableOrReport : Answer → Type 0
-IsTableOrReport answer = ((answer.status ≡ 0) × (answer.outcome ≡ Made)) ⊎ Stops answer

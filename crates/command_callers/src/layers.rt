@@ -16,16 +16,8 @@ use std::io::Read;
 pub fn rows_over(alloc: Global) -> Result<Answer, Fault<'static>>
     ensures { IfOk result (IsTableInStyle (codes "id,a\n1,y\n2,z\n")) }
 {
-    let below = Stream {
-        file: "below.csv",
-        delimiter: None,
-        reader: Ok(b"id,a\n1,x\n".as_slice()),
-    };
-    let above = Stream {
-        file: "above.csv",
-        delimiter: None,
-        reader: Ok(b"id,a\n1,y\n2,z\n".as_slice()),
-    };
+    let below = file!("below.csv", b"id,a\n1,x\n");
+    let above = file!("above.csv", b"id,a\n1,y\n2,z\n");
     overlay_two(alloc, PLAIN, Layer::Rows, below, above)
 }
 
@@ -37,16 +29,8 @@ pub fn rows_over(alloc: Global) -> Result<Answer, Fault<'static>>
 pub fn cells_over(alloc: Global) -> Result<Answer, Fault<'static>>
     ensures { IfOk result (IsTableInStyle (codes "id,a,b\n1,x,w\n")) }
 {
-    let below = Stream {
-        file: "below.csv",
-        delimiter: None,
-        reader: Ok(b"id,a,b\n1,x,y\n".as_slice()),
-    };
-    let above = Stream {
-        file: "above.csv",
-        delimiter: None,
-        reader: Ok(b"id,a,b\n1,,w\n".as_slice()),
-    };
+    let below = file!("below.csv", b"id,a,b\n1,x,y\n");
+    let above = file!("above.csv", b"id,a,b\n1,,w\n");
     overlay_two(alloc, PLAIN, Layer::Cells, below, above)
 }
 

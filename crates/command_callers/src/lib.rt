@@ -4,8 +4,18 @@
 
 ghost use Rattle.std.specs.Prelude.{◌≡◌, IfOk, codes};
 ghost use Rattle.keyed_commands.specs.Answers.{Stops};
-ghost use Rattle.keyed_commands.specs.declared.answers.Outcome.TheVariants.{Made};
-ghost use Rattle.command_callers.specs.Answered.{IsTableInStyle, IsTableOrReport};
+ghost use Rattle.command_callers.specs.Answered.{IsTableInStyle};
+
+// A file of this name and this text, with the delimiter of the settings.
+macro_rules! file {
+    ($name:literal, $text:literal) => {
+        Stream {
+            file: $name,
+            delimiter: None,
+            reader: Ok($text.as_slice()),
+        }
+    };
+}
 
 pub mod layers;
 pub mod lookups;
@@ -101,16 +111,8 @@ pub fn changed_row(alloc: Global) -> Result<Answer, Fault<'static>>
     ensures status { IfOk result (λ answer. answer.status ≡ 1) }
     ensures bytes { IfOk result (λ answer. answer.bytes.items ≡ codes "change,id,a\n-,1,x\n+,1,y\n") }
 {
-    let old = Stream {
-        file: "old.csv",
-        delimiter: None,
-        reader: Ok(b"id,a\n1,x\n".as_slice()),
-    };
-    let new = Stream {
-        file: "new.csv",
-        delimiter: None,
-        reader: Ok(b"id,a\n1,y\n".as_slice()),
-    };
+    let old = file!("old.csv", b"id,a\n1,x\n");
+    let new = file!("new.csv", b"id,a\n1,y\n");
     diff(alloc, PLAIN, CHANGES, old, new)
 }
 
@@ -123,16 +125,8 @@ pub fn same_table(alloc: Global) -> Result<Answer, Fault<'static>>
     ensures status { IfOk result (λ answer. answer.status ≡ 0) }
     ensures bytes { IfOk result (λ answer. answer.bytes.items ≡ codes "change,id,a\n") }
 {
-    let old = Stream {
-        file: "old.csv",
-        delimiter: None,
-        reader: Ok(b"id,a\n1,x\n".as_slice()),
-    };
-    let new = Stream {
-        file: "new.csv",
-        delimiter: None,
-        reader: Ok(b"id,a\n1,x\n".as_slice()),
-    };
+    let old = file!("old.csv", b"id,a\n1,x\n");
+    let new = file!("new.csv", b"id,a\n1,x\n");
     diff(alloc, PLAIN, CHANGES, old, new)
 }
 
@@ -150,11 +144,7 @@ pub fn semicolons(alloc: Global) -> Result<Answer, Fault<'static>>
         delimiter: Some(Delimiter::SEMICOLON),
         reader: Ok(b"id;a\n1;x\n".as_slice()),
     };
-    let new = Stream {
-        file: "new.csv",
-        delimiter: None,
-        reader: Ok(b"id,a\n1,x\n".as_slice()),
-    };
+    let new = file!("new.csv", b"id,a\n1,x\n");
     diff(alloc, PLAIN, CHANGES, old, new)
 }
 
@@ -167,16 +157,8 @@ pub fn no_header(alloc: Global) -> Result<Answer, Fault<'static>>
     ensures status { IfOk result (λ answer. answer.status ≡ 1) }
     ensures bytes { IfOk result (λ answer. answer.bytes.items ≡ codes "-,1,x\n+,1,y\n") }
 {
-    let old = Stream {
-        file: "old.csv",
-        delimiter: None,
-        reader: Ok(b"1,x\n".as_slice()),
-    };
-    let new = Stream {
-        file: "new.csv",
-        delimiter: None,
-        reader: Ok(b"1,y\n".as_slice()),
-    };
+    let old = file!("old.csv", b"1,x\n");
+    let new = file!("new.csv", b"1,y\n");
     diff(alloc, BARE, CHANGES, old, new)
 }
 
@@ -190,16 +172,8 @@ pub fn new_column(alloc: Global) -> Result<Answer, Fault<'static>>
     ensures status { IfOk result (λ answer. answer.status ≡ 1) }
     ensures bytes { IfOk result (λ answer. answer.bytes.items ≡ codes "change,id,+b,a\n+,2,z,y\n") }
 {
-    let old = Stream {
-        file: "old.csv",
-        delimiter: None,
-        reader: Ok(b"id,a\n1,x\n".as_slice()),
-    };
-    let new = Stream {
-        file: "new.csv",
-        delimiter: None,
-        reader: Ok(b"id,b,a\n2,z,y\n1,,x\n".as_slice()),
-    };
+    let old = file!("old.csv", b"id,a\n1,x\n");
+    let new = file!("new.csv", b"id,b,a\n2,z,y\n1,,x\n");
     diff(alloc, PLAIN, CHANGES, old, new)
 }
 
@@ -211,16 +185,8 @@ pub fn new_column(alloc: Global) -> Result<Answer, Fault<'static>>
 pub fn misfit(alloc: Global) -> Result<Answer, Fault<'static>>
     ensures { IfOk result Stops }
 {
-    let old = Stream {
-        file: "old.csv",
-        delimiter: None,
-        reader: Ok(b"id,a\n1,x\n".as_slice()),
-    };
-    let changes = Stream {
-        file: "changes.csv",
-        delimiter: None,
-        reader: Ok(b"change,id,a\n-,2,y\n".as_slice()),
-    };
+    let old = file!("old.csv", b"id,a\n1,x\n");
+    let changes = file!("changes.csv", b"change,id,a\n-,2,y\n");
     apply(alloc, PLAIN, old, changes)
 }
 
@@ -232,58 +198,60 @@ pub fn misfit(alloc: Global) -> Result<Answer, Fault<'static>>
 pub fn stale_change(alloc: Global) -> Result<Answer, Fault<'static>>
     ensures { IfOk result Stops }
 {
-    let old = Stream {
-        file: "old.csv",
-        delimiter: None,
-        reader: Ok(b"id,a\n1,x\n".as_slice()),
-    };
-    let changes = Stream {
-        file: "changes.csv",
-        delimiter: None,
-        reader: Ok(b"change,id,a\n-,1,z\n+,1,y\n".as_slice()),
-    };
+    let old = file!("old.csv", b"id,a\n1,x\n");
+    let changes = file!("changes.csv", b"change,id,a\n-,1,z\n+,1,y\n");
     apply(alloc, PLAIN, old, changes)
 }
 
-/// Returns a table with changes made to it that fit. No clause says which columns go, so it may be a report of cells that would be lost.
+/// Returns a table with changes made to it: the row that comes, in the place of the one that goes.
 ///
 /// # Errors
 ///
 /// Returns the errors of `apply`.
 pub fn applied(alloc: Global) -> Result<Answer, Fault<'static>>
-    ensures { IfOk result IsTableOrReport }
+    ensures { IfOk result (IsTableInStyle (codes "id,a\n1,y\n")) }
 {
-    let old = Stream {
-        file: "old.csv",
-        delimiter: None,
-        reader: Ok(b"id,a\n1,x\n".as_slice()),
-    };
-    let changes = Stream {
-        file: "changes.csv",
-        delimiter: None,
-        reader: Ok(b"change,id,a\n-,1,x\n+,1,y\n".as_slice()),
-    };
+    let old = file!("old.csv", b"id,a\n1,x\n");
+    let changes = file!("changes.csv", b"change,id,a\n-,1,x\n+,1,y\n");
     apply(alloc, PLAIN, old, changes)
 }
 
-/// Returns a list of keys with one taken away and one added: a table, since there is no cell to lose.
+/// Returns a list of keys with one taken away and one added.
 ///
 /// # Errors
 ///
 /// Returns the errors of `apply`.
 pub fn changed_ids(alloc: Global) -> Result<Answer, Fault<'static>>
-    ensures { IfOk result (λ answer. (answer.status ≡ 0) × (answer.outcome ≡ Made)) }
+    ensures { IfOk result (IsTableInStyle (codes "id\n1\n3\n")) }
 {
-    let old = Stream {
-        file: "old.csv",
-        delimiter: None,
-        reader: Ok(b"id\n1\n2\n".as_slice()),
-    };
-    let changes = Stream {
-        file: "changes.csv",
-        delimiter: None,
-        reader: Ok(b"change,id\n-,2\n+,3\n".as_slice()),
-    };
+    let old = file!("old.csv", b"id\n1\n2\n");
+    let changes = file!("changes.csv", b"change,id\n-,2\n+,3\n");
+    apply(alloc, PLAIN, old, changes)
+}
+
+/// Returns a table without the column that the header of the changes says to go: no row that is left has a cell in it.
+///
+/// # Errors
+///
+/// Returns the errors of `apply`.
+pub fn dropped_column(alloc: Global) -> Result<Answer, Fault<'static>>
+    ensures { IfOk result (IsTableInStyle (codes "id\n2\n")) }
+{
+    let old = file!("old.csv", b"id,a\n1,x\n2,\n");
+    let changes = file!("changes.csv", b"change,id,-a\n-,1,x\n");
+    apply(alloc, PLAIN, old, changes)
+}
+
+/// Returns the answer to changes that would drop a column in which a row that is left has a cell: a report, with status 1.
+///
+/// # Errors
+///
+/// Returns the errors of `apply`.
+pub fn lost_cell(alloc: Global) -> Result<Answer, Fault<'static>>
+    ensures { IfOk result Stops }
+{
+    let old = file!("old.csv", b"id,a\n1,x\n2,y\n");
+    let changes = file!("changes.csv", b"change,id,-a\n-,1,x\n");
     apply(alloc, PLAIN, old, changes)
 }
 
@@ -295,21 +263,9 @@ pub fn changed_ids(alloc: Global) -> Result<Answer, Fault<'static>>
 pub fn merged(alloc: Global) -> Result<Answer, Fault<'static>>
     ensures { IfOk result (IsTableInStyle (codes "id,a\n1,y\n2,z\n")) }
 {
-    let base = Stream {
-        file: "base.csv",
-        delimiter: None,
-        reader: Ok(b"id,a\n1,x\n".as_slice()),
-    };
-    let ours = Stream {
-        file: "ours.csv",
-        delimiter: None,
-        reader: Ok(b"id,a\n1,y\n".as_slice()),
-    };
-    let theirs = Stream {
-        file: "theirs.csv",
-        delimiter: None,
-        reader: Ok(b"id,a\n1,x\n2,z\n".as_slice()),
-    };
+    let base = file!("base.csv", b"id,a\n1,x\n");
+    let ours = file!("ours.csv", b"id,a\n1,y\n");
+    let theirs = file!("theirs.csv", b"id,a\n1,x\n2,z\n");
     merge(alloc, PLAIN, Merging::PLAIN, base, ours, theirs)
 }
 
@@ -321,21 +277,9 @@ pub fn merged(alloc: Global) -> Result<Answer, Fault<'static>>
 pub fn conflict(alloc: Global) -> Result<Answer, Fault<'static>>
     ensures { IfOk result Stops }
 {
-    let base = Stream {
-        file: "base.csv",
-        delimiter: None,
-        reader: Ok(b"id,a\n1,x\n".as_slice()),
-    };
-    let ours = Stream {
-        file: "ours.csv",
-        delimiter: None,
-        reader: Ok(b"id,a\n1,y\n".as_slice()),
-    };
-    let theirs = Stream {
-        file: "theirs.csv",
-        delimiter: None,
-        reader: Ok(b"id,a\n1,z\n".as_slice()),
-    };
+    let base = file!("base.csv", b"id,a\n1,x\n");
+    let ours = file!("ours.csv", b"id,a\n1,y\n");
+    let theirs = file!("theirs.csv", b"id,a\n1,z\n");
     merge(alloc, PLAIN, Merging::PLAIN, base, ours, theirs)
 }
 
@@ -347,21 +291,9 @@ pub fn conflict(alloc: Global) -> Result<Answer, Fault<'static>>
 pub fn merged_by_cell(alloc: Global) -> Result<Answer, Fault<'static>>
     ensures { IfOk result (IsTableInStyle (codes "id,a,b\n1,z,w\n")) }
 {
-    let base = Stream {
-        file: "base.csv",
-        delimiter: None,
-        reader: Ok(b"id,a,b\n1,x,y\n".as_slice()),
-    };
-    let ours = Stream {
-        file: "ours.csv",
-        delimiter: None,
-        reader: Ok(b"id,a,b\n1,z,y\n".as_slice()),
-    };
-    let theirs = Stream {
-        file: "theirs.csv",
-        delimiter: None,
-        reader: Ok(b"id,a,b\n1,x,w\n".as_slice()),
-    };
+    let base = file!("base.csv", b"id,a,b\n1,x,y\n");
+    let ours = file!("ours.csv", b"id,a,b\n1,z,y\n");
+    let theirs = file!("theirs.csv", b"id,a,b\n1,x,w\n");
     merge(alloc, PLAIN, BY_CELL, base, ours, theirs)
 }
 
@@ -373,21 +305,9 @@ pub fn merged_by_cell(alloc: Global) -> Result<Answer, Fault<'static>>
 pub fn cell_conflict(alloc: Global) -> Result<Answer, Fault<'static>>
     ensures { IfOk result Stops }
 {
-    let base = Stream {
-        file: "base.csv",
-        delimiter: None,
-        reader: Ok(b"id,a\n1,x\n".as_slice()),
-    };
-    let ours = Stream {
-        file: "ours.csv",
-        delimiter: None,
-        reader: Ok(b"id,a\n1,y\n".as_slice()),
-    };
-    let theirs = Stream {
-        file: "theirs.csv",
-        delimiter: None,
-        reader: Ok(b"id,a\n1,z\n".as_slice()),
-    };
+    let base = file!("base.csv", b"id,a\n1,x\n");
+    let ours = file!("ours.csv", b"id,a\n1,y\n");
+    let theirs = file!("theirs.csv", b"id,a\n1,z\n");
     merge(alloc, PLAIN, BY_CELL, base, ours, theirs)
 }
 
@@ -401,16 +321,8 @@ pub fn outer_join(alloc: Global) -> Result<Answer, Fault<'static>>
     ensures bytes { IfOk result (λ answer.
         answer.bytes.items ≡ codes "side,id,a,b\nleft,1,x,\nboth,2,y,z\nright,3,,w\n") }
 {
-    let left = Stream {
-        file: "left.csv",
-        delimiter: None,
-        reader: Ok(b"id,a\n1,x\n2,y\n".as_slice()),
-    };
-    let right = Stream {
-        file: "right.csv",
-        delimiter: None,
-        reader: Ok(b"id,b\n2,z\n3,w\n".as_slice()),
-    };
+    let left = file!("left.csv", b"id,a\n1,x\n2,y\n");
+    let right = file!("right.csv", b"id,b\n2,z\n3,w\n");
     join(alloc, PLAIN, OUTER, left, right)
 }
 
@@ -423,16 +335,8 @@ pub fn shared_column(alloc: Global) -> Result<Answer, Fault<'static>>
     ensures status { IfOk result (λ answer. answer.status ≡ 0) }
     ensures bytes { IfOk result (λ answer. answer.bytes.items ≡ codes "side,id,left.a,right.a\nboth,1,x,y\n") }
 {
-    let left = Stream {
-        file: "left.csv",
-        delimiter: None,
-        reader: Ok(b"id,a\n1,x\n".as_slice()),
-    };
-    let right = Stream {
-        file: "right.csv",
-        delimiter: None,
-        reader: Ok(b"id,a\n1,y\n".as_slice()),
-    };
+    let left = file!("left.csv", b"id,a\n1,x\n");
+    let right = file!("right.csv", b"id,a\n1,y\n");
     join(alloc, PLAIN, OUTER, left, right)
 }
 
@@ -445,16 +349,8 @@ pub fn inner_join(alloc: Global) -> Result<Answer, Fault<'static>>
     ensures status { IfOk result (λ answer. answer.status ≡ 0) }
     ensures bytes { IfOk result (λ answer. answer.bytes.items ≡ codes "id,a,b\n2,y,z\n") }
 {
-    let left = Stream {
-        file: "left.csv",
-        delimiter: None,
-        reader: Ok(b"id,a\n1,x\n2,y\n".as_slice()),
-    };
-    let right = Stream {
-        file: "right.csv",
-        delimiter: None,
-        reader: Ok(b"id,b\n2,z\n3,w\n".as_slice()),
-    };
+    let left = file!("left.csv", b"id,a\n1,x\n2,y\n");
+    let right = file!("right.csv", b"id,b\n2,z\n3,w\n");
     join(alloc, PLAIN, INNER, left, right)
 }
 
@@ -467,16 +363,8 @@ pub fn left_join(alloc: Global) -> Result<Answer, Fault<'static>>
     ensures status { IfOk result (λ answer. answer.status ≡ 0) }
     ensures bytes { IfOk result (λ answer. answer.bytes.items ≡ codes "id,a,b\n1,x,\n2,y,z\n") }
 {
-    let left = Stream {
-        file: "left.csv",
-        delimiter: None,
-        reader: Ok(b"id,a\n1,x\n2,y\n".as_slice()),
-    };
-    let right = Stream {
-        file: "right.csv",
-        delimiter: None,
-        reader: Ok(b"id,b\n2,z\n3,w\n".as_slice()),
-    };
+    let left = file!("left.csv", b"id,a\n1,x\n2,y\n");
+    let right = file!("right.csv", b"id,b\n2,z\n3,w\n");
     join(alloc, PLAIN, LEFT, left, right)
 }
 
@@ -489,16 +377,8 @@ pub fn right_join(alloc: Global) -> Result<Answer, Fault<'static>>
     ensures status { IfOk result (λ answer. answer.status ≡ 0) }
     ensures bytes { IfOk result (λ answer. answer.bytes.items ≡ codes "id,a,b\n2,y,z\n3,,w\n") }
 {
-    let left = Stream {
-        file: "left.csv",
-        delimiter: None,
-        reader: Ok(b"id,a\n1,x\n2,y\n".as_slice()),
-    };
-    let right = Stream {
-        file: "right.csv",
-        delimiter: None,
-        reader: Ok(b"id,b\n2,z\n3,w\n".as_slice()),
-    };
+    let left = file!("left.csv", b"id,a\n1,x\n2,y\n");
+    let right = file!("right.csv", b"id,b\n2,z\n3,w\n");
     join(alloc, PLAIN, RIGHT, left, right)
 }
 
@@ -511,16 +391,8 @@ pub fn shared_rows(alloc: Global) -> Result<Answer, Fault<'static>>
     ensures status { IfOk result (λ answer. answer.status ≡ 0) }
     ensures bytes { IfOk result (λ answer. answer.bytes.items ≡ codes "id,a\n2,y\n") }
 {
-    let left = Stream {
-        file: "left.csv",
-        delimiter: None,
-        reader: Ok(b"id,a\n1,x\n2,y\n".as_slice()),
-    };
-    let right = Stream {
-        file: "right.csv",
-        delimiter: None,
-        reader: Ok(b"id,b\n2,z\n3,w\n".as_slice()),
-    };
+    let left = file!("left.csv", b"id,a\n1,x\n2,y\n");
+    let right = file!("right.csv", b"id,b\n2,z\n3,w\n");
     join(alloc, PLAIN, SEMI, left, right)
 }
 
@@ -533,15 +405,7 @@ pub fn lone_rows(alloc: Global) -> Result<Answer, Fault<'static>>
     ensures status { IfOk result (λ answer. answer.status ≡ 0) }
     ensures bytes { IfOk result (λ answer. answer.bytes.items ≡ codes "id,a\n1,x\n") }
 {
-    let left = Stream {
-        file: "left.csv",
-        delimiter: None,
-        reader: Ok(b"id,a\n1,x\n2,y\n".as_slice()),
-    };
-    let right = Stream {
-        file: "right.csv",
-        delimiter: None,
-        reader: Ok(b"id,b\n2,z\n3,w\n".as_slice()),
-    };
+    let left = file!("left.csv", b"id,a\n1,x\n2,y\n");
+    let right = file!("right.csv", b"id,b\n2,z\n3,w\n");
     join(alloc, PLAIN, ANTI, left, right)
 }

@@ -43,16 +43,8 @@ pub fn found_rows(alloc: Global, output: &mut Vec<u8>) -> Result<u8, Fault<'stat
     ensures status { IfOk result (λ status. status ≡ 0) }
     ensures bytes { OnOk result (output.new.items ≡ output.old.items ++ codes "id,a,b\n2,y,z\n1,x,\n") }
 {
-    let left = Stream {
-        file: "left.csv",
-        delimiter: None,
-        reader: Ok(b"id,a\n2,y\n1,x\n".as_slice()),
-    };
-    let right = Stream {
-        file: "right.csv",
-        delimiter: None,
-        reader: Ok(b"id,b\n2,z\n3,w\n".as_slice()),
-    };
+    let left = file!("left.csv", b"id,a\n2,y\n1,x\n");
+    let right = file!("right.csv", b"id,b\n2,z\n3,w\n");
     lookup(alloc, LAYOUT, LEFT, left, right, output)
 }
 
@@ -65,16 +57,8 @@ pub fn matched_rows(alloc: Global, output: &mut Vec<u8>) -> Result<u8, Fault<'st
     ensures status { IfOk result (λ status. status ≡ 0) }
     ensures bytes { OnOk result (output.new.items ≡ output.old.items ++ codes "id,a,b\n2,y,z\n") }
 {
-    let left = Stream {
-        file: "left.csv",
-        delimiter: None,
-        reader: Ok(b"id,a\n2,y\n1,x\n".as_slice()),
-    };
-    let right = Stream {
-        file: "right.csv",
-        delimiter: None,
-        reader: Ok(b"id,b\n2,z\n3,w\n".as_slice()),
-    };
+    let left = file!("left.csv", b"id,a\n2,y\n1,x\n");
+    let right = file!("right.csv", b"id,b\n2,z\n3,w\n");
     lookup(alloc, LAYOUT, INNER, left, right, output)
 }
 
@@ -87,15 +71,7 @@ pub fn missed_rows(alloc: Global, output: &mut Vec<u8>) -> Result<u8, Fault<'sta
     ensures status { IfOk result (λ status. status ≡ 0) }
     ensures bytes { OnOk result (output.new.items ≡ output.old.items ++ codes "id,a\n1,x\n") }
 {
-    let left = Stream {
-        file: "left.csv",
-        delimiter: None,
-        reader: Ok(b"id,a\n2,y\n1,x\n".as_slice()),
-    };
-    let right = Stream {
-        file: "right.csv",
-        delimiter: None,
-        reader: Ok(b"id,b\n2,z\n3,w\n".as_slice()),
-    };
+    let left = file!("left.csv", b"id,a\n2,y\n1,x\n");
+    let right = file!("right.csv", b"id,b\n2,z\n3,w\n");
     lookup(alloc, LAYOUT, ANTI, left, right, output)
 }
