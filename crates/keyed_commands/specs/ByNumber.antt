@@ -1,5 +1,5 @@
 -- Rows whose cells are compared by value where they are numbers, by a tolerance: which of them changed, and which in conflict are settled.
-use Rattle.std.specs.Prelude.{ℕ, ◌||◌, Bool, true, false, not, List, [], ◌∷◌, Option, Some, None, filter, nat_eq, option_map, zip, if◌then◌else◌}
+use Rattle.std.specs.Prelude.{ℕ, ◌||◌, Bool, false, not, List, [], ◌∷◌, Option, Some, None, filter, nat_eq, option_map, zip, if◌then◌else◌}
 use Rattle.std.specs.Cmp.Lexicographic.{pointwise}
 use Rattle.std.specs.Option.{option_and_then, option_eq}
 use Rattle.eob_both.specs.Places.{item_left, item_right}
@@ -46,8 +46,8 @@ module _ (tolerance : Decimal) where
       → List (K × EitherOrBoth (List (List (List ℕ))) (List (List (List ℕ))))
   changed_by_number changes = filter (λ change. not (is_same_change change.1)) changes
 
-  -- The cell of three versions, if it is settled: theirs where ours is the base to the byte, ours where theirs is the same as ours or as the
-  -- base, and theirs where ours is the same as the base.
+  -- the cell of three versions, if it is settled: theirs where ours is the base to the byte, ours where theirs is the same as ours or as
+  -- the base, and theirs where ours is the same as the base
   abbrev pub settled_cell : List ℕ → List ℕ → List ℕ → Option (List ℕ)
   settled_cell base ours theirs =
       if pointwise nat_eq base ours then Some theirs
@@ -73,8 +73,8 @@ module _ (tolerance : Decimal) where
   settled_by unit.Cell base ours theirs = option_map (λ row. Some (row ∷ []))
       (settled_row (option_and_then one_row base) (option_and_then one_row ours) (option_and_then one_row theirs))
 
-  -- What becomes of a key, if it is settled: what ours has, where theirs has the same rows as ours or as the base, and what theirs has, where
-  -- ours has the same as the base; else a row of the cells of all three, where they are merged by cell.
+  -- what becomes of a key, if it is settled: what ours has, where theirs has the same rows as ours or as the base, and what theirs has,
+  -- where ours has the same as the base; else a row of the cells of all three, where they are merged by cell
   abbrev pub settled : Unit → Option (List (List (List ℕ))) → Option (List (List (List ℕ))) → Option (List (List (List ℕ)))
       → Option (Option (List (List (List ℕ))))
   settled by base ours theirs =
@@ -90,12 +90,3 @@ module _ (tolerance : Decimal) where
   -- the merged rows in their order, each as what stands of it
   abbrev pub settled_by_number : {K : Type 0} → Unit → List (K × Marked (List (List (List ℕ)))) → List (K × Marked (List (List (List ℕ))))
   settled_by_number by rows = kept (settled_mark by) rows
-
--- the rows of what stands of a key, and its versions where it is in conflict
-abbrev pub rows_of : Marked (List (List (List ℕ))) → Option (List (List (List ℕ)))
-rows_of (Settled rows) = Some rows
-rows_of (Stuck versions) = None
-
-abbrev pub stuck_of : Marked (List (List (List ℕ))) → Option (EitherOrBoth (List (List (List ℕ))) (EitherOrBoth (List (List (List ℕ))) (List (List (List ℕ)))))
-stuck_of (Settled rows) = None
-stuck_of (Stuck versions) = Some versions

@@ -337,7 +337,8 @@ fn merge_tables(
 ) -> Result<Answer, Reason>
     ensures { IfOk result (λ answer. IsReported how.entry → AnswersBy job.now.form job.now.columns.now
         (noted job.now.order) (is_none job.now.row_order.files)
-        versions.base.pairs.items versions.ours.pairs.items versions.theirs.pairs.items answer how.entry.unit) }
+        versions.base.pairs.items versions.ours.pairs.items versions.theirs.pairs.items
+        answer how.entry.unit) }
 {
     match how.tolerance {
         Some(tolerance) => merge_by_number(job, how, tolerance, versions),

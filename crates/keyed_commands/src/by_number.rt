@@ -7,8 +7,9 @@ ghost use Rattle.eob_joins.specs.Cells.{same_length};
 ghost use Rattle.keyed_numbers.specs.Decimals.{same_cell};
 ghost use Rattle.keyed_tables.specs.RowsByCell.{one_row, only_row};
 ghost use Rattle.keyed_tables.specs.declared.marked.Marked.TheVariants.{Settled, Stuck};
-ghost use Rattle.keyed_commands.specs.ByNumber.{changed_by_number, is_same_change, mark_of, same_place, same_row, same_rows};
-ghost use Rattle.keyed_commands.specs.ByNumber.{settled_by, settled_by_number, settled_cell, settled_cells, settled_mark, settled_row};
+ghost use Rattle.keyed_commands.specs.ByNumber.{changed_by_number, is_same_change, mark_of, same_place};
+ghost use Rattle.keyed_commands.specs.ByNumber.{same_row, same_rows, settled_by, settled_by_number};
+ghost use Rattle.keyed_commands.specs.ByNumber.{settled_cell, settled_cells, settled_mark, settled_row};
 
 use either_or_both::EitherOrBoth;
 use eob_joins::{Change, Versions};
@@ -51,7 +52,8 @@ fn is_same_change(tolerance: Decimal<'_>, change: &Change<Group>) -> bool
 
 // Whether two places have the same rows, or neither has any.
 fn is_same_place(tolerance: Decimal<'_>, group: Option<&Group>, other: Option<&Group>) -> bool
-    ensures { result ≡ same_place tolerance.entry (option_map (λ rows. rows.now) group.entry) (option_map (λ rows. rows.now) other.entry) }
+    ensures { result ≡ same_place tolerance.entry
+        (option_map (λ rows. rows.now) group.entry) (option_map (λ rows. rows.now) other.entry) }
 {
     match group {
         Some(group) => match other {
@@ -71,7 +73,8 @@ fn are_same_rows(tolerance: Decimal<'_>, rows: &[Cells], others: &[Cells]) -> bo
 
 // Whether each row is the same as the one beside it.
 fn has_same_rows(tolerance: Decimal<'_>, rows: &[Cells], others: &[Cells]) -> bool
-    ensures { result ≡ list_all (λ pair. same_row tolerance.entry pair.0 pair.1) (zip rows.now others.now) }
+    ensures { result
+        ≡ list_all (λ pair. same_row tolerance.entry pair.0 pair.1) (zip rows.now others.now) }
 {
     rows.iter()
         .zip(others.iter())
@@ -87,16 +90,17 @@ fn is_same_row(tolerance: Decimal<'_>, row: &Cells, other: &Cells) -> bool
 
 // Whether each cell is the same as the one beside it.
 fn has_same_cells(tolerance: Decimal<'_>, row: &Cells, other: &Cells) -> bool
-    ensures { result ≡ list_all (λ pair. same_cell (Some tolerance.entry) pair.0 pair.1) (zip row.now other.now) }
+    ensures { result
+        ≡ list_all (λ pair. same_cell (Some tolerance.entry) pair.0 pair.1) (zip row.now other.now) }
 {
     row.iter()
         .zip(other.iter())
         .all(|(cell, next)| is_same_cell(Some(tolerance), cell, next))
 }
 
-/// The merged rows, with those in conflict in their places, of which those are settled that are in conflict only because numbers are written
-/// in other ways: what is ours stays where both sides have the same value, and what one side alone changed is as that side has it. A key
-/// with several rows is settled as a whole, or not.
+/// The merged rows, with those in conflict in their places, of which those are settled that are in conflict only because numbers are
+/// written in other ways: what is ours stays where both sides have the same value, and what one side alone changed is as that side has it.
+/// A key with several rows is settled as a whole, or not.
 ///
 /// # Errors
 ///
@@ -154,7 +158,8 @@ fn settle(
 
 // Whether theirs has the same rows as ours or as the base.
 fn ours_stays(tolerance: Decimal<'_>, versions: &Versions<Group>) -> bool
-    ensures { result ≡ (same_place tolerance.entry (item_left (right_place versions.now)) (item_right (right_place versions.now))
+    ensures { result ≡ (same_place tolerance.entry
+        (item_left (right_place versions.now)) (item_right (right_place versions.now))
         || same_place tolerance.entry (left_place versions.now) (item_right (right_place versions.now))) }
 {
     is_same_place(tolerance, ours_in(versions), theirs_in(versions))
@@ -163,7 +168,8 @@ fn ours_stays(tolerance: Decimal<'_>, versions: &Versions<Group>) -> bool
 
 // Whether ours has the same rows as the base.
 fn theirs_comes(tolerance: Decimal<'_>, versions: &Versions<Group>) -> bool
-    ensures { result ≡ same_place tolerance.entry (left_place versions.now) (item_left (right_place versions.now)) }
+    ensures { result ≡ same_place tolerance.entry
+        (left_place versions.now) (item_left (right_place versions.now)) }
 {
     is_same_place(tolerance, base_in(versions), ours_in(versions))
 }
@@ -273,8 +279,10 @@ fn settled_versions(
     tolerance: Decimal<'_>,
     versions: &Versions<Group>,
 ) -> Result<Option<Cells>, AllocError>
-    ensures { IfOk result (λ row. row ≡ settled_row tolerance.entry (option_and_then one_row (left_place versions.now))
-        (option_and_then one_row (item_left (right_place versions.now))) (option_and_then one_row (item_right (right_place versions.now)))) }
+    ensures { IfOk result (λ row. row ≡ settled_row tolerance.entry
+        (option_and_then one_row (left_place versions.now))
+        (option_and_then one_row (item_left (right_place versions.now)))
+        (option_and_then one_row (item_right (right_place versions.now)))) }
 {
     let base = row_of(base_in(versions));
     let ours = row_of(ours_in(versions));
@@ -284,7 +292,8 @@ fn settled_versions(
 
 // The row of a group of one.
 fn row_of(group: Option<&Group>) -> Option<&Cells>
-    ensures { option_map (λ row. row.now) result ≡ option_and_then one_row (option_map (λ rows. rows.now) group.entry) }
+    ensures { option_map (λ row. row.now) result
+        ≡ option_and_then one_row (option_map (λ rows. rows.now) group.entry) }
 {
     match group {
         Some(group) => one_row(group.rows()),
@@ -339,7 +348,8 @@ fn settled_of_three(
     ours: &Cells,
     theirs: &Cells,
 ) -> Result<Option<Cells>, AllocError>
-    ensures { IfOk result (λ row. row ≡ settled_row tolerance.entry (Some base.now) (Some ours.now) (Some theirs.now)) }
+    ensures { IfOk result (λ row. row
+        ≡ settled_row tolerance.entry (Some base.now) (Some ours.now) (Some theirs.now)) }
 {
     if are_same_length(base, ours, theirs) {
         settled_cells(alloc, tolerance, base, ours, theirs)
@@ -363,7 +373,8 @@ fn settled_cells(
     ours: &Cells,
     theirs: &Cells,
 ) -> Result<Option<Cells>, AllocError>
-    ensures { IfOk result (λ row. row ≡ settled_cells tolerance.entry (zip base.now (zip ours.now theirs.now))) }
+    ensures { IfOk result (λ row. row
+        ≡ settled_cells tolerance.entry (zip base.now (zip ours.now theirs.now))) }
 {
     let mut merged = Cells::new(alloc);
     for (old, (our, their)) in base.iter().zip(ours.iter().zip(theirs.iter())) {
@@ -382,7 +393,8 @@ fn settled_cell<'a>(
     ours: &'a [u8],
     theirs: &'a [u8],
 ) -> Option<&'a [u8]>
-    ensures { option_map (λ cell. cell.now) result ≡ settled_cell tolerance.entry base.now ours.now theirs.now }
+    ensures { option_map (λ cell. cell.now) result
+        ≡ settled_cell tolerance.entry base.now ours.now theirs.now }
 {
     let tolerance = Some(tolerance);
     if base == ours {

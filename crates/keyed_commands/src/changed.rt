@@ -1,7 +1,8 @@
 //! What changed between two tables in memory: as CSV, and the status of `diff`.
 ghost use Rattle.std.specs.Prelude.{◌≡◌, ◌↔◌, ◌==◌, ◌&&◌, IfOk, is_none, length, not};
 ghost use Rattle.keyed_tables.specs.Arranged.{noted};
-ghost use Rattle.keyed_commands.specs.Answers.{ChangesComeOut, IsDiffStatus, IsDiffText, columns_differ, status_of};
+ghost use Rattle.keyed_commands.specs.Answers.{ChangesComeOut, IsDiffStatus, IsDiffText};
+ghost use Rattle.keyed_commands.specs.Answers.{columns_differ, status_of};
 ghost use Rattle.keyed_commands.specs.declared.answers.Outcome.TheVariants.{Made};
 
 use crate::answers::{Answer, Outcome};
@@ -28,7 +29,8 @@ pub fn diff_as_csv(
 ) -> Result<Answer, Reason>
     ensures text { IfOk result (λ answer. IsDiffText job.now.form job.now.columns.now (noted job.now.order)
         (is_none job.now.row_order.files) marked.now old.pairs.items new.pairs.items answer.bytes.items) }
-    ensures status { IfOk result (λ answer. IsDiffStatus columns.entry old.pairs.items new.pairs.items answer.status) }
+    ensures status { IfOk result (λ answer.
+        IsDiffStatus columns.entry old.pairs.items new.pairs.items answer.status) }
     ensures outcome { IfOk result (λ answer. answer.outcome ≡ Made) }
 {
     let changes = changes_shown(job, old, new)?;
@@ -51,8 +53,8 @@ pub fn changes_shown(
     old: Table,
     new: Table,
 ) -> Result<Vec<(Key, Change<Group>)>, AllocError>
-    ensures changes { IfOk result (λ shown. ChangesComeOut (noted job.now.order) (is_none job.now.row_order.files)
-        old.pairs.items new.pairs.items shown.items) }
+    ensures changes { IfOk result (λ shown. ChangesComeOut (noted job.now.order)
+        (is_none job.now.row_order.files) old.pairs.items new.pairs.items shown.items) }
     ensures none { IfOk result (λ shown. (length shown.items ≡ 0) ↔ (old.pairs.items ≡ new.pairs.items)) }
 {
     let changes = changes_of(job.alloc, old, new)?;

@@ -18,8 +18,8 @@ impl<C> Job<'_, C> {
         &self,
         rows: Vec<(Key, V)>,
     ) -> Result<Vec<(Key, V)>, AllocError>
-        ensures { IfOk result (λ shown. ComesOut (noted self.now.order) (is_none self.now.row_order.files) V.alike
-            rows.items shown.items) }
+        ensures { IfOk result (λ shown. ComesOut (noted self.now.order) (is_none self.now.row_order.files)
+            V.alike rows.items shown.items) }
     {
         let rows = self.order.arrange(rows)?;
         if self.row_order.is_by_cells() {

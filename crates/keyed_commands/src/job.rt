@@ -2,7 +2,8 @@
 ghost use Rattle.std.specs.Prelude.{◌≡◌, ◌++◌, ◌∷◌, [], IfOk, None, OnOk, false, is_none, true};
 ghost use Rattle.keyed_files.specs.Reading.{ReadsRest, ReadsRows};
 ghost use Rattle.keyed_tables.specs.Arranged.{IsNoted, noted};
-ghost use Rattle.keyed_commands.specs.ChangesRead.{PairsRows, PartsChanges, PartsRest, ReadsChanges, come_by, gone_by};
+ghost use Rattle.keyed_commands.specs.ChangesRead.{PairsRows, PartsChanges, PartsRest, ReadsChanges};
+ghost use Rattle.keyed_commands.specs.ChangesRead.{come_by, gone_by};
 ghost use Rattle.keyed_commands.specs.TablesRead.{Gathers, IsUnordered, ReadsTable};
 
 use crate::row_order::RowOrder;
@@ -314,7 +315,8 @@ fn read_rows<R: Read + Drop>(
     order: &mut Order,
     rows: &mut Vec<ReadRow>,
 ) -> Result<(), Reason>
-    ensures read { OnOk result (ReadsRows R.remaining columns.now table.old.source.value rows.old.items rows.new.items) }
+    ensures read { OnOk result
+        (ReadsRows R.remaining columns.now table.old.source.value rows.old.items rows.new.items) }
     ensures unordered { OnOk result (noted order.old ≡ None → noted order.new ≡ None) }
     ensures header { table.new.source.value.header ≡ table.old.source.value.header }
 {

@@ -8,9 +8,11 @@ ghost use Rattle.keyed_files.specs.declared.request.RowFormat.TheVariants.{Csv};
 ghost use Rattle.keyed_tables.specs.Arranged.{noted};
 ghost use Rattle.keyed_commands.specs.Answers.{IsTableText};
 ghost use Rattle.keyed_commands.specs.ComeOut.{AlikePlaces, AlikeRows};
-ghost use Rattle.keyed_commands.specs.JoinAnswers.{AlikeBoth, AlikeLeft, AlikeRight, IsJoinText, IsTextOfJoin};
+ghost use Rattle.keyed_commands.specs.JoinAnswers.{AlikeBoth, AlikeLeft, AlikeRight};
+ghost use Rattle.keyed_commands.specs.JoinAnswers.{IsJoinText, IsTextOfJoin};
 ghost use Rattle.keyed_commands.specs.JoinAnswers.{JoinsSources, JoinsStreams, PutsJoin, PutsSides, RowSides};
-ghost use Rattle.keyed_commands.specs.JoinAnswers.{header_of_join, heading_of_join, inner_sides, left_sides, outer_sides, right_sides, side_name};
+ghost use Rattle.keyed_commands.specs.JoinAnswers.{header_of_join, heading_of_join, inner_sides};
+ghost use Rattle.keyed_commands.specs.JoinAnswers.{left_sides, outer_sides, right_sides, side_name};
 
 use crate::answers::{Answer, Outcome};
 use crate::job::{Job, Table};
@@ -267,8 +269,9 @@ pub fn join_as_csv(
     left: Table,
     right: Table,
 ) -> Result<Vec<u8>, Reason>
-    ensures { IfOk result (λ text. IsJoinText job.now.form job.now.columns.now how.now.header (noted job.now.order)
-        (is_none job.now.row_order.files) how.now.kind left.pairs.items right.pairs.items text.items) }
+    ensures { IfOk result (λ text. IsJoinText job.now.form job.now.columns.now how.now.header
+        (noted job.now.order) (is_none job.now.row_order.files) how.now.kind
+        left.pairs.items right.pairs.items text.items) }
 {
     let alloc = job.alloc;
     let header = &how.header;
@@ -288,8 +291,8 @@ fn write_joined<T: JoinedRow + Drop>(
     header: &Cells,
     rows: Vec<(Key, T)>,
 ) -> Result<Vec<u8>, Reason>
-    ensures { IfOk result (λ text. IsTextOfJoin job.now.form job.now.columns.now header.now (noted job.now.order)
-        (is_none job.now.row_order.files) T.shows T.alike rows.items text.items) }
+    ensures { IfOk result (λ text. IsTextOfJoin job.now.form job.now.columns.now header.now
+        (noted job.now.order) (is_none job.now.row_order.files) T.shows T.alike rows.items text.items) }
 {
     let rows = job.order.arrange(rows)?;
     let mut written = begin_join(job, header)?;

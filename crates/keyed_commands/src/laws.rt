@@ -2,7 +2,8 @@
 //! gives the caller's proof the law.
 ghost use Rattle.keyed_commands.specs.Laws.{ChangesFitLaw, ChangesMakeLaw, DiffApplyLaw, DiffReadsLaw};
 ghost use Rattle.keyed_commands.specs.OneSide.{OneSideLaw};
-ghost use Rattle.keyed_commands.specs.TextLaws.{DiffSaysLaw, DiffedTextByLaw, DiffedTextLaw, OneChangesLaw, OneTableLaw};
+ghost use Rattle.keyed_commands.specs.TextLaws.{DiffSaysLaw, DiffedTextByLaw, DiffedTextLaw};
+ghost use Rattle.keyed_commands.specs.TextLaws.{OneChangesLaw, OneTableLaw};
 
 /// The changes between two tables fit the old one, and made to it they give the new one: what `apply` answers to them is the text of the
 /// new table's rows. Call it where changes that `diff` found are applied.

@@ -3,7 +3,8 @@ ghost use Rattle.std.specs.Prelude.{◌≡◌, ◌∷◌, [], IfOk, OnOk, is_non
 ghost use Rattle.keyed_files.specs.Keys.{AreColumnsBy};
 ghost use Rattle.keyed_tables.specs.Arranged.{noted};
 ghost use Rattle.keyed_commands.specs.AppliedTexts.{IsInStyle};
-ghost use Rattle.keyed_commands.specs.OverlayAnswers.{AnswersRows, AreLaidOver, AreLayers, IsLayer, LaysTables};
+ghost use Rattle.keyed_commands.specs.OverlayAnswers.{AnswersRows, AreLaidOver, AreLayers, IsLayer};
+ghost use Rattle.keyed_commands.specs.OverlayAnswers.{LaysTables};
 ghost use Rattle.keyed_commands.specs.OverlayAnswers.{OverlaysSources, OverlaysStreams, rows_laid};
 ghost use Rattle.keyed_commands.specs.TablesRead.{IsUnordered};
 
@@ -103,7 +104,8 @@ fn columns_of_all<R>(
     settings: Settings<'_>,
     opened: &[Opened<'_, R>],
 ) -> Result<Columns, Reason>
-    ensures { IfOk result (AreColumnsBy settings.entry.key (map (λ table. table.source.value.header.names) opened.now)
+    ensures { IfOk result (AreColumnsBy settings.entry.key
+        (map (λ table. table.source.value.header.names) opened.now)
         (map (λ table. table.source.value.header.names) opened.now)) }
 {
     let headers = headers_of(alloc, opened)?;
@@ -161,8 +163,8 @@ fn lay<'a, R: Read + Drop>(
     below: Laid,
     mut table: Opened<'a, Watched<R>>,
 ) -> Result<Laid, Fault<'a>>
-    ensures laid { IfOk result (λ laid. LaysTables R.remaining layer job.old.groups job.old.columns.now (rows_laid below)
-        (table.entry ∷ []) (rows_laid laid)) }
+    ensures laid { IfOk result (λ laid. LaysTables R.remaining layer job.old.groups job.old.columns.now
+        (rows_laid below) (table.entry ∷ []) (rows_laid laid)) }
     ensures same { job.new ≡ record job.old { order = job.new.order; row_order = job.new.row_order } }
     ensures unordered { OnOk result (IsUnordered job.old → IsUnordered job.new) }
 {
@@ -183,7 +185,8 @@ fn lay_over(
     above: Table,
 ) -> Result<Table, AllocError>
     ensures { IfOk result (λ laid. AreLaidOver layer
-        (unwrap_or (option_map (λ table. table.pairs.items) below) []) (above.pairs.items ∷ []) laid.pairs.items) }
+        (unwrap_or (option_map (λ table. table.pairs.items) below) [])
+        (above.pairs.items ∷ []) laid.pairs.items) }
 {
     match below {
         Some(below) => {
@@ -195,7 +198,8 @@ fn lay_over(
 }
 
 fn laid_by(alloc: Global, layer: Layer, below: Table, above: Table) -> Result<Table, AllocError>
-    ensures { IfOk result (λ laid. AreLaidOver layer below.pairs.items (above.pairs.items ∷ []) laid.pairs.items) }
+    ensures { IfOk result (λ laid.
+        AreLaidOver layer below.pairs.items (above.pairs.items ∷ []) laid.pairs.items) }
 {
     match layer {
         Layer::Rows => laid_over(alloc, below, above),

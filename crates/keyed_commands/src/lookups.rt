@@ -6,8 +6,9 @@ ghost use Rattle.keyed_files.specs.Reading.{ReadsRest, ReadsRows};
 ghost use Rattle.keyed_files.specs.Writing.{PutsRows, Wrote, quoted_text};
 ghost use Rattle.keyed_files.specs.declared.request.RowFormat.TheVariants.{Csv};
 ghost use Rattle.keyed_commands.specs.JoinAnswers.{heading_of_join};
-ghost use Rattle.keyed_commands.specs.LookupAnswers.{LooksUpStreams, ReadsPart, WritesBehind, WritesPart, WritesRest};
-ghost use Rattle.keyed_commands.specs.LookupAnswers.{as_rows, found_under, held_rows, key_eq, lookup_rows, rows_of, shown_row, shown_rows};
+ghost use Rattle.keyed_commands.specs.LookupAnswers.{LooksUpStreams, ReadsPart, WritesBehind, WritesPart};
+ghost use Rattle.keyed_commands.specs.LookupAnswers.{WritesRest, as_rows, found_under, held_rows, key_eq};
+ghost use Rattle.keyed_commands.specs.LookupAnswers.{lookup_rows, rows_of, shown_row, shown_rows};
 
 use eob_joins::{LookupRow, lookup_join};
 use indexmap::IndexMap;
@@ -155,8 +156,8 @@ fn write_found<'a, R: Read + Drop, W: Write>(
 ) -> Result<u8, Fault<'a>>
     ensures status { IfOk result (λ status. status ≡ 0) }
     ensures text { OnOk result (WritesBehind R.remaining work.now.form work.now.kind work.now.columns.now
-        (found_under work.now.found.entries) places.now (heading_of_join work.now.form header.now) left.old.source.value
-        (W.contents output.old) (W.contents output.new)) }
+        (found_under work.now.found.entries) places.now (heading_of_join work.now.form header.now)
+        left.old.source.value (W.contents output.old) (W.contents output.new)) }
 {
     let written = at(left.file, begin_lookup(work, header))?;
     write_parts(work, places, left, written, output)
@@ -220,8 +221,8 @@ fn write_part<'a, R: Read + Drop, W: Write>(
     output: &mut W,
 ) -> Result<bool, Fault<'a>>
     ensures { IfOk result (λ is_last. WritesPart R.remaining work.now.form work.now.kind work.now.columns.now
-        (found_under work.now.found.entries) places.now is_last left.old.source.value left.new.source.value written
-        (W.contents output.old) (W.contents output.new)) }
+        (found_under work.now.found.entries) places.now is_last left.old.source.value
+        left.new.source.value written (W.contents output.old) (W.contents output.new)) }
 {
     let part = at(left.file, read_part(work.alloc, &mut left.source, places))?;
     let bytes = at(left.file, part_as_csv(work, written, part.rows))?;
@@ -265,7 +266,8 @@ fn read_part<R: Read + Drop>(
 
 // The header, where tables have one.
 fn begin_lookup(work: &LookupWork<'_>, header: &Cells) -> Result<Written, Reason>
-    ensures { IfOk result (λ written. Wrote work.now.form (heading_of_join work.now.form header.now) written) }
+    ensures { IfOk result (λ written.
+        Wrote work.now.form (heading_of_join work.now.form header.now) written) }
 {
     let mut written = Written::new(work.alloc, work.form);
     let has_header = work.form.has_header;
@@ -379,7 +381,8 @@ fn put_found(
     found: Option<&Cells>,
 ) -> Result<(), Reason>
     ensures { OnOk result (PutsRows written.old written.new
-        (rows_of work.now.columns.now work.now.kind key.now cells.now (option_map (λ cells. cells.now) found.entry))) }
+        (rows_of work.now.columns.now work.now.kind key.now cells.now
+        (option_map (λ cells. cells.now) found.entry))) }
 {
     match work.kind {
         LookupKind::Left => written.put_found(work.columns, key, cells, found),

@@ -1,7 +1,8 @@
 //! Tables whose keys rise, compared and joined as they are read: part by part, so that memory does not grow with the tables.
 //!
 //! Where all rows of both tables up to a key are read, their join is the first part of the whole join (`law_cut_join` of `eob_joins`).
-ghost use Rattle.std.specs.Prelude.{◌≡◌, ◌==◌, ◌↔◌, ◌⊎◌, IfOk, IfSome, IsNone, List, false, is_none, length, option_map};
+ghost use Rattle.std.specs.Prelude.{◌≡◌, ◌==◌, ◌↔◌, ◌⊎◌, IfOk, IfSome, IsNone, List, false, is_none, length};
+ghost use Rattle.std.specs.Prelude.{option_map};
 ghost use Rattle.keyed_files.specs.Parts.{TakesUpTo, key_cmp};
 ghost use Rattle.keyed_files.specs.declared.request.RowFormat.TheVariants.{Csv};
 ghost use Rattle.keyed_rows.specs.declared.row.ReadRow.{ReadRow};

@@ -1,7 +1,8 @@
 //! Tables in memory as the answers to the commands that make them: changes made to a table, and versions merged.
 ghost use Rattle.std.specs.Prelude.{◌≡◌, IfOk, MatchBool, is_none};
 ghost use Rattle.keyed_tables.specs.Arranged.{noted};
-ghost use Rattle.keyed_commands.specs.Answers.{AllFit, AnswersMerge, AnswersMerged, AnswersMergedByCell, AnswersPatched};
+ghost use Rattle.keyed_commands.specs.Answers.{AllFit, AnswersMerge, AnswersMerged, AnswersMergedByCell};
+ghost use Rattle.keyed_commands.specs.Answers.{AnswersPatched};
 ghost use Rattle.keyed_commands.specs.Answers.{AnswersTable, HasConflict, HasNoConflict, HasNoneStuck};
 ghost use Rattle.keyed_commands.specs.Answers.{HasStuck, IsTableText, Stops, key_cmp};
 ghost use Rattle.keyed_commands.specs.declared.answers.Outcome.TheVariants.{Made};
@@ -27,7 +28,8 @@ pub fn apply_tables(job: &Job<'_, Columns>, old: Table, changes: Changes) -> Res
     ensures fits { IfOk result (λ answer. AllFit key_cmp old.pairs.items changes.pairs.items
         → AnswersPatched job.now.form job.now.columns.now (noted job.now.order)
         (is_none job.now.row_order.files) old.pairs.items changes.pairs.items answer) }
-    ensures misfits { IfOk result (λ answer. (AllFit key_cmp old.pairs.items changes.pairs.items → ⊥) → Stops answer) }
+    ensures misfits { IfOk result (λ answer.
+        (AllFit key_cmp old.pairs.items changes.pairs.items → ⊥) → Stops answer) }
 {
     let fit = all_fit(&old, &changes);
     let answer = apply_if(job, fit, old, changes)?;
@@ -41,7 +43,8 @@ fn apply_if(
     old: Table,
     changes: Changes,
 ) -> Result<Answer, Reason>
-    ensures { IfOk result (λ answer. MatchBool fit (AnswersPatched job.now.form job.now.columns.now (noted job.now.order)
+    ensures { IfOk result (λ answer. MatchBool fit
+        (AnswersPatched job.now.form job.now.columns.now (noted job.now.order)
         (is_none job.now.row_order.files) old.pairs.items changes.pairs.items answer) (Stops answer)) }
 {
     if fit {
@@ -85,7 +88,8 @@ pub fn merge_by_row(
     ensures whole { IfOk result (λ answer. HasNoConflict base.pairs.items ours.pairs.items theirs.pairs.items
         → AnswersMerged job.now.form job.now.columns.now (noted job.now.order)
         (is_none job.now.row_order.files) base.pairs.items ours.pairs.items theirs.pairs.items answer) }
-    ensures conflict { IfOk result (λ answer. HasConflict base.pairs.items ours.pairs.items theirs.pairs.items → Stops answer) }
+    ensures conflict { IfOk result (λ answer.
+        HasConflict base.pairs.items ours.pairs.items theirs.pairs.items → Stops answer) }
 {
     let merged = merge_of(job.alloc, base, ours, theirs)?;
     let answer = answer_of_merge(job, merged)?;
@@ -106,7 +110,8 @@ pub fn merge_by_cell(
     ensures whole { IfOk result (λ answer. HasNoneStuck base.pairs.items ours.pairs.items theirs.pairs.items
         → AnswersMergedByCell job.now.form job.now.columns.now (noted job.now.order)
         (is_none job.now.row_order.files) base.pairs.items ours.pairs.items theirs.pairs.items answer) }
-    ensures conflict { IfOk result (λ answer. HasStuck base.pairs.items ours.pairs.items theirs.pairs.items → Stops answer) }
+    ensures conflict { IfOk result (λ answer.
+        HasStuck base.pairs.items ours.pairs.items theirs.pairs.items → Stops answer) }
 {
     let merged = merge_by_cell_of(job.alloc, base, ours, theirs)?;
     let answer = answer_of_merge(job, merged)?;

@@ -23,7 +23,8 @@ pub fn write_changes(
     changes: Vec<(Key, Change<Group>)>,
 ) -> Result<Vec<u8>, Reason>
     ensures { IfOk result (λ text. text.items ≡ text_of job.now.form
-        (changes_heading job.now.form marked.now ++ changes_rows job.now.columns.now.order.items changes.items)) }
+        (changes_heading job.now.form marked.now
+        ++ changes_rows job.now.columns.now.order.items changes.items)) }
 {
     let mut written = begin_changes(job, marked)?;
     put_changes(&mut written, job.columns, changes)?;
@@ -51,7 +52,8 @@ fn put_changes(
     columns: &Columns,
     changes: Vec<(Key, Change<Group>)>,
 ) -> Result<(), Reason>
-    ensures { OnOk result (PutsRows written.old written.new (changes_rows columns.now.order.items changes.items)) }
+    ensures { OnOk result
+        (PutsRows written.old written.new (changes_rows columns.now.order.items changes.items)) }
 {
     for row in changes {
         put_change(written, columns, &row.0, &row.1)?;
@@ -66,7 +68,8 @@ fn put_change(
     key: &Key,
     change: &Change<Group>,
 ) -> Result<(), Reason>
-    ensures { OnOk result (PutsRows written.old written.new (change_rows columns.now.order.items key.now change.now)) }
+    ensures { OnOk result
+        (PutsRows written.old written.new (change_rows columns.now.order.items key.now change.now)) }
 {
     put_version(written, Sign::Minus, columns, key, old_rows(change))?;
     put_version(written, Sign::Plus, columns, key, new_rows(change))?;

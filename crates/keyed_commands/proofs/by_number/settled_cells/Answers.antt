@@ -1,4 +1,4 @@
-use Rattle.std.proofs.Common.{◌≡◌, ◌∙◌, ◌++◌, ap, append-nil, option_map, sym, Some}
+use Rattle.std.proofs.Common.{◌∙◌, ◌++◌, ap, append-nil, option_map, sym, Some}
 use Rattle.keyed_commands.specs.ByNumber.{settled_cells}
 use Rattle.keyed_commands.proofs.ByNumberLemmas.{cells-then, none-left, settled-more, still}
 use Rattle.keyed_commands.proofs.by_number.settled_cells.Goals as goal
