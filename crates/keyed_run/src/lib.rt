@@ -48,7 +48,7 @@ pub fn run<
     let _second = fs::open(rt, "/dev/null");
     let _third = fs::open(rt, "/dev/null");
     match words_of(rt) {
-        Ok(Words::Text(words)) => answer_words(rt, &words, output, errors),
+        Ok(Words::Text(words)) => run_words(rt, &words, output, errors),
         Ok(Words::NoText(said)) => {
             let _ = eprintln!(rt; "keyed: the command line: {said}");
             TROUBLE
@@ -57,7 +57,10 @@ pub fn run<
     }
 }
 
-fn answer_words<
+/// Answers the words of a command line, the name of the program first, as `run` answers those of its runtime, and returns the status.
+/// Several command lines can be answered in turn: the first that names the standard input reads all of it. Where a standard stream is
+/// closed, a file that is opened takes its place, which only `run` guards against.
+pub fn run_words<
     R: Files + Env + Input + Clock + Print + Eprint + AllocGlobal,
     W: Write + IsTerminal,
     E: IsTerminal,

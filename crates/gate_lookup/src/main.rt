@@ -1,8 +1,0 @@
-//! `keyed` as the gate runs it: rows of a table looked up in another.
-#![tactic(auto)]
-
-use std::process::ExitCode;
-
-fn main(rt: HostRuntime) -> ExitCode {
-    ExitCode::from(keyed_run::run(&rt, &mut rt.stdout(), &rt.stderr()))
-}

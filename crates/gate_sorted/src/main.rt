@@ -1,8 +1,0 @@
-//! `keyed` as the gate runs it: tables whose keys rise, compared as they are read, of which one is the standard input.
-#![tactic(auto)]
-
-use std::process::ExitCode;
-
-fn main(rt: HostRuntime) -> ExitCode {
-    ExitCode::from(keyed_run::run(&rt, &mut rt.stdout(), &rt.stderr()))
-}
