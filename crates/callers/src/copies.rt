@@ -34,7 +34,8 @@ pub fn cloned_numbers(v: &EitherOrBoth<u8, char>) -> Result<EitherOrBoth<u8, cha
 /// A clone keeps the variant, and its place holds what the held type's clone gives.
 pub fn cloned<L: Clone, R: Clone>(v: &Either<L, R>) -> Result<Either<L, R>, AllocError>
     ensures left { IfOk result (λ c. MapsPlace L.is_clone (either.left_place v.now) (either.left_place c)) }
-    ensures right { IfOk result (λ c. MapsPlace R.is_clone (either.right_place v.now) (either.right_place c)) }
+    ensures right { IfOk result (λ c. MapsPlace R.is_clone (either.right_place v.now)
+        (either.right_place c)) }
 {
     v.clone()
 }

@@ -79,7 +79,8 @@ fn total_rows<K: Ord + Drop>(
 ) -> Result<Vec<(K, u64)>, AllocError>
     requires left { Rising K.cmp left.items }
     requires right { Rising K.cmp right.items }
-    ensures { IfOk result (λ rows. IsKeptOfJoin K.cmp (λ v. Some (added v)) left.items right.items rows.items) }
+    ensures { IfOk result (λ rows. IsKeptOfJoin K.cmp (λ v. Some (added v))
+        left.items right.items rows.items) }
 {
     outer_join_lazily(left, right)
         .filter_map(total_row)
@@ -143,7 +144,8 @@ pub fn patched_texts<K: Ord + Drop>(
     requires old { Rising K.cmp old.items }
     requires new { Rising K.cmp new.items }
     ensures { IfOk result (λ rows. (k : _)
-        → option_eq ⟦<String as PartialEq>⟧.eq (value_under K.cmp rows.items k) (value_under K.cmp new.items k) ≡ true) }
+        → option_eq ⟦<String as PartialEq>⟧.eq (value_under K.cmp rows.items k)
+        (value_under K.cmp new.items k) ≡ true) }
 {
     law_changed_alike::<String>();
     let changes = diff(alloc, old, new)?;
@@ -157,7 +159,8 @@ pub fn rows_with_values<'a, K: Drop, A: Drop, R: Lookup<K>>(
     left: Vec<(K, A)>,
     right: &'a R,
 ) -> Result<Vec<LookupRow<'a, K, A, R::Value>>, AllocError>
-    ensures { IfOk result (λ rows. map shown_lookup rows.items ≡ map (with_found (R.finds right.now)) left.items) }
+    ensures { IfOk result (λ rows. map shown_lookup rows.items
+        ≡ map (with_found (R.finds right.now)) left.items) }
 {
     lookup_join(alloc, left, right)
 }

@@ -2,7 +2,8 @@
 //! pair taken apart, and the first difference.
 ghost use Rattle.std.specs.Prelude.{◌≡◌, ◌+◌, ◌^◌, ◌<◌};
 ghost use Rattle.either_or_both.specs.Either as either;
-ghost use Rattle.either_or_both.specs.Prelude.{IfOk, IfSome, agrees, false, filter_map, length, map_places, pair_of};
+ghost use Rattle.either_or_both.specs.Prelude.{IfOk, IfSome, agrees, false, filter_map, length, map_places};
+ghost use Rattle.either_or_both.specs.Prelude.{pair_of};
 ghost use Rattle.either_or_both.specs.Prelude.{result_err, result_ok, unwrap_or};
 
 use either_or_both::difference::first_difference;

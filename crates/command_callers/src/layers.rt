@@ -42,7 +42,8 @@ fn overlay_two<'a, R: Read + Drop>(
     below: Stream<'a, R>,
     above: Stream<'a, R>,
 ) -> Result<Answer, Fault<'a>>
-    ensures { IfOk result (OverlaysStreams R.remaining settings.entry layer (below.entry ∷ above.entry ∷ [])) }
+    ensures { IfOk result (OverlaysStreams R.remaining settings.entry layer
+        (below.entry ∷ above.entry ∷ [])) }
 {
     let file = below.file;
     match two_of(alloc, below, above) {

@@ -333,7 +333,8 @@ pub fn outer_join(alloc: Global) -> Result<Answer, Fault<'static>>
 /// Returns the errors of `join`.
 pub fn shared_column(alloc: Global) -> Result<Answer, Fault<'static>>
     ensures status { IfOk result (λ answer. answer.status ≡ 0) }
-    ensures bytes { IfOk result (λ answer. answer.bytes.items ≡ codes "side,id,left.a,right.a\nboth,1,x,y\n") }
+    ensures bytes { IfOk result (λ answer. answer.bytes.items
+        ≡ codes "side,id,left.a,right.a\nboth,1,x,y\n") }
 {
     let left = file!("left.csv", b"id,a\n1,x\n");
     let right = file!("right.csv", b"id,a\n1,y\n");

@@ -1,7 +1,8 @@
 //! A merge of three versions of a table whose rows are lists of cells, cell by cell.
 ghost use Rattle.std.specs.Prelude.{◌≡◌, IfOk};
 ghost use Rattle.eob_lists.specs.Join.{Rising};
-ghost use Rattle.eob_joins.specs.Cells.{GivesByCell, KeepsCells, MergedRow, StuckByCellLaw, can_by_cell, same_length};
+ghost use Rattle.eob_joins.specs.Cells.{GivesByCell, KeepsCells, MergedRow, StuckByCellLaw, can_by_cell};
+ghost use Rattle.eob_joins.specs.Cells.{same_length};
 ghost use Rattle.eob_joins.specs.Settled.{IsMergeWith, Settles};
 
 use crate::cells::{has_cell_conflict, merge_cells_in_place};

@@ -1,6 +1,7 @@
 //! Three rows of cells merged cell by cell.
 ghost use Rattle.std.specs.Prelude.{◌≡◌, IfOk, IfSome, is_none, length, if◌then◌else◌};
-ghost use Rattle.eob_joins.specs.Cells.{AreClonesOfMerged, AreMergedCells, CellsClashLaw, cell_clashes, cells_clash};
+ghost use Rattle.eob_joins.specs.Cells.{AreClonesOfMerged, AreMergedCells, CellsClashLaw, cell_clashes};
+ghost use Rattle.eob_joins.specs.Cells.{cells_clash};
 
 use std::alloc::{AllocError, Global};
 use std::mem::swap;
@@ -108,7 +109,8 @@ fn cloned_cells<C: Eq + Clone>(
 
 // A clone of the merged cell.
 fn cloned_cell<C: Eq + Clone>(base: &C, ours: &C, theirs: &C) -> Result<C, AllocError>
-    ensures { IfOk result (λ cell. C.is_clone (if C.eq base.now ours.now then theirs.now else ours.now) cell) }
+    ensures { IfOk result (λ cell.
+        C.is_clone (if C.eq base.now ours.now then theirs.now else ours.now) cell) }
 {
     if base == ours {
         theirs.clone()

@@ -83,7 +83,8 @@ fn upper_rows<K: Ord + Drop, W: Drop, M: Allocator>(
 ) -> Result<Vec<(K, W), M>, AllocError>
     requires rows { Rising K.cmp rows.items }
     requires over { Rising K.cmp over.items }
-    ensures { IfOk result (λ all. IsKeptOfJoin K.cmp (λ v. Some (overlaid v)) rows.items over.items all.items) }
+    ensures { IfOk result (λ all. IsKeptOfJoin K.cmp (λ v. Some (overlaid v))
+        rows.items over.items all.items) }
 {
     kept_rows(alloc, rows, over, upper)
 }

@@ -89,7 +89,8 @@ pub fn lookup_join<'a, K: Drop, A: Drop, R: Lookup<K>, M: Allocator>(
     left: Vec<(K, A), M>,
     right: &'a R,
 ) -> Result<Vec<LookupRow<'a, K, A, R::Value>, M>, AllocError>
-    ensures { IfOk result (λ rows. map shown_lookup rows.items ≡ map (with_found (R.finds right.now)) left.items) }
+    ensures { IfOk result (λ rows. map shown_lookup rows.items
+        ≡ map (with_found (R.finds right.now)) left.items) }
 {
     let rows = push_all(alloc, lookup_join_lazily(left, right))?;
     Ok(rows)

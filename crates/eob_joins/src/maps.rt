@@ -11,7 +11,8 @@ ghost use Rattle.std.specs.List.{IsDistinct};
 ghost use Rattle.std.specs.Map.{keys_of};
 ghost use Rattle.indexmap.specs.IndexMap.{insert_all, insert_entry};
 ghost use Rattle.eob_lists.specs.Places.{left_place, right_place};
-ghost use Rattle.eob_joins.specs.MapJoin.{AddsRight, AddsRights, IsMapJoin, IsMapOverlay, MapPartsLaw, lefts_of};
+ghost use Rattle.eob_joins.specs.MapJoin.{AddsRight, AddsRights, IsMapJoin, IsMapOverlay, MapPartsLaw};
+ghost use Rattle.eob_joins.specs.MapJoin.{lefts_of};
 
 use eob_lists::EitherOrBoth;
 use indexmap::IndexMap;

@@ -1,5 +1,6 @@
 //! The files of the parts of a table, while its rows are dealt into them.
-ghost use Rattle.std.specs.Prelude.{◌≡◌, ◌↔◌, ◌<◌, ◌+◌, ◌-◌, ◌^◌, ◌∷◌, ◌++◌, [], IfOk, IsTrue, OnOk, length, min};
+ghost use Rattle.std.specs.Prelude.{◌≡◌, ◌↔◌, ◌<◌, ◌+◌, ◌-◌, ◌^◌, ◌∷◌, ◌++◌, [], IfOk, IsTrue, OnOk};
+ghost use Rattle.std.specs.Prelude.{length, min};
 ghost use Rattle.std.specs.Prelude.{unwrap_or};
 ghost use Rattle.csv.specs.Records.{field_at, fields_of};
 ghost use Rattle.keyed_text.specs.Streams.{PutsCells, PutsRows};
@@ -270,7 +271,8 @@ fn put_at<W: Write + Drop>(
     row: &ByteRecord,
 ) -> Result<(), csv::Error>
     requires { place < length writers.old.items }
-    ensures { OnOk result (PutsRowAt W.contents place (fitted count (fields_of row.now)) writers.old.items writers.new.items) }
+    ensures { OnOk result (PutsRowAt W.contents place (fitted count (fields_of row.now))
+        writers.old.items writers.new.items) }
 {
     put_fitted(&mut writers[place], count, row)?;
     Ok(())
@@ -282,7 +284,8 @@ fn put_fitted<W: Write + Drop>(
     count: usize,
     row: &ByteRecord,
 ) -> Result<(), csv::Error>
-    ensures { OnOk result (PutsRows W.contents writer.old writer.new (fitted count (fields_of row.now) ∷ [])) }
+    ensures { OnOk result (PutsRows W.contents writer.old writer.new
+        (fitted count (fields_of row.now) ∷ [])) }
 {
     if has_count(row, count) {
         writer.put_row(row)?;

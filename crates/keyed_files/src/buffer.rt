@@ -1,5 +1,6 @@
 //! Bytes that are read from a file and not taken yet.
-ghost use Rattle.std.specs.Prelude.{◌≡◌, ◌↔◌, ◌+◌, ◌<◌, ◌≤◌, [], IfOk, IsTrue, OnErr, drop, slice_range, take, vec_len};
+ghost use Rattle.std.specs.Prelude.{◌≡◌, ◌↔◌, ◌+◌, ◌<◌, ◌≤◌, [], IfOk, IsTrue, OnErr, drop, slice_range};
+ghost use Rattle.std.specs.Prelude.{take, vec_len};
 ghost use Rattle.std.specs.Io.KnownBytes.{Consumes, IsAtEnd, Keeps, prepend_known};
 
 use std::alloc::{AllocError, Global};
@@ -92,8 +93,10 @@ impl Buffer {
     /// Returns the error of the reader.
     pub fn read_behind<R: Read>(&mut self, inner: &mut R) -> io::Result<usize>
         ensures kept { Keeps
-            (prepend_known (slice_range self.old.bytes.items self.old.at self.old.filled) (R.remaining inner.old))
-            (prepend_known (slice_range self.new.bytes.items self.new.at self.new.filled) (R.remaining inner.new)) }
+            (prepend_known (slice_range self.old.bytes.items self.old.at self.old.filled)
+            (R.remaining inner.old))
+            (prepend_known (slice_range self.new.bytes.items self.new.at self.new.filled)
+            (R.remaining inner.new)) }
         ensures at { self.new.at ≡ self.old.at }
         ensures count { IfOk result (λ count. self.new.filled ≡ self.old.filled + count) }
         ensures end { IfOk result (λ count. count ≡ 0 → self.old.filled < vec_len self.old.bytes
@@ -113,7 +116,8 @@ fn read_from<R: Read>(inner: &mut R, bytes: &mut Vec<u8>, from: usize) -> io::Re
     ensures bound { IfOk result (λ count. from + count ≤ vec_len bytes.new) }
     ensures taken { IfOk result (λ count.
         Consumes (R.remaining inner.old) (R.remaining inner.new) (take count (drop from bytes.new.items))) }
-    ensures end { IfOk result (λ count. count ≡ 0 → from < vec_len bytes.old → IsAtEnd (R.remaining inner.new)) }
+    ensures end { IfOk result (λ count. count ≡ 0 → from < vec_len bytes.old
+        → IsAtEnd (R.remaining inner.new)) }
     ensures failed { OnErr result (Keeps (R.remaining inner.old) (R.remaining inner.new)) }
 {
     inner.read(&mut bytes.as_mut_slice()[from..])

@@ -2,7 +2,8 @@
 ghost use Rattle.std.specs.Prelude.{◌≡◌, ◌++◌, [], IfErr, IfOk, None, OnOk, false, map, nat_eq, option_map};
 ghost use Rattle.std.specs.Cmp.Lexicographic.{pointwise};
 ghost use Rattle.indexmap.specs.IndexSet.{insert_all};
-ghost use Rattle.keyed_files.specs.JoinedNames.{ExplainsNames, found_names, joined_names, left_names, option_for};
+ghost use Rattle.keyed_files.specs.JoinedNames.{ExplainsNames, found_names, joined_names, left_names};
+ghost use Rattle.keyed_files.specs.JoinedNames.{option_for};
 ghost use Rattle.keyed_files.specs.JoinedNames.{right_names, side_column, told_apart};
 ghost use Rattle.keyed_files.specs.Names.{names_in, repeats};
 ghost use Rattle.keyed_files.specs.Rows.{first_cells, placed};
@@ -46,7 +47,8 @@ fn names_of_both(
     names: JoinNames<'_>,
     columns: &JoinColumns,
 ) -> Result<Cells, AllocError>
-    ensures { IfOk result (λ header. header ≡ ((first_cells (option_map (λ name. name.now) side.entry) ++ columns.now.left.key)
+    ensures { IfOk result (λ header. header
+        ≡ ((first_cells (option_map (λ name. name.now) side.entry) ++ columns.now.left.key)
         ++ left_names names.entry columns.now) ++ right_names names.entry columns.now) }
 {
     let (left, right) = (&columns.left, &columns.right);
@@ -84,7 +86,8 @@ pub fn lookup_header(
 ) -> Result<Cells, Reason>
     ensures names { IfOk result (λ names. names ≡ found_names how.entry.kind how.entry.names columns.now) }
     ensures once { IfOk result (λ names. repeats [] names ≡ false) }
-    ensures twice { IfErr result (ExplainsNames None (found_names how.entry.kind how.entry.names columns.now)) }
+    ensures twice { IfErr result (ExplainsNames None
+        (found_names how.entry.kind how.entry.names columns.now)) }
 {
     let header = match how.kind {
         LookupKind::Left | LookupKind::Inner => names_found(alloc, how.names, columns)?,
@@ -133,7 +136,8 @@ fn names_placed(alloc: Global, columns: &Columns, rest: &Cells) -> Result<Cells,
 
 // The names of all columns of the left table.
 fn names_of_left(alloc: Global, left: &Columns) -> Result<Names, AllocError>
-    ensures { IfOk result (λ names. names_in names ≡ insert_all (pointwise nat_eq) [] (left.now.key ++ left.now.rest)) }
+    ensures { IfOk result (λ names. names_in names
+        ≡ insert_all (pointwise nat_eq) [] (left.now.key ++ left.now.rest)) }
 {
     let mut names = Names::of_cells(alloc, &left.key)?;
     names.add_all(alloc, &left.rest)?;
@@ -148,7 +152,8 @@ fn put_told(
     names: &Cells,
     others: &Names,
 ) -> Result<(), AllocError>
-    ensures { OnOk result (header.new ≡ header.old ++ map (told_apart word.now (names_in others.now)) names.now) }
+    ensures { OnOk result (header.new ≡ header.old
+        ++ map (told_apart word.now (names_in others.now)) names.now) }
 {
     for name in names {
         let mut told = Vec::new(alloc);

@@ -63,7 +63,8 @@ impl Written {
         sides: Sides<'_>,
         left: usize,
     ) -> Result<(), Reason>
-        ensures { OnOk result (PutsRows self.old self.new (rows_beside columns.now key.now sides.entry left)) }
+        ensures { OnOk result (PutsRows self.old self.new
+            (rows_beside columns.now key.now sides.entry left)) }
     {
         for right in 0..count_of(sides.right) {
             self.put_pair(columns, key, sides, left, right)?;
@@ -80,7 +81,8 @@ impl Written {
         left: usize,
         right: usize,
     ) -> Result<(), Reason>
-        ensures { OnOk result (PutsRows self.old self.new (joined_row columns.now key.now sides.entry left right ∷ [])) }
+        ensures { OnOk result (PutsRows self.old self.new
+            (joined_row columns.now key.now sides.entry left right ∷ [])) }
     {
         self.put_first(sides.first)?;
         self.put_key(key)?;

@@ -1,9 +1,11 @@
 //! The names of the columns that are the key, as they are given.
-ghost use Rattle.std.specs.Prelude.{◌≡◌, ◌==◌, ◌++◌, ◌∷◌, [], IfOk, OnOk, false, option_and_then, option_map, slice_get};
+ghost use Rattle.std.specs.Prelude.{◌≡◌, ◌==◌, ◌++◌, ◌∷◌, [], IfOk, OnOk, false, option_and_then};
+ghost use Rattle.std.specs.Prelude.{option_map, slice_get};
 ghost use Rattle.std.specs.Prelude.{true};
 ghost use Rattle.csv.specs.Records.{fields_of};
 ghost use Rattle.keyed_text.specs.Streams.{GivesRow};
-ghost use Rattle.keyed_files.specs.KeyText.{AreNamesIn, AreNamesOf, EndsNames, GivesNames, HasNames, ReadsByte};
+ghost use Rattle.keyed_files.specs.KeyText.{AreNamesIn, AreNamesOf, EndsNames, GivesNames, HasNames};
+ghost use Rattle.keyed_files.specs.KeyText.{ReadsByte};
 ghost use Rattle.keyed_files.specs.KeyText.{begins_well, doubled, other_in, read_of, text_left};
 ghost use Rattle.keyed_files.specs.Names.{place_in, renamed};
 ghost use Rattle.keyed_files.specs.NewColumns.{HasOnce};

@@ -1,5 +1,6 @@
 //! What follows of the columns of every table. Calling one of these functions does nothing: its contract gives the caller's proof the law.
-ghost use Rattle.keyed_files.specs.ColumnLaws.{KeepsNamesLaw, NamesOnceLaw, PlacesCellsLaw, PutsBackLaw, WritesNamesLaw};
+ghost use Rattle.keyed_files.specs.ColumnLaws.{KeepsNamesLaw, NamesOnceLaw, PlacesCellsLaw, PutsBackLaw};
+ghost use Rattle.keyed_files.specs.ColumnLaws.{WritesNamesLaw};
 
 /// No name of a header is lost and none comes: the names beside a key are those of the headers that are none of the key.
 pub fn law_keeps_names()

@@ -93,7 +93,8 @@ impl Written {
     ///
     /// Returns the errors of `put_found`.
     pub fn put_lone(&mut self, columns: &Columns, key: &Key, rest: &Cells) -> Result<(), Reason>
-        ensures { OnOk result (PutsRows self.old self.new (placed columns.now.order.items key.now rest.now ∷ [])) }
+        ensures { OnOk result (PutsRows self.old self.new
+            (placed columns.now.order.items key.now rest.now ∷ [])) }
     {
         self.put_placed(&columns.order, key, rest)?;
         self.end_row()?;

@@ -4,7 +4,8 @@ ghost use Rattle.keyed_files.specs.ChangedColumns.{marked_names};
 ghost use Rattle.keyed_files.specs.Gone.{IsGoneRead};
 ghost use Rattle.keyed_files.specs.Keys.{AreChangeColumns, AreChangedColumnsBy, AreColumnsBy, AreJoinColumns};
 ghost use Rattle.keyed_files.specs.Names.{compared};
-ghost use Rattle.keyed_files.specs.Opening.{IsNamedAnew, IsOpened, IsRenamed, first_header, headers_of, next_header};
+ghost use Rattle.keyed_files.specs.Opening.{IsNamedAnew, IsOpened, IsRenamed, first_header, headers_of};
+ghost use Rattle.keyed_files.specs.Opening.{next_header};
 ghost use Rattle.keyed_files.specs.declared.source.Content.TheVariants.{Rows};
 
 use crate::column_changes::ColumnChanges;

@@ -1,7 +1,8 @@
 //! A table whose keys are strictly increasing, read part by part.
 ghost use Rattle.std.specs.Prelude.{◌≡◌, ◌++◌, ◌∷◌, [], ℕ, IfOk, List, MatchOption, None, OnOk, Option, Some};
 ghost use Rattle.std.specs.Prelude.{cond, false, is_some, option_map, true};
-ghost use Rattle.keyed_files.specs.Parts.{Fills, HasParts, IsFull, IsStep, RisesTo, TakesUpTo, first_within, keys_in, rises_behind};
+ghost use Rattle.keyed_files.specs.Parts.{Fills, HasParts, IsFull, IsStep, RisesTo, TakesUpTo};
+ghost use Rattle.keyed_files.specs.Parts.{first_within, keys_in, rises_behind};
 ghost use Rattle.keyed_files.specs.Reading.{HasGiven, PlacesOf};
 
 use crate::columns::Columns;
@@ -37,7 +38,8 @@ impl<'a, R: Read + Drop> Parts<'a, R> {
     pub fn new(alloc: Global, table: Opened<'a, R>, columns: &Columns) -> Result<Self, Fault<'a>>
         ensures places { IfOk result (λ parts. PlacesOf table.entry.source.value columns.now parts.places) }
         ensures rises { IfOk result (λ parts. RisesTo (keys_in parts.waiting.items) parts.last) }
-        ensures begins { IfOk result (λ parts. (d : ℕ) (c : Option ℕ) (text : List ℕ) (given : List (List (List ℕ)))
+        ensures begins { IfOk result (λ parts. (d : ℕ) (c : Option ℕ) (text : List ℕ)
+            (given : List (List (List ℕ)))
             → HasGiven d c R.remaining text given table.entry.source.value
             → HasParts R.remaining d c text given [] parts) }
     {

@@ -1,9 +1,11 @@
 //! A file read row by row: the header first, and then the rows under the columns that are wanted.
-ghost use Rattle.std.specs.Prelude.{◌≡◌, ◌≢◌, ◌≤◌, ◌∷◌, [], ℕ, IfErr, IfOk, IfSome, IsNone, MatchBool, OnOk, Some, is_some, map};
+ghost use Rattle.std.specs.Prelude.{◌≡◌, ◌≢◌, ◌≤◌, ◌∷◌, [], ℕ, IfErr, IfOk, IfSome, IsNone, MatchBool};
+ghost use Rattle.std.specs.Prelude.{OnOk, Some, is_some, map};
 ghost use Rattle.std.specs.Io.KnownBytes.{Keeps};
 ghost use Rattle.csv.specs.Records.{field_at, fields_of};
 ghost use Rattle.keyed_text.specs.Streams.{GivesRow, HasRead};
-ghost use Rattle.keyed_files.specs.Explained.{BreaksCount, ExplainsRow, ExplainsSigned, FitsCount, IsOutside, IsWrongCount};
+ghost use Rattle.keyed_files.specs.Explained.{BreaksCount, ExplainsRow, ExplainsSigned, FitsCount};
+ghost use Rattle.keyed_files.specs.Explained.{IsOutside, IsWrongCount};
 ghost use Rattle.keyed_files.specs.declared.fault.Reason.TheVariants.{NoSign};
 ghost use Rattle.keyed_files.specs.Going.{GoneSaid};
 ghost use Rattle.keyed_files.specs.Gone.{KnowsGone};
@@ -173,8 +175,10 @@ impl<R: Read + Drop> Source<R> {
     pub fn read_key(&mut self, places: &Places) -> Result<Option<Key>, Reason>
         ensures gives { IfOk result (λ key. GivesRecord R.remaining self.old self.new (is_some key)) }
         ensures header { self.new.header ≡ self.old.header }
-        ensures key { IfOk result (λ key. IfSome key (λ key. key ≡ key_in places.now (last_record self.new))) }
-        ensures signed { IfOk result (λ key. IfSome key (λ _. HasSign self.new.content (last_record self.new))) }
+        ensures key { IfOk result (λ key. IfSome key
+            (λ key. key ≡ key_in places.now (last_record self.new))) }
+        ensures signed { IfOk result (λ key. IfSome key
+            (λ _. HasSign self.new.content (last_record self.new))) }
     {
         if self.read_record()? {
             let line = self.row_line();
@@ -242,7 +246,8 @@ impl<R: Read + Drop> Source<R> {
 
     // Reads the next record, or says that there is none.
     fn read_next(&mut self) -> Result<bool, Reason>
-        ensures gives { IfOk result (λ found. self.old.next ≡ Read → GivesRecord R.remaining self.old self.new found) }
+        ensures gives { IfOk result (λ found. self.old.next ≡ Read
+            → GivesRecord R.remaining self.old self.new found) }
         ensures header { self.new.header ≡ self.old.header }
         ensures why { IfErr result (ExplainsRow self.new) }
     {
@@ -320,8 +325,10 @@ fn header_of(
     row: &ByteRecord,
     line: u64,
 ) -> Result<Header, AllocError>
-    ensures names { IfOk result (λ header. HeaderOf form.has_header content has_first (fields_of row.now) header.names) }
-    ensures gone { content ≡ Changes → IfOk result (λ header. GoneSaid has_first form.has_header (fields_of row.now) header.gone) }
+    ensures names { IfOk result (λ header. HeaderOf form.has_header content has_first
+        (fields_of row.now) header.names) }
+    ensures gone { content ≡ Changes → IfOk result
+        (λ header. GoneSaid has_first form.has_header (fields_of row.now) header.gone) }
 {
     let before = cells_before(content);
     if !has_first {
@@ -351,7 +358,8 @@ fn begin_rows<R: Read + Drop>(
 
 // The lines of a file that is text, or is to be read as it is.
 fn begin_lines<R: Read + Drop>(alloc: Global, reader: R, form: Form) -> Result<ByLine<R>, Reason>
-    ensures { IfOk result (λ lines. Keeps (text_read form (R.remaining reader)) (lines_left R.remaining lines)) }
+    ensures { IfOk result (λ lines. Keeps (text_read form (R.remaining reader))
+        (lines_left R.remaining lines)) }
 {
     let mut lines = ByLine::new(alloc, reader, form.reading)?;
     let encoding = lines.begin()?;
@@ -388,7 +396,8 @@ fn read_record<R: Read>(
     reader: &mut RowReader<Checked<R>>,
     row: &mut ByteRecord,
 ) -> Result<bool, Reason>
-    ensures gives { IfOk result (λ found. GivesRow (checked_left R.remaining) reader.old reader.new found (fields_of row.new)) }
+    ensures gives { IfOk result (λ found. GivesRow (checked_left R.remaining) reader.old reader.new
+        found (fields_of row.new)) }
     ensures why { IfErr result IsOutside }
 {
     let outcome = reader.read_row(row);
@@ -407,7 +416,8 @@ fn read_record<R: Read>(
 fn sign_of(line: u64, row: &ByteRecord) -> Result<Sign, Reason>
     ensures sign { IfOk result (λ sign. field_at (fields_of row.now) 0 ≡ Some (shown_sign sign)) }
     ensures why { IfErr result (λ reason. (reason ≡ NoSign line)
-        × (field_at (fields_of row.now) 0 ≢ Some (45 ∷ [])) × (field_at (fields_of row.now) 0 ≢ Some (43 ∷ []))) }
+        × (field_at (fields_of row.now) 0 ≢ Some (45 ∷ []))
+        × (field_at (fields_of row.now) 0 ≢ Some (43 ∷ []))) }
 {
     match row.get(0) {
         Some(cell) => match Sign::of_cell(cell) {

@@ -1,6 +1,7 @@
 //! Rows written as CSV, in memory.
 ghost use Rattle.std.specs.Prelude.{◌≡◌, ◌∷◌, ◌++◌, [], List, ℕ, IfOk, OnOk, option_map};
-ghost use Rattle.keyed_files.specs.Rows.{first_cells, has_heading, heading, names_row, placed, rows_under, shown_sign, table_rows};
+ghost use Rattle.keyed_files.specs.Rows.{first_cells, has_heading, heading, names_row, placed, rows_under};
+ghost use Rattle.keyed_files.specs.Rows.{shown_sign, table_rows};
 ghost use Rattle.keyed_files.specs.Writing.{EndsRow, IsTextOf, PutsCells, PutsRows, Wrote, quoted_text};
 
 use crate::checked::marks_of;
@@ -117,7 +118,8 @@ impl Written {
         rest: &Cells,
     ) -> Result<(), Reason>
         ensures { OnOk result (PutsRows self.old self.new
-            ((first_cells (option_map (λ cell. cell.now) first.entry) ++ placed order.now key.now rest.now) ∷ [])) }
+            ((first_cells (option_map (λ cell. cell.now) first.entry)
+            ++ placed order.now key.now rest.now) ∷ [])) }
     {
         self.put_first(first)?;
         self.put_placed(order, key, rest)?;

@@ -1,8 +1,10 @@
 //! A number as it is written: which bytes are one, and its digits by their places.
-ghost use Rattle.std.specs.Prelude.{◌≡◌, ◌+◌, ◌*◌, ◌^◌, ◌<◌, ◌≤◌, cond, get_or, length, option_map, Some, IfSome, None, ◌&&◌, nat_lt};
+ghost use Rattle.std.specs.Prelude.{◌≡◌, ◌+◌, ◌*◌, ◌^◌, ◌<◌, ◌≤◌, cond, get_or, length, option_map, Some};
+ghost use Rattle.std.specs.Prelude.{IfSome, None, ◌&&◌, nat_lt};
 ghost use Rattle.std.specs.List.{before_first, position};
 ghost use Rattle.keyed_numbers.specs.Digits.{digits_value, value_of};
-ghost use Rattle.keyed_numbers.specs.Numbers.{are_digits, behind_first, has_minus, is_either, number_in, power_in, power_of, unsigned};
+ghost use Rattle.keyed_numbers.specs.Numbers.{are_digits, behind_first, has_minus, is_either, number_in};
+ghost use Rattle.keyed_numbers.specs.Numbers.{power_in, power_of, unsigned};
 ghost use Rattle.keyed_numbers.specs.Decimals.{number_of};
 
 // The power of ten that stands for 10 to the power 0: powers are counted from -9,999, which is the least.
@@ -198,7 +200,8 @@ fn power_in(bytes: &[u8]) -> Option<u16>
 
 // The number that one to four digits are, or None where bytes are no such.
 fn value_of_few(digits: &[u8]) -> Option<u16>
-    ensures value { result ≡ cond (are_digits digits.now && nat_lt 0 (length digits.now) && nat_lt (length digits.now) 5)
+    ensures value { result ≡ cond (are_digits digits.now && nat_lt 0 (length digits.now)
+        && nat_lt (length digits.now) 5)
         (Some (digits_value digits.now)) None }
     ensures bound { IfSome result (λ value. value ≤ 9999) }
 {

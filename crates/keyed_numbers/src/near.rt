@@ -69,7 +69,8 @@ fn is_difference_within(depth: u128, three: Three<'_>) -> bool
     ensures { result ≡ (nat_le (positional (digit_of three.entry.number) depth)
         (positional (digit_of three.entry.other) depth + positional (digit_of three.entry.tolerance) depth)
         && nat_le (positional (digit_of three.entry.other) depth)
-        (positional (digit_of three.entry.number) depth + positional (digit_of three.entry.tolerance) depth)) }
+        (positional (digit_of three.entry.number) depth
+        + positional (digit_of three.entry.tolerance) depth)) }
 {
     let Three {
         number,
@@ -82,7 +83,8 @@ fn is_difference_within(depth: u128, three: Three<'_>) -> bool
 
 // Whether two numbers without their signs come to no more than the tolerance.
 fn is_sum_within(depth: u128, three: Three<'_>) -> bool
-    ensures { result ≡ nat_le (positional (digit_of three.entry.number) depth + positional (digit_of three.entry.other) depth)
+    ensures { result ≡ nat_le (positional (digit_of three.entry.number) depth
+        + positional (digit_of three.entry.other) depth)
         (positional (digit_of three.entry.tolerance) depth) }
 {
     is_at_most(
@@ -111,7 +113,8 @@ fn both<'a>(first: Aligned<'a>, next: Aligned<'a>) -> Sum<'a>
 
 // The place above the first digit of any of three numbers.
 fn top_of(number: Decimal<'_>, other: Decimal<'_>, tolerance: Decimal<'_>) -> u128
-    ensures value { result ≡ top_of (number_of number.entry) (number_of other.entry) (number_of tolerance.entry) }
+    ensures value { result ≡ top_of (number_of number.entry) (number_of other.entry)
+        (number_of tolerance.entry) }
     ensures bound { result < 2 ^ 65 }
 {
     number.top().max(other.top()).max(tolerance.top())

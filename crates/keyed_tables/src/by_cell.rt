@@ -3,7 +3,8 @@ ghost use Rattle.std.specs.Prelude.{◌≡◌, IfOk, Some, map, option_map, zip}
 ghost use Rattle.eob_both.specs.Places.{item_left, item_right, left_place, right_place};
 ghost use Rattle.eob_joins.specs.Cells.{cell_clashes, cells_clash, same_length};
 ghost use Rattle.eob_joins.specs.Settled.{IsMergeWith, Settles};
-ghost use Rattle.keyed_tables.specs.RowsByCell.{GivesRow, IsMergedRow, IsSettledRow, can_by_row, cell_eq, cell_of, one_row, only_row};
+ghost use Rattle.keyed_tables.specs.RowsByCell.{GivesRow, IsMergedRow, IsSettledRow, can_by_row, cell_eq};
+ghost use Rattle.keyed_tables.specs.RowsByCell.{cell_of, one_row, only_row};
 
 use crate::table::Rows;
 use eob_joins::{Merged, Settle, Versions, merge_versions_with};

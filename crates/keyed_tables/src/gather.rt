@@ -1,5 +1,6 @@
 //! From the rows of a file to a table.
-ghost use Rattle.std.specs.Prelude.{◌≡◌, All, IfErr, IfOk, OnOk, ◌∷◌, drop, find, length, map, option_map, zip};
+ghost use Rattle.std.specs.Prelude.{◌≡◌, All, IfErr, IfOk, OnOk, ◌∷◌, drop, find, length, map, option_map};
+ghost use Rattle.std.specs.Prelude.{zip};
 ghost use Rattle.std.specs.Ordering.{is_eq, on, then_cmp};
 ghost use Rattle.eob_joins.specs.Groups.{key_runs, run_rest, run_values};
 ghost use Rattle.keyed_tables.specs.Gathered.{AloneLaw, AreInOrder, HoldsRows, alone};

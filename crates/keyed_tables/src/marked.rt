@@ -49,7 +49,8 @@ pub fn marked_merge_by_cell_of(
     ours: Rows<Key, Group>,
     theirs: Rows<Key, Group>,
 ) -> Result<Vec<(Key, Marked<Group>)>, AllocError>
-    ensures { IfOk result (λ rows. IsMarkedMerge ⟦<Key as Ord>⟧.cmp ⟦<Group as PartialEq>⟧.eq can_by_row GivesRow
+    ensures { IfOk result (λ rows. IsMarkedMerge ⟦<Key as Ord>⟧.cmp ⟦<Group as PartialEq>⟧.eq
+        can_by_row GivesRow
         base.pairs.items ours.pairs.items theirs.pairs.items rows.items) }
 {
     marked_merge(alloc, base, ours, theirs, &RowByCell::new(alloc))
@@ -92,7 +93,8 @@ fn marked_rows<K: Drop, V: Eq + Drop, S: Settle<V>>(
     all: Vec<(K, Versions<V>)>,
     rule: &S,
 ) -> Result<Vec<(K, Marked<V>)>, AllocError>
-    ensures { IfOk result (λ rows. KeptAs (MarkedAs V.eq (S.can rule.now) (S.gives rule.now)) all.items rows.items) }
+    ensures { IfOk result (λ rows. KeptAs (MarkedAs V.eq (S.can rule.now) (S.gives rule.now))
+        all.items rows.items) }
 {
     let mut rows = Vec::new(alloc);
     for (key, versions) in all {

@@ -22,7 +22,8 @@ pub fn laid_over<K: Ord + Drop, V: Drop>(
     below: Rows<K, V>,
     above: Rows<K, V>,
 ) -> Result<Rows<K, V>, AllocError>
-    ensures { IfOk result (λ rows. IsLaidBy K.cmp overlaid below.pairs.items above.pairs.items rows.pairs.items) }
+    ensures { IfOk result (λ rows. IsLaidBy K.cmp overlaid
+        below.pairs.items above.pairs.items rows.pairs.items) }
 {
     let joined = outer_join(alloc, below.pairs, above.pairs)?;
     let pairs = upper_rows(alloc, joined)?;
@@ -40,8 +41,10 @@ pub fn filled_over(
     below: Rows<Key, Group>,
     above: Rows<Key, Group>,
 ) -> Result<Rows<Key, Group>, AllocError>
-    ensures cells { IfOk result (λ rows. IsLaidBy ⟦<Key as Ord>⟧.cmp filled below.pairs.items above.pairs.items rows.pairs.items) }
-    ensures keys { IfOk result (λ rows. (zs : List (List (List ℕ) × EitherOrBoth (List (List (List ℕ))) (List (List (List ℕ)))))
+    ensures cells { IfOk result (λ rows. IsLaidBy ⟦<Key as Ord>⟧.cmp filled
+        below.pairs.items above.pairs.items rows.pairs.items) }
+    ensures keys { IfOk result (λ rows.
+        (zs : List (List (List ℕ) × EitherOrBoth (List (List (List ℕ))) (List (List (List ℕ)))))
         × IsJoin ⟦<Key as Ord>⟧.cmp below.pairs.items above.pairs.items zs
         × (keys_of rows.pairs.items ≡ keys_of zs)) }
 {
@@ -120,7 +123,8 @@ fn filled_group(alloc: Global, below: &Group, above: Group) -> Result<Group, All
 
 // The cells of two rows, where there is one of each.
 fn filled_only(alloc: Global, below: &[Cells], above: &[Cells]) -> Result<Option<Cells>, AllocError>
-    ensures { IfOk result (λ made. filled_rows below.now above.now ≡ unwrap_or (option_map (λ cells. cells ∷ []) made) above.now) }
+    ensures { IfOk result (λ made. filled_rows below.now above.now
+        ≡ unwrap_or (option_map (λ cells. cells ∷ []) made) above.now) }
 {
     if let [row] = below {
         if let [over] = above {

@@ -30,7 +30,8 @@ fn list_keys(
     ours: &IndexSet<Key>,
     theirs: &IndexSet<Key>,
 ) -> Result<Vec<Key>, AllocError>
-    ensures placed { IfOk result (λ keys. keys.items ≡ placed ⟦<Key as Eq>⟧.eq ours.now.keys theirs.now.keys) }
+    ensures placed { IfOk result (λ keys. keys.items
+        ≡ placed ⟦<Key as Eq>⟧.eq ours.now.keys theirs.now.keys) }
     ensures distinct { IfOk result (λ keys. IsDistinct ⟦<Key as Eq>⟧.eq keys.items) }
 {
     let mut keys = Vec::new(alloc);
@@ -70,7 +71,8 @@ fn rest_behind(keys: &[Key], place: usize) -> &[Key]
 
 // Puts the keys of theirs before the first that ours has.
 fn put_first(keys: &mut Vec<Key>, ours: &IndexSet<Key>, theirs: &[Key]) -> Result<(), AllocError>
-    ensures { OnOk result (keys.new.items ≡ keys.old.items ++ new_first ⟦<Key as Eq>⟧.eq ours.now.keys theirs.now) }
+    ensures { OnOk result (keys.new.items ≡ keys.old.items
+        ++ new_first ⟦<Key as Eq>⟧.eq ours.now.keys theirs.now) }
 {
     for key in theirs {
         if ours.contains(key) {

@@ -2,7 +2,8 @@
 //! the closing one. The kit's reader of CSV takes any text, so that a quote which is never closed would swallow the rest of a file.
 ghost use Rattle.std.specs.Prelude.{◌≡◌, ◌↔◌, IsTrue};
 ghost use Rattle.keyed_text.specs.Quotes.{cell_place, closed_place, ends_line, place_after, place_behind};
-ghost use Rattle.keyed_text.specs.Quotes.{IsOutside, IsQuoteFree, place_behind_plain, plain_place, row_place, then_place};
+ghost use Rattle.keyed_text.specs.Quotes.{IsOutside, IsQuoteFree, place_behind_plain, plain_place};
+ghost use Rattle.keyed_text.specs.Quotes.{row_place, then_place};
 ghost use Rattle.keyed_text.specs.declared.quotes.Place.TheVariants.{Closed};
 
 use memchr::memchr;

@@ -88,7 +88,8 @@ impl<W: Write + Drop> RowWriter<W> {
     ///
     /// Returns the error of the writer, or that a request for memory was refused.
     pub fn finish(self) -> Result<W, csv::Error>
-        ensures { IfOk result (λ writer. (d : ℕ) (c : Option ℕ) (there : Option (List ℕ)) (rows : List (List (List ℕ)))
+        ensures { IfOk result (λ writer. (d : ℕ) (c : Option ℕ) (there : Option (List ℕ))
+            (rows : List (List (List ℕ)))
             → HasWritten d c W.contents there rows [] self
             → Appends there (W.contents writer) (rows_text d c rows)) }
     {

@@ -1,7 +1,8 @@
 //! A batch of texts read as numbers: the numbers, and each text that is none with its place, as many together as the texts.
 ghost use Rattle.std.specs.Prelude.{◌≡◌, ◌+◌};
 ghost use Rattle.std.specs.Str.Parse.{ParsesUnsigned};
-ghost use Rattle.either_or_both.specs.Prelude.{IfErr, IfOk, IfSome, IsSomeAnd, filter_map, length, map_places};
+ghost use Rattle.either_or_both.specs.Prelude.{IfErr, IfOk, IfSome, IsSomeAnd, filter_map, length};
+ghost use Rattle.either_or_both.specs.Prelude.{map_places};
 ghost use Rattle.either_or_both.specs.Prelude.{pair_of, result_err, result_ok, slice_get};
 
 use either_or_both::laws::{law_collected_pair, law_result_counts, law_results};

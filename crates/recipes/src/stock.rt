@@ -34,7 +34,8 @@ pub fn supplied<K: Eq + Hash + Drop, A: Drop, B: Drop, C: Drop>(
     ordered: IndexMap<K, C>,
 ) -> Result<IndexMap<K, Supplied<A, B, C>>, AllocError>
     ensures { IfOk result (λ rows. (k : _) → get_by (K.eq k) rows
-        ≡ from_places (get_by (K.eq k) articles) (from_places (get_by (K.eq k) stock) (get_by (K.eq k) ordered))) }
+        ≡ from_places (get_by (K.eq k) articles)
+        (from_places (get_by (K.eq k) stock) (get_by (K.eq k) ordered))) }
 {
     let numbers = stocked(alloc, stock, ordered)?;
     let rows = stocked(alloc, articles, numbers)?;

@@ -55,7 +55,8 @@ pub fn as_one_table<K: Ord + Drop, A: Drop, B: Drop, C: Drop>(
     requires first { Rising K.cmp first.items }
     requires second { Rising K.cmp second.items }
     requires third { Rising K.cmp third.items }
-    ensures { IfOk result (λ rows. Tabulates K.cmp rows.items (λ k. from_places (value_under K.cmp first.items k)
+    ensures { IfOk result (λ rows. Tabulates K.cmp rows.items
+        (λ k. from_places (value_under K.cmp first.items k)
         (from_places (value_under K.cmp second.items k) (value_under K.cmp third.items k)))) }
 {
     let rows = by_key(alloc, first, second, third)?;

@@ -26,7 +26,8 @@ fn total_rows<K: Ord + Drop>(
 ) -> Result<Vec<(K, u64)>, AllocError>
     requires left { Rising K.cmp left.items }
     requires right { Rising K.cmp right.items }
-    ensures { IfOk result (λ rows. IsKeptOfJoin K.cmp (λ v. Some (added v)) left.items right.items rows.items) }
+    ensures { IfOk result (λ rows. IsKeptOfJoin K.cmp (λ v. Some (added v))
+        left.items right.items rows.items) }
 {
     outer_join_lazily(left, right)
         .filter_map(total_row)

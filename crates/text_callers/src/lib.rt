@@ -2,7 +2,8 @@
 //! written, and that knows the cells which it writes.
 #![tactic(auto)]
 
-ghost use Rattle.std.specs.Prelude.{◌≡◌, ◌++◌, ◌∷◌, [], ℕ, List, Option, None, IfOk, IfSome, MatchOption, codes, map};
+ghost use Rattle.std.specs.Prelude.{◌≡◌, ◌++◌, ◌∷◌, [], ℕ, List, Option, None, IfOk, IfSome, MatchOption};
+ghost use Rattle.std.specs.Prelude.{codes, map};
 ghost use Rattle.csv.specs.Records.{fields_of};
 ghost use Rattle.keyed_text.specs.Streams.{HasRead};
 ghost use Rattle.keyed_text.specs.Texts.{AreRows, rows_text};
@@ -65,7 +66,8 @@ pub fn rows_of<R: Read + Drop>(
 // The rows that were not read.
 fn rows_left<R: Read>(alloc: Global, reader: &mut RowReader<R>) -> Result<Vec<ByteRecord>, Failed>
     ensures { IfOk result (λ rows. (d : ℕ) (c : Option ℕ) (text : List ℕ) (before : List (List (List ℕ)))
-        → HasRead d c R.remaining text before reader.old → AreRows d c text (before ++ map fields_of rows.items)) }
+        → HasRead d c R.remaining text before reader.old
+        → AreRows d c text (before ++ map fields_of rows.items)) }
 {
     let mut rows = Vec::new(alloc);
     for _ in 0..u64::MAX {
