@@ -10,6 +10,7 @@ mod as_written;
 mod by_number;
 mod changed;
 mod come_out;
+mod conflict_cells;
 mod files;
 mod finished;
 mod fits;
