@@ -602,8 +602,8 @@ static OF_GIT: [Asked; 8] = [
     ("git-diff --key id p a b c d e f q r", Off,
         r#"',' Some("id") [1, 1, 0, 0] Report(Table { colours: Off }) GitDiff { path: "p", renamed: Some("q"), old: "a", new: "d" }"#),
     ("git-diff p",                 On,  r#"GitUnmerged { path: "p" }"#),
-    ("git-merge a b c",            On,  r#"',' None [1, 1, 0, 0] GitMerge { base: "a", ours: "b", theirs: "c" }"#),
-    ("git-merge --group a b c p.tsv", On, r#"'\t' None [1, 1, 1, 0] GitMerge { base: "a", ours: "b", theirs: "c" }"#),
+    ("git-merge a b c",            On,  r#"',' None [1, 1, 0, 0] GitMerge { base: "a", ours: "b", theirs: "c", path: None }"#),
+    ("git-merge --group a b c p.tsv", On, r#"'\t' None [1, 1, 1, 0] GitMerge { base: "a", ours: "b", theirs: "c", path: Some("p.tsv") }"#),
     ("git-setup --key id,day",     On,  r#"GitSetup { options: ["--key", "id,day"] }"#),
     ("git-setup --key",            On,  "wrong"),
 ];

@@ -204,6 +204,7 @@ fn merged_for_git(
         base: "plain",
         ours,
         theirs,
+        path: None,
     };
     let outcome = write_git_merge(&Disk::new(alloc, &made), ORDERED, merge, &mut output);
     let came = show_outcome(alloc, outcome)?;

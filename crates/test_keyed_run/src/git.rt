@@ -27,7 +27,7 @@ static FILES: World = World {
 };
 
 #[rattlefmt::skip]
-static ANSWERS: [Case<'static>; 11] = [
+static ANSWERS: [Case<'static>; 13] = [
     ("git-diff|t.csv|old|1|2|new|3|4", 0,
         "keyed diff t.csv\n         id  name\nchanged  2   pear -> quince\nremoved  7   fig\nadded    13  medlar\n\
          1 added, 1 removed, 1 changed, 0 the same\n", ""),
@@ -36,17 +36,26 @@ static ANSWERS: [Case<'static>; 11] = [
     ("git-diff|a|old|1|2|old|3|4|b\u{7}|same", 0, "keyed diff a -> b\\u{7}\n0 added, 0 removed, 0 changed, 2 the same\n", ""),
     ("git-diff|t.csv", 0, "* Unmerged path t.csv\n", ""),
     ("git-diff|t.csv|none|1|2|old|3|4", 2, "", "keyed: none: No such file or directory (os error 2)\n"),
-    ("git-merge|old|bad|old|t.csv", 129, "",
-        "keyed: bad: line 2: a quote is opened and never closed (--lenient takes it as it is)\n"),
+    ("git-merge|old|bad|new|t.csv", 129, "",
+        "keyed: t.csv (ours): line 2: a quote is opened and never closed (--lenient takes it as it is)\n"),
+    ("git-merge|--|old|new|bad|-d.csv", 129, "",
+        "keyed: -d.csv (theirs): line 2: a quote is opened and never closed (--lenient takes it as it is)\n"),
+    ("git-diff|--|-d.csv|old|1|2|old|3|4", 0, "keyed diff -d.csv\n0 added, 0 removed, 0 changed, 2 the same\n", ""),
     ("git-merge|none|old|old", 129, "", "keyed: none: No such file or directory (os error 2)\n"),
     ("git-merge|old|old|old|--delimiter|\n", 129, "", "keyed: --delimiter: not one byte that may stand between cells\n"),
     ("git-setup", 0,
-        "git config diff.keyed.command 'keyed git-diff'\ngit config merge.keyed.driver 'keyed git-merge %O %A %B %P'\n\
-         echo '*.csv diff=keyed merge=keyed' >>.gitattributes\necho '*.tsv diff=keyed merge=keyed' >>.gitattributes\n", ""),
+        "git config diff.keyed.command 'keyed git-diff --'\ngit config merge.keyed.driver 'keyed git-merge -- %O %A %B %P'\n\
+         git config merge.keyed.recursive binary\n\
+         for line in '*.csv diff=keyed merge=keyed' '*.tsv diff=keyed merge=keyed'\ndo\n\
+         \x20   grep -qsxF \"$line\" .gitattributes ||\n\
+         \x20       { test -z \"$(tail -c 1 .gitattributes)\" || echo; echo \"$line\"; } >>.gitattributes\ndone\n", ""),
     ("git-setup|--key|id,the day|--group", 0,
-        "git config diff.keyed.command 'keyed git-diff --key '\\''id,the day'\\'' --group'\n\
-         git config merge.keyed.driver 'keyed git-merge --key '\\''id,the day'\\'' --group %O %A %B %P'\n\
-         echo '*.csv diff=keyed merge=keyed' >>.gitattributes\necho '*.tsv diff=keyed merge=keyed' >>.gitattributes\n", ""),
+        "git config diff.keyed.command 'keyed git-diff --key '\\''id,the day'\\'' --group --'\n\
+         git config merge.keyed.driver 'keyed git-merge --key '\\''id,the day'\\'' --group -- %O %A %B %P'\n\
+         git config merge.keyed.recursive binary\n\
+         for line in '*.csv diff=keyed merge=keyed' '*.tsv diff=keyed merge=keyed'\ndo\n\
+         \x20   grep -qsxF \"$line\" .gitattributes ||\n\
+         \x20       { test -z \"$(tail -c 1 .gitattributes)\" || echo; echo \"$line\"; } >>.gitattributes\ndone\n", ""),
     ("git-setup|--delimiter|", 2, "", "keyed: --delimiter: not one byte that may stand between cells\n"),
 ];
 
@@ -54,6 +63,32 @@ static ANSWERS: [Case<'static>; 11] = [
 #[test]
 fn commands_for_git_answer_git(rt: HostRuntime) -> Result<(), Fail> {
     expect(rt.alloc(), FILES, &ANSWERS)
+}
+
+// A word that is not UTF-8, its place in a command line, and what that comes to.
+#[rattlefmt::skip]
+static NO_TEXTS: [(usize, &[u8], Case<'static>); 5] = [
+    (2, b"b\xff", ("git-diff|-|old|1|2|old|3|4", 0, "keyed diff b\\xff\n0 added, 0 removed, 0 changed, 2 the same\n", "")),
+    (2, b"b\xff", ("git-diff|-", 0, "* Unmerged path b\\xff\n", "")),
+    (3, b"b\xff", ("git-diff|t.csv|-|1|2|old|3|4", 0,
+        "keyed diff t.csv\nnot compared: its name is not UTF-8 (git diff --no-ext-diff compares its lines)\n", "")),
+    (6, b"b\xff", ("git-diff|t.csv|old|1|2|-|3|4|u\u{7}.csv|-", 0,
+        "keyed diff t.csv -> u\\u{7}.csv\nnot compared: its name is not UTF-8 (git diff --no-ext-diff compares its lines)\n", "")),
+    (3, b"b\xff", ("git-merge|old|-|old|t.csv", 129, "",
+        "keyed: the command line: word 3, b\\xff, is not UTF-8: give the file as -, by < FILE\n")),
+];
+
+/// The path of a table may be any bytes, and is shown escaped. A file of such a name can't be opened: git goes on with the next one.
+#[test]
+fn paths_for_git_are_any_bytes(rt: HostRuntime) -> Result<(), Fail> {
+    for (place, bytes, case) in NO_TEXTS {
+        let world = World {
+            word: Some((place, bytes)),
+            ..FILES
+        };
+        expect(rt.alloc(), world, &[case])?;
+    }
+    Ok(())
 }
 
 #[rattlefmt::skip]
