@@ -4,6 +4,7 @@
 
 mod counted;
 mod heading;
+mod leavable;
 mod progress;
 mod words;
 
@@ -11,11 +12,12 @@ use counted::{ClearedOutput, CountedRuntime};
 use heading::write_with_no_heading;
 use keyed_arguments::{Heading, Line, ParseError, parse};
 use keyed_commands::{
-    Asked, Colours, Fault, Finished, GitMerge, Reason, Shown, at, version_name, write_command,
-    write_git_diff, write_git_merge, write_git_setup, write_git_unmerged, write_git_unopened,
-    write_into_file,
+    Asked, Colours, Command, Fault, Finished, GitMerge, Reason, Shown, SortedRequest, at,
+    version_name, write_command, write_git_diff, write_git_merge, write_git_setup,
+    write_git_unmerged, write_git_unopened, write_into_file,
 };
 use keyed_cut::{Cut, write_cut};
+use leavable::{LeavableOutput, WhenLeft};
 use progress::ProgressLine;
 use std::alloc::{AllocError, Global};
 use std::env::FillError;
@@ -31,8 +33,8 @@ const TROUBLE: u8 = 2;
 const TROUBLE_FOR_GIT: u8 = 129;
 
 /// Answers the command line of a runtime on the output, and returns the status. Unless tables are read as they rise, nothing is written
-/// before the whole answer is known. What is wrong is said on the standard error, and so is an output that does not take the help; that a
-/// reader of the output has left is not said.
+/// before the whole answer is known. What is wrong is said on the standard error, and so is an output that does not take the help. That the
+/// reader of the output has left is no trouble: the status is that of the command, and a join or a look-up of tables as they are read stops.
 ///
 /// A standard stream that is closed stays so: no file that is named takes its place.
 ///
@@ -165,6 +167,7 @@ fn refuse<R: Print + Eprint + AllocGlobal>(rt: &R, words: &[String], error: Pars
     }
     match at("the standard output", printed) {
         Ok(()) => 0,
+        Err(fault) if fault.is_closed_pipe() => 0,
         Err(fault) => trouble(rt, fault),
     }
 }
@@ -204,13 +207,15 @@ fn answer<R: Files + Input + Eprint + AllocGlobal, W: Write>(
     output: &mut W,
 ) -> u8 {
     let merge = merge_of(&asked);
-    match write_asked(rt, asked, heading, output) {
+    let mut output = LeavableOutput::new(output, when_left(&asked));
+    match write_asked(rt, asked, heading, &mut output) {
         Ok(finished) => {
             if let Some(counts) = finished.counts {
                 let _ = eprintln!(rt; "{counts}");
             }
             finished.status
         }
+        Err(_closed) if output.has_stopped() => 0,
         Err(fault) => match merge {
             Some(merge) => trouble_for_git(rt, merge, fault),
             None => trouble(rt, fault),
@@ -223,6 +228,22 @@ fn merge_of<'a>(asked: &Asked<'a>) -> Option<GitMerge<'a>> {
     match asked {
         Asked::GitMerge { merge, .. } => Some(*merge),
         _ => None,
+    }
+}
+
+// What a command does once the reader of its output has left: a join and a look-up, which write while they read and have but one status,
+// stop.
+fn when_left(asked: &Asked<'_>) -> WhenLeft {
+    match asked {
+        Asked::Answer { command, .. } => match command {
+            Command::Lookup { .. } => WhenLeft::Stop,
+            Command::Sorted { request, .. } => match request {
+                SortedRequest::Join { .. } => WhenLeft::Stop,
+                SortedRequest::Diff { .. } => WhenLeft::GoOn,
+            },
+            Command::Whole { .. } | Command::Overlay { .. } => WhenLeft::GoOn,
+        },
+        _ => WhenLeft::GoOn,
     }
 }
 
@@ -283,11 +304,9 @@ fn has_text<R: Env>(rt: &R, name: &str) -> bool {
     }
 }
 
-// Says what is wrong, unless it is that a reader of the output has left, and returns the status of trouble.
+// Says what is wrong, and returns the status of trouble.
 fn trouble<R: Eprint>(rt: &R, fault: Fault<'_>) -> u8 {
-    if !fault.is_closed_pipe() {
-        let _ = eprintln!(rt; "keyed: {fault}");
-    }
+    let _ = eprintln!(rt; "keyed: {fault}");
     TROUBLE
 }
 
