@@ -183,7 +183,7 @@ fn answer_of<'a>(
     Ok(Line::Asked {
         asked: Asked::Answer {
             command,
-            output: output_of(matches),
+            output: output_of(matches)?,
         },
         heading,
         progress: progress_of(matches),

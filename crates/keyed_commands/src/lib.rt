@@ -11,6 +11,7 @@ mod by_number;
 mod changed;
 mod come_out;
 mod conflict_cells;
+mod draft;
 mod files;
 mod finished;
 mod fits;

@@ -181,7 +181,7 @@ impl<'a> Files for Disk<'a> {
             if path.starts_with("locked/") {
                 return Err(io::Error::from_raw_os_error(NO_LEAVE));
             }
-            if path == "taken/.keyed-0" {
+            if path == "taken/.out.keyed-0-0" {
                 return Err(io::Error::from_raw_os_error(IS_THERE));
             }
             self.made.note("made", path)?;

@@ -107,22 +107,26 @@ const CHANGES: &str = "change,id,name\n+,13,medlar\n-,2,pear\n+,2,quince\n-,7,fi
 #[test]
 fn answer_takes_the_place_of_a_file(rt: HostRuntime) -> Result<(), Fail> {
     let alloc = rt.alloc();
-    let wanted = format!(in alloc; "1\nmade .keyed-0\nrenamed .keyed-0\nto out\n{CHANGES}")?;
+    let wanted = format!(in alloc;
+        "1\nmade .out.keyed-0-0\nrenamed .out.keyed-0-0\nto out\n{CHANGES}"
+    )?;
     expect_made(alloc, diff("old", "new"), "out", &wanted)?;
-    let wanted = format!(in alloc; "1\nmade .keyed-0\nrenamed .keyed-0\nto old\n{CHANGES}")?;
+    let wanted = format!(in alloc;
+        "1\nmade .old.keyed-0-0\nrenamed .old.keyed-0-0\nto old\n{CHANGES}"
+    )?;
     expect_made(alloc, diff("old", "new"), "old", &wanted)?;
     let wanted = format!(in alloc;
-        "1\nmade taken/.keyed-1\nrenamed taken/.keyed-1\nto taken/out\n{CHANGES}"
+        "1\nmade taken/.out.keyed-0-1\nrenamed taken/.out.keyed-0-1\nto taken/out\n{CHANGES}"
     )?;
     expect_made(alloc, diff("old", "new"), "taken/out", &wanted)?;
     let wanted =
-        "0\nmade a/b/.keyed-0\nrenamed a/b/.keyed-0\nto a/b/out\nid,left.name,right.name\n2,pear,quince\n";
+        "0\nmade a/b/.out.keyed-0-0\nrenamed a/b/.out.keyed-0-0\nto a/b/out\nid,left.name,right.name\n2,pear,quince\n";
     expect_made(alloc, sorted_join("rising"), "a/b/out", wanted)?;
     let apply = whole(Request::Apply {
         old: "old",
         changes: "changes",
     });
-    let wanted = "0\nmade .keyed-0\nrenamed .keyed-0\nto old\nid,name\n2,pear\n";
+    let wanted = "0\nmade .old.keyed-0-0\nrenamed .old.keyed-0-0\nto old\nid,name\n2,pear\n";
     expect_made(alloc, apply, "old", wanted)
 }
 
@@ -130,7 +134,8 @@ fn answer_takes_the_place_of_a_file(rt: HostRuntime) -> Result<(), Fail> {
 #[test]
 fn report_goes_to_the_output(rt: HostRuntime) -> Result<(), Fail> {
     let alloc = rt.alloc();
-    let wanted = "0\nmade .keyed-0\nrenamed .keyed-0\nto ours\nid,name\n2,plum\n7,sloe\n";
+    let wanted =
+        "0\nmade .ours.keyed-0-0\nrenamed .ours.keyed-0-0\nto ours\nid,name\n2,plum\n7,sloe\n";
     expect_made(alloc, merge("theirs", Conflicts::Report), "ours", wanted)?;
     let wanted = "1
         id  name
@@ -140,8 +145,8 @@ theirs  2   quince
 ";
     expect_made(alloc, merge("new", Conflicts::Report), "ours", wanted)?;
     let wanted = "1
-made .keyed-0
-renamed .keyed-0
+made .ours.keyed-0-0
+renamed .ours.keyed-0-0
 to ours
 id,name
 13,medlar
@@ -165,7 +170,7 @@ fn fault_of_an_input_leaves_no_file(rt: HostRuntime) -> Result<(), Fail> {
     let wanted = "broken: Input/output error (os error 5)\n";
     expect_made(alloc, diff("old", "broken"), "out", wanted)?;
     let came = came_of(alloc, sorted_join("new"), "out")?;
-    let end = "\nmade .keyed-0\nremoved .keyed-0\n";
+    let end = "\nmade .out.keyed-0-0\nremoved .out.keyed-0-0\n";
     assert!(rt;
         came.starts_with("new: line 3: ") && came.contains(end),
         "{came}"
@@ -181,11 +186,11 @@ fn fault_of_a_file_leaves_no_other(rt: HostRuntime) -> Result<(), Fail> {
     expect_made(alloc, diff("old", "new"), "locked/out", wanted)?;
     expect_made(alloc, sorted_join("rising"), "locked/out", wanted)?;
     let wanted =
-        "full/out: No space left on device (os error 28)\nmade full/.keyed-0\nremoved full/.keyed-0\n";
+        "full/out: No space left on device (os error 28)\nmade full/.out.keyed-0-0\nremoved full/.out.keyed-0-0\n";
     expect_made(alloc, diff("old", "new"), "full/out", wanted)?;
     expect_made(alloc, sorted_join("rising"), "full/out", wanted)?;
     let wanted = format!(in alloc;
-        "kept/out: Permission denied (os error 13)\nmade kept/.keyed-0\nremoved kept/.keyed-0\n{CHANGES}"
+        "kept/out: Permission denied (os error 13)\nmade kept/.out.keyed-0-0\nremoved kept/.out.keyed-0-0\n{CHANGES}"
     )?;
     expect_made(alloc, diff("old", "new"), "kept/out", &wanted)?;
     let wanted = "folder: Is a directory (os error 21)\n";
@@ -214,15 +219,15 @@ fn merged_for_git(
 // The versions of ours and theirs, and what their merge comes to: a file as ours is written.
 #[rattlefmt::skip]
 static FOR_GIT: [(&str, &str, &str); 7] = [
-    ("plain", "changed", "0\nmade .keyed-0\nrenamed .keyed-0\nto plain\nid,a,b\n1,x,z\n2,x,x\n3,,\"p,q\"\n"),
-    ("marked", "changed", "0\nmade .keyed-0\nrenamed .keyed-0\nto marked\n\u{feff}id,a,b\r\n1,y,z\r\n2,x,x\r\n3,,\"p,q\""),
+    ("plain", "changed", "0\nmade .plain.keyed-0-0\nrenamed .plain.keyed-0-0\nto plain\nid,a,b\n1,x,z\n2,x,x\n3,,\"p,q\"\n"),
+    ("marked", "changed", "0\nmade .marked.keyed-0-0\nrenamed .marked.keyed-0-0\nto marked\n\u{feff}id,a,b\r\n1,y,z\r\n2,x,x\r\n3,,\"p,q\""),
     ("quoted", "changed",
-        "0\nmade .keyed-0\nrenamed .keyed-0\nto quoted\n\"id\",\"a\",\"b\"\n\"1\",\"y\",\"z\"\n\"2\",\"x\",\"x\"\n\"3\",\"\",\"p,q\"\n"),
+        "0\nmade .quoted.keyed-0-0\nrenamed .quoted.keyed-0-0\nto quoted\n\"id\",\"a\",\"b\"\n\"1\",\"y\",\"z\"\n\"2\",\"x\",\"x\"\n\"3\",\"\",\"p,q\"\n"),
     ("marked", "other",
-        "1\nmade .keyed-0\nrenamed .keyed-0\nto marked\n\u{feff}id,a,b\r\n<<<<<<< ours\r\n1,y,x\r\n||||||| base\r\n1,x,x\r\n\
+        "1\nmade .marked.keyed-0-0\nrenamed .marked.keyed-0-0\nto marked\n\u{feff}id,a,b\r\n<<<<<<< ours\r\n1,y,x\r\n||||||| base\r\n1,x,x\r\n\
          =======\r\n1,w,x\r\n>>>>>>> theirs\r\n2,x,x"),
     ("quoted", "other",
-        "1\nmade .keyed-0\nrenamed .keyed-0\nto quoted\n\"id\",\"a\",\"b\"\n<<<<<<< ours\n\"1\",\"y\",\"x\"\n||||||| base\n\"1\",\"x\",\"x\"\n\
+        "1\nmade .quoted.keyed-0-0\nrenamed .quoted.keyed-0-0\nto quoted\n\"id\",\"a\",\"b\"\n<<<<<<< ours\n\"1\",\"y\",\"x\"\n||||||| base\n\"1\",\"x\",\"x\"\n\
          =======\n\"1\",\"w\",\"x\"\n>>>>>>> theirs\n\"2\",\"x\",\"x\"\n"),
     ("plain", "broken", "broken: Input/output error (os error 5)\n"),
     ("none", "plain", "none: No such file or directory (os error 2)\n"),
