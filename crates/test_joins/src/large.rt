@@ -242,35 +242,55 @@ fn clashes(key: u32) -> bool {
     base != ours && base != theirs && ours != theirs
 }
 
-/// A join of three versions has each key of any of them; a merge of them has the rows that both sides changed in two ways, and one
-/// in which their side changed nothing has our side's rows.
-#[test]
-fn versions_and_merges_have_every_row(rt: HostRuntime) -> Result<(), Fail> {
-    let alloc = rt.alloc();
-    let mut all = Vec::new(alloc);
-    let mut conflicts = Vec::new(alloc);
+// The rows of the three versions that are in conflict.
+fn conflicts(alloc: Global) -> Result<Vec<(u32, Versions<u32>)>, AllocError> {
+    let mut rows = Vec::new(alloc);
     for key in 0..KEYS {
         if let Some(row) = versions(key) {
-            all.push((key, row))?;
             if clashes(key) {
-                conflicts.push((key, row))?;
+                rows.push((key, row))?;
             }
         }
     }
-    let ours = table(&rt, alloc, Side::Threes)?;
-    let merges = [
-        (Side::Fours, Merged::Conflicts(conflicts)),
-        (Side::Evens, Merged::Whole(ours)),
-    ];
-    for (side, want) in merges {
-        let base = table(&rt, alloc, Side::Evens)?;
-        let ours = table(&rt, alloc, Side::Threes)?;
-        let theirs = table(&rt, alloc, side)?;
-        assert!(rt; merge_versions(alloc, base, ours, theirs)? == want);
+    Ok(rows)
+}
+
+// The rows of the join of the three versions.
+fn all_versions(alloc: Global) -> Result<Vec<(u32, Versions<u32>)>, AllocError> {
+    let mut rows = Vec::new(alloc);
+    for key in 0..KEYS {
+        if let Some(row) = versions(key) {
+            rows.push((key, row))?;
+        }
     }
+    Ok(rows)
+}
+
+/// A join of three versions has each key of any of them.
+#[test]
+fn joins_of_versions_have_every_row(rt: HostRuntime) -> Result<(), Fail> {
+    let alloc = rt.alloc();
     let base = table(&rt, alloc, Side::Evens)?;
     let ours = table(&rt, alloc, Side::Threes)?;
     let theirs = table(&rt, alloc, Side::Fours)?;
-    assert!(rt; join_versions(alloc, base, ours, theirs)? == all);
+    assert!(rt; join_versions(alloc, base, ours, theirs)? == all_versions(alloc)?);
+    Ok(())
+}
+
+// The multiples of three as ours merged with theirs over the even numbers.
+fn merged(rt: &impl Abort, alloc: Global, theirs: Side) -> Result<Merged<u32, u32>, Fail> {
+    let base = table(rt, alloc, Side::Evens)?;
+    let ours = table(rt, alloc, Side::Threes)?;
+    let theirs = table(rt, alloc, theirs)?;
+    Ok(merge_versions(alloc, base, ours, theirs)?)
+}
+
+/// A merge has the rows that both sides changed in two ways, and where their side changed nothing, our side's rows.
+#[test]
+fn merges_have_every_row(rt: HostRuntime) -> Result<(), Fail> {
+    let alloc = rt.alloc();
+    assert!(rt; merged(&rt, alloc, Side::Fours)? == Merged::Conflicts(conflicts(alloc)?));
+    let ours = table(&rt, alloc, Side::Threes)?;
+    assert!(rt; merged(&rt, alloc, Side::Evens)? == Merged::Whole(ours));
     Ok(())
 }

@@ -119,7 +119,12 @@ fn is_part(part: Option<&[(u32, u32)]>, rows: Option<&[u32]>) -> bool {
     }
 }
 
-/// The parts of two slices, and of one, have each key once, with all its rows.
+// Whether a hint has room for so many parts, and says of some that there is one at least.
+fn has_room(hint: (usize, Option<usize>), parts: usize) -> bool {
+    hint.0 == parts.min(1) && hint.1 >= Some(parts)
+}
+
+/// The parts of two slices, and of one, have each key once, with all its rows. The hint of the parts of one has room for them.
 #[test]
 fn parts_of_slices_have_every_row(rt: HostRuntime) -> Result<(), Fail> {
     let alloc = rt.alloc();
@@ -129,6 +134,7 @@ fn parts_of_slices_have_every_row(rt: HostRuntime) -> Result<(), Fail> {
         assert!(rt; is_ordered(&left) && is_ordered(&right));
         let mut rows = group_join_slices(&left, &right);
         let mut groups = groups_of(&left);
+        let mut left_to_come = lefts as usize;
         for (key, cells) in rows_of_both(alloc, (lefts, rights))? {
             let (a, b) = cells.unzip();
             let Some((found, parts)) = rows.next() else {
@@ -136,11 +142,14 @@ fn parts_of_slices_have_every_row(rt: HostRuntime) -> Result<(), Fail> {
             };
             let (x, y) = parts.unzip();
             assert!(rt; *found == key && is_part(x, a.as_deref()) && is_part(y, b.as_deref()));
+            assert!(rt; has_room(groups.size_hint(), left_to_come));
             if a.is_some() {
+                left_to_come = left_to_come.saturating_sub(1);
                 let group = groups.next().map(|group| group.1);
                 assert!(rt; is_part(group, a.as_deref()));
             }
         }
+        assert!(rt; groups.size_hint() == (0, Some(0)));
         assert!(rt; rows.next().is_none() && groups.next().is_none());
     }
     Ok(())
