@@ -1,4 +1,4 @@
-//! A case file, line by line, and its transcript: what stands in the file, with what came of each command behind it.
+//! A case file, line by line, and its transcript: each command with what came of it, and what is for the reader.
 //!
 //! - `# ..` is for the reader. The first line is one: it says what the file shows.
 //! - `## ..` begins a part, with a new disk. What stands before the first `##` is in each part.
@@ -77,15 +77,23 @@ impl<'t> Script<'t> {
             self.put_blank()?;
             self.begin_part()?;
         }
-        writeln!(self.transcript, "{line}")?;
-        self.is_blank = false;
         if line.starts_with('#') {
-            return Ok(());
+            return self.put_line(line);
         }
         match line.strip_prefix("$ ") {
-            Some(command) => self.run(command),
+            Some(command) => {
+                self.put_line(line)?;
+                self.run(command)
+            }
             None => self.set(line),
         }
+    }
+
+    // Puts a line that is for the reader too.
+    fn put_line(&mut self, line: &str) -> Result<(), Wrong> {
+        writeln!(self.transcript, "{line}")?;
+        self.is_blank = false;
+        Ok(())
     }
 
     // Puts a blank line, unless there is one.
