@@ -1,6 +1,7 @@
 //! Maps of 70,000 entries joined, laid one over another, merged, and looked up in.
 
 use super::{KEYS, Side, conflicts, joined, places, table, value};
+use either_or_both::EitherOrBoth;
 use eob_joins::{
     Layered, Merged, lookup_join, merge_version_maps, outer_join_hash_maps, outer_join_index_maps,
     overlay_index_maps, overlay_maps,
@@ -43,35 +44,62 @@ fn ordered_map(alloc: Global, side: Side) -> Result<BTreeMap<u32, u32>, AllocErr
     Ok(map)
 }
 
-/// A join of maps has each key of either map, those of the left map first.
-#[test]
-fn joins_of_maps_have_every_row(rt: HostRuntime) -> Result<(), Fail> {
-    let alloc = rt.alloc();
+type Rows = IndexMap<u32, EitherOrBoth<u32, u32>>;
+
+// The join of the two maps in the order of their keys.
+fn joined_in_order(alloc: Global) -> Result<Rows, AllocError> {
     let left = index_map(alloc, Side::Evens)?;
     let right = index_map(alloc, Side::Threes)?;
-    let rows = outer_join_index_maps(alloc, left, right)?;
-    let left = hash_map(alloc, Side::Evens)?;
-    let right = hash_map(alloc, Side::Threes)?;
-    let hashed = outer_join_hash_maps(alloc, left, right)?;
+    outer_join_index_maps(alloc, left, right)
+}
+
+/// A join of maps has each key of either map, those of the left map first.
+#[test]
+fn joins_of_index_maps_have_every_row(rt: HostRuntime) -> Result<(), Fail> {
+    let alloc = rt.alloc();
+    let rows = joined_in_order(alloc)?;
     let want = joined(alloc)?;
     let mut walk = rows.iter();
     for has_left in [true, false] {
         for (key, row) in want.iter().filter(|row| row.1.has_left() == has_left) {
             assert!(rt; walk.next() == Some((key, row)));
-            assert!(rt; hashed.get(key) == Some(row));
         }
     }
-    assert!(rt; walk.next().is_none() && hashed.len() == want.len());
+    assert!(rt; walk.next().is_none());
     Ok(())
+}
+
+// The join of the two hashed maps.
+fn joined_hashed(alloc: Global) -> Result<Rows, AllocError> {
+    let left = hash_map(alloc, Side::Evens)?;
+    let right = hash_map(alloc, Side::Threes)?;
+    outer_join_hash_maps(alloc, left, right)
+}
+
+/// So has a join of hashed maps.
+#[test]
+fn joins_of_hash_maps_have_every_row(rt: HostRuntime) -> Result<(), Fail> {
+    let alloc = rt.alloc();
+    let rows = joined_hashed(alloc)?;
+    let want = joined(alloc)?;
+    for (key, row) in &want {
+        assert!(rt; rows.get(key) == Some(row));
+    }
+    assert_eq!(rt; rows.len(), want.len());
+    Ok(())
+}
+
+// The multiples of three laid over the even numbers.
+fn overlaid(alloc: Global) -> Result<IndexMap<u32, u32>, AllocError> {
+    let base = index_map(alloc, Side::Evens)?;
+    let over = index_map(alloc, Side::Threes)?;
+    overlay_index_maps(alloc, base, over)
 }
 
 /// A map laid over another has each key of either, those of the lower map first, with the upper value where there is one.
 #[test]
 fn overlay_has_every_key(rt: HostRuntime) -> Result<(), Fail> {
-    let alloc = rt.alloc();
-    let base = index_map(alloc, Side::Evens)?;
-    let over = index_map(alloc, Side::Threes)?;
-    let settings = overlay_index_maps(alloc, base, over)?;
+    let settings = overlaid(rt.alloc())?;
     let mut walk = settings.iter();
     for in_base in [true, false] {
         for key in 0..KEYS {
