@@ -1,0 +1,4 @@
+pub mod GrowthLemmas
+pub mod NameLemmas
+pub mod PartLemmas
+pub mod WordLemmas
