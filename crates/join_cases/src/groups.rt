@@ -1,12 +1,11 @@
 //! Lists whose keys repeat: tested, grouped, and joined group by group.
 
-use crate::read::{Wrong, ordered, shown, table, two};
-use either_or_both::join::{is_rising, outer_join_lazily};
+use crate::read::{UNORDERED, Wrong, ordered, shown, table, two};
+use either_or_both::join::is_rising;
 use eob_joins::{
     group_by_key, group_join, group_join_slices, group_join_unordered, groups_of, is_ordered,
 };
-use std::alloc::Global;
-use std::collections::BTreeMap;
+use std::alloc::{AllocError, Global};
 
 /// What a call on one list returns.
 pub fn of_one(alloc: Global, call: &str, list: &str) -> Result<String, Wrong> {
@@ -14,18 +13,28 @@ pub fn of_one(alloc: Global, call: &str, list: &str) -> Result<String, Wrong> {
         "is_rising" => shown(alloc, &is_rising(&table::<u32>(alloc, list)?)),
         "is_ordered" => shown(alloc, &is_ordered(&table::<u32>(alloc, list)?)),
         "group_by_key" => shown(alloc, &group_by_key(alloc, ordered(alloc, list)?)?),
-        _ => parts(alloc, list),
+        _ => parts(alloc, &table::<u32>(alloc, list)?),
     }
 }
 
-// The parts of a slice.
-fn parts(alloc: Global, list: &str) -> Result<String, Wrong> {
-    let list = ordered(alloc, list)?;
-    let mut parts = Vec::new(alloc);
-    for part in groups_of(&list) {
-        parts.push(part)?;
+// The parts of a slice, each written as it comes, since a list of them would name two lifetimes, of which nothing is proved.
+fn parts(alloc: Global, list: &[(u32, u32)]) -> Result<String, Wrong> {
+    if is_ordered(list) {
+        let mut text = String::new(alloc);
+        for part in groups_of(list) {
+            add_row(&mut text, &format!(in alloc; "{part:?}")?)?;
+        }
+        return Ok(format!(in alloc; "[{text}]")?);
     }
-    shown(alloc, &parts)
+    Err(UNORDERED)
+}
+
+// Adds a row to a text of rows.
+fn add_row(text: &mut String, row: &str) -> Result<(), AllocError> {
+    if !text.is_empty() {
+        text.push_str(", ")?;
+    }
+    text.push_str(row)
 }
 
 /// What a call on two lists returns.
@@ -34,8 +43,11 @@ pub fn of_two(alloc: Global, call: &str, tables: &str) -> Result<String, Wrong> 
     match call {
         "group_join" => grouped(alloc, left, right),
         "group_join_unordered" => grouped_unordered(alloc, left, right),
-        "group_join_slices" => parts_of_both(alloc, left, right),
-        _ => parts_beside_map(alloc, left, right),
+        _ => parts_of_both(
+            alloc,
+            &table::<u32>(alloc, left)?,
+            &table::<u32>(alloc, right)?,
+        ),
     }
 }
 
@@ -51,20 +63,18 @@ fn grouped_unordered(alloc: Global, left: &str, right: &str) -> Result<String, W
     shown(alloc, &group_join_unordered(alloc, left, right)?)
 }
 
-fn parts_of_both(alloc: Global, left: &str, right: &str) -> Result<String, Wrong> {
-    let left = ordered(alloc, left)?;
-    let right = ordered(alloc, right)?;
-    let mut rows = Vec::new(alloc);
-    for row in group_join_slices(&left, &right) {
-        rows.push(row)?;
+// The parts of two slices, joined.
+fn parts_of_both(
+    alloc: Global,
+    left: &[(u32, u32)],
+    right: &[(u32, u32)],
+) -> Result<String, Wrong> {
+    if is_ordered(left) && is_ordered(right) {
+        let mut text = String::new(alloc);
+        for row in group_join_slices(left, right) {
+            add_row(&mut text, &format!(in alloc; "{row:?}")?)?;
+        }
+        return Ok(format!(in alloc; "[{text}]")?);
     }
-    shown(alloc, &rows)
-}
-
-// An ordered map beside the parts of a slice.
-fn parts_beside_map(alloc: Global, map: &str, list: &str) -> Result<String, Wrong> {
-    let map: BTreeMap<u32, u32> = table(alloc, map)?.into_iter().collect(alloc)?;
-    let list = ordered(alloc, list)?;
-    let rows: Vec<_> = outer_join_lazily(&map, groups_of(&list)).collect(alloc)?;
-    shown(alloc, &rows)
+    Err(UNORDERED)
 }

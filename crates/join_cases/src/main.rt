@@ -53,7 +53,7 @@ fn returned(alloc: Global, line: &str) -> Result<String, Wrong> {
         "is_rising" | "is_ordered" | "group_by_key" | "groups_of" => {
             groups::of_one(alloc, call, tables)
         }
-        "group_join" | "group_join_unordered" | "group_join_slices" | "outer_join_groups" => {
+        "group_join" | "group_join_unordered" | "group_join_slices" => {
             groups::of_two(alloc, call, tables)
         }
         "join_versions" | "judge" | "merge_versions" | "merge_version_maps" => {

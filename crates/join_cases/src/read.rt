@@ -36,6 +36,9 @@ pub type Table<V> = Vec<(u32, V)>;
 /// A line has fewer tables than its call takes.
 pub const MISSING: Wrong = Wrong::Line("a table is missing");
 
+/// The keys of a table are not ordered.
+pub const UNORDERED: Wrong = Wrong::Line("keys that are not ordered");
+
 /// A value as a text.
 pub fn shown<V: Debug>(alloc: Global, value: &V) -> Result<String, Wrong> {
     Ok(format!(in alloc; "{value:?}")?)
@@ -133,6 +136,6 @@ pub fn ordered(alloc: Global, text: &str) -> Result<Table<u32>, Wrong>
     if is_ordered(&table) {
         Ok(table)
     } else {
-        Err(Wrong::Line("keys that are not ordered"))
+        Err(UNORDERED)
     }
 }

@@ -1,6 +1,9 @@
-//! Tests of a list joined with a map: each item of the list in its order, whose keys repeat, with what a rule puts under its key.
+//! Tests of a list whose keys repeat, joined with a map: each item of the list in its order, with what a rule puts under its key; and the
+//! parts of a slice.
 
-use eob_joins::{Lookup, LookupRow, lookup_join, lookup_join_lazily};
+use either_or_both::EitherOrBoth;
+use either_or_both::join::outer_join_lazily;
+use eob_joins::{Lookup, LookupRow, groups_of, is_ordered, lookup_join, lookup_join_lazily};
 use indexmap::IndexMap;
 use std::alloc::{AllocError, Global};
 use std::cell::Cell;
@@ -132,5 +135,24 @@ fn rows_come_one_by_one(rt: HostRuntime) -> Result<(), Fail> {
     for count in SIZES {
         assert!(rt; come_one_by_one(alloc, &map, count)?, "{count} items");
     }
+    Ok(())
+}
+
+/// A slice whose keys repeat beside an ordered map that has each key once.
+#[test]
+fn slice_with_repeated_keys_is_joined_to_a_map(rt: HostRuntime) -> Result<(), Fail> {
+    let alloc = rt.alloc();
+    let orders = [(1, 'a'), (1, 'b'), (4, 'c')];
+    let customers: BTreeMap<u32, &str> = [(1, "one"), (2, "two")].into_iter().collect(alloc)?;
+    assert!(rt; is_ordered(&orders));
+    let mut rows = outer_join_lazily(&customers, groups_of(&orders));
+    for row in [
+        (&1, EitherOrBoth::Both(&"one", &orders[..2])),
+        (&2, EitherOrBoth::Left(&"two")),
+        (&4, EitherOrBoth::Right(&orders[2..])),
+    ] {
+        assert!(rt; rows.next() == Some(row));
+    }
+    assert!(rt; rows.next().is_none());
     Ok(())
 }
