@@ -102,7 +102,14 @@ impl<'a, L: Value, R: Value> Place for EitherOrBoth<&'a mut L, &'a mut R> {
     type Held = EitherOrBoth<L, R>;
 
     fn double(self) -> EitherOrBoth<L, R> {
-        self.bimap(|l| double(l), |r| double(r))
+        match self {
+            EitherOrBoth::Left(l) => EitherOrBoth::Left(double(l)),
+            EitherOrBoth::Both(l, r) => {
+                let left = double(l);
+                EitherOrBoth::Both(left, double(r))
+            }
+            EitherOrBoth::Right(r) => EitherOrBoth::Right(double(r)),
+        }
     }
 }
 
@@ -110,7 +117,10 @@ impl<'a, L: Value, R: Value> Place for Either<&'a mut L, &'a mut R> {
     type Held = Either<L, R>;
 
     fn double(self) -> Either<L, R> {
-        self.bimap(|l| double(l), |r| double(r))
+        match self {
+            Either::Left(l) => Either::Left(double(l)),
+            Either::Right(r) => Either::Right(double(r)),
+        }
     }
 }
 

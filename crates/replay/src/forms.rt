@@ -1,8 +1,7 @@
 //! Changes of form: sides exchanged, values mapped, reduced to one side, or filled up to both.
 
 use crate::ask::{Ask, Said};
-use crate::read::Value;
-use either_or_both::{Either, EitherOrBoth};
+use crate::read::{Given, Value};
 
 // The calls of both enums that exchange or map the sides.
 macro_rules! maps {
@@ -42,79 +41,48 @@ macro_rules! reductions {
     };
 }
 
-/// The answer of a change of form of an `EitherOrBoth`.
-pub fn of_both<L: Value, R: Value>(ask: &Ask, value: EitherOrBoth<L, R>) -> Said {
-    match map_both(ask, value)? {
+/// The answer of a change of form.
+pub fn answer<L: Value, R: Value>(ask: &Ask, given: Given<L, R>) -> Said {
+    match mapped(ask, given)? {
         Some(answer) => Ok(Some(answer)),
-        None => reduce_both(ask, value),
+        None => reduced(ask, given),
     }
 }
 
-fn map_both<L: Value, R: Value>(ask: &Ask, value: EitherOrBoth<L, R>) -> Said {
+fn mapped<L: Value, R: Value>(ask: &Ask, given: Given<L, R>) -> Said {
     let (first, second) = ask.functions();
-    let (given, _) = ask.makers();
+    let (made, _) = ask.makers();
     let left = |l: L| first.of::<L, L>(l);
     let right = |r: R| second.of::<R, R>(r);
-    let make_left = || given.make::<L>();
-    let make_right = || given.make::<R>();
-    maps!(ask, value, left, right, make_left, make_right)
+    let make_left = || made.make::<L>();
+    let make_right = || made.make::<R>();
+    match given {
+        Given::Both(value) => maps!(ask, value, left, right, make_left, make_right),
+        Given::One(value) => maps!(ask, value, left, right, make_left, make_right),
+    }
 }
 
-fn reduce_both<L: Value, R: Value>(ask: &Ask, value: EitherOrBoth<L, R>) -> Said {
+fn reduced<L: Value, R: Value>(ask: &Ask, given: Given<L, R>) -> Said {
     let (first, second) = ask.functions();
-    let (given, other) = ask.makers();
-    let to_left = |r: R| second.of::<R, L>(r);
-    let to_right = |l: L| first.of::<L, R>(l);
-    let make_left = || given.make::<L>();
-    let make_right = || other.make::<R>();
-    match ask.call {
-        "reduce_map_left" => {
-            ask.show(value.reduce_map_left(|l: L| first.of::<L, L>(l), to_left))
-        }
-        "reduce_map_right" => {
-            ask.show(value.reduce_map_right(to_right, |r: R| second.of::<R, R>(r)))
-        }
-        _ => reductions!(ask, value, to_right, to_left, make_left, make_right),
-    }
-}
-
-/// The same of two places of one type.
-pub fn of_one_type<T: Value>(ask: &Ask, value: EitherOrBoth<T>) -> Said {
-    let (f, _) = ask.functions();
-    match ask.call {
-        "map" => ask.show(value.map(|x: T| f.of::<T, T>(x))),
-        "reduce" => ask.show(value.reduce(|x: T, y: T| f.of_two(x, y))),
-        _ => Ok(None),
-    }
-}
-
-/// The answer of a change of form of an `Either`.
-pub fn of_either<L: Value, R: Value>(ask: &Ask, value: Either<L, R>) -> Said {
-    match map_either(ask, value)? {
-        Some(answer) => Ok(Some(answer)),
-        None => reduce_either(ask, value),
-    }
-}
-
-fn map_either<L: Value, R: Value>(ask: &Ask, value: Either<L, R>) -> Said {
-    let (first, second) = ask.functions();
-    let (given, _) = ask.makers();
+    let (made, other) = ask.makers();
     let left = |l: L| first.of::<L, L>(l);
     let right = |r: R| second.of::<R, R>(r);
-    let make_left = || given.make::<L>();
-    let make_right = || given.make::<R>();
-    maps!(ask, value, left, right, make_left, make_right)
-}
-
-fn reduce_either<L: Value, R: Value>(ask: &Ask, value: Either<L, R>) -> Said {
-    let (first, second) = ask.functions();
-    let (given, other) = ask.makers();
     let to_left = |r: R| second.of::<R, L>(r);
     let to_right = |l: L| first.of::<L, R>(l);
-    let make_left = || given.make::<L>();
+    let make_left = || made.make::<L>();
     let make_right = || other.make::<R>();
+    let value = match given {
+        Given::One(value) => value,
+        Given::Both(value) => {
+            return match ask.call {
+                "reduce_map_left" => ask.show(value.reduce_map_left(left, to_left)),
+                "reduce_map_right" => ask.show(value.reduce_map_right(to_right, right)),
+                _ => reductions!(ask, value, to_right, to_left, make_left, make_right),
+            };
+        }
+    };
     match ask.call {
-        "bireduce" => ask.show(value.bireduce(|l: L| first.of::<L, L>(l), to_left)),
+        "bireduce" => ask.show(value.bireduce(left, to_left)),
         "inject_left" => ask.show(value.inject_left(ask.first()?)),
         "inject_right" => ask.show(value.inject_right(ask.first()?)),
         _ => reductions!(ask, value, to_right, to_left, make_left, make_right),
@@ -122,12 +90,20 @@ fn reduce_either<L: Value, R: Value>(ask: &Ask, value: Either<L, R>) -> Said {
 }
 
 /// The same of two places of one type.
-pub fn of_either_of_one_type<T: Value>(ask: &Ask, value: Either<T>) -> Said {
-    let (f, _) = ask.functions();
-    match ask.call {
-        "map" => ask.show(value.map(|x: T| f.of::<T, T>(x))),
-        "reduce" => ask.show(value.reduce()),
-        "reduce_map" => ask.show(value.reduce_map(|x: T| f.of::<T, T>(x))),
-        _ => Ok(None),
+pub fn of_one_type<T: Value>(ask: &Ask, given: Given<T, T>) -> Said {
+    let (first, _) = ask.functions();
+    let f = |x: T| first.of::<T, T>(x);
+    match given {
+        Given::Both(value) => match ask.call {
+            "map" => ask.show(value.map(f)),
+            "reduce" => ask.show(value.reduce(|x: T, y: T| first.of_two(x, y))),
+            _ => Ok(None),
+        },
+        Given::One(value) => match ask.call {
+            "map" => ask.show(value.map(f)),
+            "reduce" => ask.show(value.reduce()),
+            "reduce_map" => ask.show(value.reduce_map(f)),
+            _ => Ok(None),
+        },
     }
 }

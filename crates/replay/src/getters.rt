@@ -1,11 +1,18 @@
 //! Getters: what a place holds, and another value in its stead.
 
 use crate::ask::{Ask, Refused, Said};
-use crate::read::{Held, Value};
+use crate::read::{Given, Held, Value};
 use either_or_both::{Either, EitherOrBoth};
 
-/// The answer of a getter of an `EitherOrBoth`.
-pub fn of_both<L: Value, R: Value>(ask: &Ask, value: EitherOrBoth<L, R>) -> Said {
+/// The answer of a getter.
+pub fn answer<L: Value, R: Value>(ask: &Ask, given: Given<L, R>) -> Said {
+    match given {
+        Given::Both(value) => of_both(ask, value),
+        Given::One(value) => of_either(ask, value),
+    }
+}
+
+fn of_both<L: Value, R: Value>(ask: &Ask, value: EitherOrBoth<L, R>) -> Said {
     let (f, _) = ask.functions();
     match ask.call {
         "both" => ask.show(value.both()),
@@ -24,8 +31,7 @@ pub fn of_both<L: Value, R: Value>(ask: &Ask, value: EitherOrBoth<L, R>) -> Said
     }
 }
 
-/// The answer of a getter of an `Either`.
-pub fn of_either<L: Value, R: Value>(ask: &Ask, value: Either<L, R>) -> Said {
+fn of_either<L: Value, R: Value>(ask: &Ask, value: Either<L, R>) -> Said {
     let (f, _) = ask.functions();
     match ask.call {
         "left" => ask.show(value.left()),

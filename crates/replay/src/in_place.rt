@@ -1,11 +1,18 @@
 //! In place: what the call gives, and what is left. What is given by reference is shown, and then twice that is written through it.
 
 use crate::ask::{Ask, Said};
-use crate::read::Value;
+use crate::read::{Given, Value};
 use either_or_both::{Either, EitherOrBoth};
 
-/// The answer of a call that changes an `EitherOrBoth` in place.
-pub fn of_both<L: Value, R: Value>(ask: &Ask, value: EitherOrBoth<L, R>) -> Said {
+/// The answer of a call that changes a value in place.
+pub fn answer<L: Value, R: Value>(ask: &Ask, given: Given<L, R>) -> Said {
+    match given {
+        Given::Both(value) => of_both(ask, value),
+        Given::One(value) => of_either(ask, value),
+    }
+}
+
+fn of_both<L: Value, R: Value>(ask: &Ask, value: EitherOrBoth<L, R>) -> Said {
     let mut value = value;
     match ask.call {
         "replace_any" => {
@@ -33,26 +40,34 @@ pub fn of_both<L: Value, R: Value>(ask: &Ask, value: EitherOrBoth<L, R>) -> Said
 fn insert_left<L: Value, R: Value>(ask: &Ask, value: EitherOrBoth<L, R>) -> Said {
     let mut value = value;
     let (given, _) = ask.makers();
-    let place = match ask.call {
-        "insert_left" => value.insert_left(ask.first()?),
-        "left_or_insert" => value.left_or_insert(ask.first()?),
-        "left_or_insert_with" => value.left_or_insert_with(|| given.make()),
-        _ => value.left_or_insert_default(),
+    let argument = if ask.args.is_empty() {
+        L::default()
+    } else {
+        ask.first()?
     };
-    let held = double(place);
+    let held = match ask.call {
+        "insert_left" => double(value.insert_left(argument)),
+        "left_or_insert" => double(value.left_or_insert(argument)),
+        "left_or_insert_with" => double(value.left_or_insert_with(|| given.make())),
+        _ => double(value.left_or_insert_default()),
+    };
     ask.show_left(held, &value)
 }
 
 fn insert_right<L: Value, R: Value>(ask: &Ask, value: EitherOrBoth<L, R>) -> Said {
     let mut value = value;
     let (given, _) = ask.makers();
-    let place = match ask.call {
-        "insert_right" => value.insert_right(ask.first()?),
-        "right_or_insert" => value.right_or_insert(ask.first()?),
-        "right_or_insert_with" => value.right_or_insert_with(|| given.make()),
-        _ => value.right_or_insert_default(),
+    let argument = if ask.args.is_empty() {
+        R::default()
+    } else {
+        ask.first()?
     };
-    let held = double(place);
+    let held = match ask.call {
+        "insert_right" => double(value.insert_right(argument)),
+        "right_or_insert" => double(value.right_or_insert(argument)),
+        "right_or_insert_with" => double(value.right_or_insert_with(|| given.make())),
+        _ => double(value.right_or_insert_default()),
+    };
     ask.show_left(held, &value)
 }
 
@@ -63,8 +78,7 @@ pub fn double<T: Value>(place: &mut T) -> T {
     held
 }
 
-/// The answer of a call that changes an `Either` in place.
-pub fn of_either<L: Value, R: Value>(ask: &Ask, value: Either<L, R>) -> Said {
+fn of_either<L: Value, R: Value>(ask: &Ask, value: Either<L, R>) -> Said {
     let mut value = value;
     match ask.call {
         "replace_left" => {

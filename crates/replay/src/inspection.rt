@@ -1,8 +1,7 @@
 //! Inspection and application: functions called on the values, in their order.
 
 use crate::ask::{Ask, Said};
-use crate::read::Value;
-use either_or_both::{Either, EitherOrBoth};
+use crate::read::{Given, Value};
 
 // The calls that both enums have.
 macro_rules! shared {
@@ -19,72 +18,50 @@ macro_rules! shared {
     };
 }
 
-/// The answer of a call that inspects an `EitherOrBoth` or applies functions to it.
-pub fn of_both<L: Value, R: Value>(ask: &Ask, value: EitherOrBoth<L, R>) -> Said {
+/// The answer of a call that inspects a value or applies functions to it.
+pub fn answer<L: Value, R: Value>(ask: &Ask, given: Given<L, R>) -> Said {
     let (first, second) = ask.functions();
     let see_left = |l: &L| first.see(l);
     let see_right = |r: &R| second.see(r);
     let left = |l: L| first.see(&l);
     let right = |r: R| second.see(&r);
-    match ask.call {
-        "biapply_with" => fold_both(ask, value),
-        _ => shared!(ask, value, see_left, see_right, left, right),
+    if ask.call == "biapply_with" {
+        return folded(ask, given);
+    }
+    match given {
+        Given::Both(value) => shared!(ask, value, see_left, see_right, left, right),
+        Given::One(value) => shared!(ask, value, see_left, see_right, left, right),
     }
 }
 
 // An accumulator is changed in place, by the left value and then by the right one.
-fn fold_both<L: Value, R: Value>(ask: &Ask, value: EitherOrBoth<L, R>) -> Said {
+fn folded<L: Value, R: Value>(ask: &Ask, given: Given<L, R>) -> Said {
     let (first, second) = ask.functions();
+    let left = |acc: &mut i32, l: L| *acc = first.fold(*acc, l);
+    let right = |acc: &mut i32, r: R| *acc = second.fold(*acc, r);
     let mut acc = 1;
-    value.biapply_with(
-        &mut acc,
-        |acc: &mut i32, l: L| *acc = first.fold(*acc, l),
-        |acc: &mut i32, r: R| *acc = second.fold(*acc, r),
-    );
+    match given {
+        Given::Both(value) => value.biapply_with(&mut acc, left, right),
+        Given::One(value) => value.biapply_with(&mut acc, left, right),
+    }
     ask.show(acc)
 }
 
 /// The same of two places of one type.
-pub fn of_one_type<T: Value>(ask: &Ask, value: EitherOrBoth<T>) -> Said {
+pub fn of_one_type<T: Value>(ask: &Ask, given: Given<T, T>) -> Said {
     let (f, _) = ask.functions();
-    match ask.call {
-        "inspect" => ask.show(value.inspect(|x: &T| f.see(x))),
-        "apply" => ask.show(value.apply(|x: T| f.see(&x))),
-        _ => Ok(None),
-    }
-}
-
-/// The answer of a call that inspects an `Either` or applies functions to it.
-pub fn of_either<L: Value, R: Value>(ask: &Ask, value: Either<L, R>) -> Said {
-    let (first, second) = ask.functions();
-    let see_left = |l: &L| first.see(l);
-    let see_right = |r: &R| second.see(r);
-    let left = |l: L| first.see(&l);
-    let right = |r: R| second.see(&r);
-    match ask.call {
-        "biapply_with" => fold_either(ask, value),
-        _ => shared!(ask, value, see_left, see_right, left, right),
-    }
-}
-
-// The accumulator goes to the function of the side that is there.
-fn fold_either<L: Value, R: Value>(ask: &Ask, value: Either<L, R>) -> Said {
-    let (first, second) = ask.functions();
-    let mut acc = 1;
-    value.biapply_with(
-        &mut acc,
-        |acc: &mut i32, l: L| *acc = first.fold(*acc, l),
-        |acc: &mut i32, r: R| *acc = second.fold(*acc, r),
-    );
-    ask.show(acc)
-}
-
-/// The same of two places of one type.
-pub fn of_either_of_one_type<T: Value>(ask: &Ask, value: Either<T>) -> Said {
-    let (f, _) = ask.functions();
-    match ask.call {
-        "inspect" => ask.show(value.inspect(|x: &T| f.see(x))),
-        "apply" => ask.show(value.apply(|x: T| f.see(&x))),
-        _ => Ok(None),
+    let see = |x: &T| f.see(x);
+    let take = |x: T| f.see(&x);
+    match given {
+        Given::Both(value) => match ask.call {
+            "inspect" => ask.show(value.inspect(see)),
+            "apply" => ask.show(value.apply(take)),
+            _ => Ok(None),
+        },
+        Given::One(value) => match ask.call {
+            "inspect" => ask.show(value.inspect(see)),
+            "apply" => ask.show(value.apply(take)),
+            _ => Ok(None),
+        },
     }
 }

@@ -28,8 +28,7 @@ mod values;
 mod walks;
 
 use ask::{Ask, Refused, Said};
-use either_or_both::{Either, EitherOrBoth};
-use read::{Held, Value, optional};
+use read::{Given, Held, Value, optional};
 use std::alloc::{AllocError, Global};
 use std::io::{self, BufRead, BufReader, BufWriter, Write};
 
@@ -70,7 +69,7 @@ fn answer_call(ask: &Ask) -> Said {
         }
         "into" | "try_into" | "question" | "message" => conversions::answer(ask),
         "collect" => collect::answer(ask),
-        "read_json" => text::answer(ask),
+        "read_json" => text::of_json(ask),
         "extend" => containers::answer(ask),
         "into_iter_swap"
         | "iter_swap"
@@ -87,103 +86,57 @@ fn answer_call(ask: &Ask) -> Said {
 
 fn answer_value(ask: &Ask) -> Said {
     let alloc = ask.alloc();
-    if let Some(value) = optional(EitherOrBoth::<i32>::read(alloc, ask.value))? {
-        return match of_numbers(ask, value)? {
-            Some(answer) => Ok(Some(answer)),
-            None => of_both(ask, value),
-        };
+    let Some(given) = optional(Given::<i32, i32>::read(alloc, ask.value))? else {
+        return of_types(ask, Given::<u8, char>::read(alloc, ask.value)?);
+    };
+    match of_numbers(ask, given)? {
+        Some(answer) => Ok(Some(answer)),
+        None => of_types(ask, given),
     }
-    if let Some(value) = optional(Either::<i32>::read(alloc, ask.value))? {
-        return match of_one_number(ask, value)? {
-            Some(answer) => Ok(Some(answer)),
-            None => of_either(ask, value),
-        };
-    }
-    if let Some(value) = optional(EitherOrBoth::<u8, char>::read(alloc, ask.value))? {
-        return of_both(ask, value);
-    }
-    of_either(ask, Either::<u8, char>::read(alloc, ask.value)?)
 }
 
 // The calls on two places of one type.
-fn of_numbers(ask: &Ask, value: EitherOrBoth<i32>) -> Said {
-    if let Some(answer) = forms::of_one_type(ask, value)? {
+fn of_numbers(ask: &Ask, given: Given<i32, i32>) -> Said {
+    if let Some(answer) = forms::of_one_type(ask, given)? {
         return Ok(Some(answer));
     }
-    if let Some(answer) = inspection::of_one_type(ask, value)? {
+    if let Some(answer) = inspection::of_one_type(ask, given)? {
         return Ok(Some(answer));
     }
-    values::of_both(ask, value)
+    match given {
+        Given::Both(value) => values::of_both(ask, value),
+        Given::One(value) => match containers::of_pointer(ask, value)? {
+            Some(answer) => Ok(Some(answer)),
+            None => values::of_either(ask, value),
+        },
+    }
 }
 
-// The same of `Either`.
-fn of_one_number(ask: &Ask, value: Either<i32>) -> Said {
-    if let Some(answer) = forms::of_either_of_one_type(ask, value)? {
+// The calls on places of any types.
+fn of_types<L: Value, R: Value>(ask: &Ask, given: Given<L, R>) -> Said {
+    if let Some(answer) = queries::answer(ask, given)? {
         return Ok(Some(answer));
     }
-    if let Some(answer) = inspection::of_either_of_one_type(ask, value)? {
+    if let Some(answer) = references::answer(ask, given)? {
         return Ok(Some(answer));
     }
-    if let Some(answer) = containers::of_pointer(ask, value)? {
+    if let Some(answer) = unwraps::answer(ask, given)? {
         return Ok(Some(answer));
     }
-    values::of_either(ask, value)
-}
-
-// The calls on two places of any types.
-fn of_both<L: Value, R: Value>(ask: &Ask, value: EitherOrBoth<L, R>) -> Said {
-    if let Some(answer) = queries::of_both(ask, value)? {
+    if let Some(answer) = getters::answer(ask, given)? {
         return Ok(Some(answer));
     }
-    if let Some(answer) = references::of_both(ask, value)? {
+    if let Some(answer) = forms::answer(ask, given)? {
         return Ok(Some(answer));
     }
-    if let Some(answer) = unwraps::of_both(ask, value)? {
+    if let Some(answer) = inspection::answer(ask, given)? {
         return Ok(Some(answer));
     }
-    if let Some(answer) = getters::of_both(ask, value)? {
+    if let Some(answer) = in_place::answer(ask, given)? {
         return Ok(Some(answer));
     }
-    if let Some(answer) = forms::of_both(ask, value)? {
+    if let Some(answer) = order::answer(ask, given)? {
         return Ok(Some(answer));
     }
-    if let Some(answer) = inspection::of_both(ask, value)? {
-        return Ok(Some(answer));
-    }
-    if let Some(answer) = in_place::of_both(ask, value)? {
-        return Ok(Some(answer));
-    }
-    if let Some(answer) = order::of_both(ask, value)? {
-        return Ok(Some(answer));
-    }
-    text::of_both(ask, value)
-}
-
-// The same of `Either`.
-fn of_either<L: Value, R: Value>(ask: &Ask, value: Either<L, R>) -> Said {
-    if let Some(answer) = queries::of_either(ask, value)? {
-        return Ok(Some(answer));
-    }
-    if let Some(answer) = references::of_either(ask, value)? {
-        return Ok(Some(answer));
-    }
-    if let Some(answer) = unwraps::of_either(ask, value)? {
-        return Ok(Some(answer));
-    }
-    if let Some(answer) = getters::of_either(ask, value)? {
-        return Ok(Some(answer));
-    }
-    if let Some(answer) = forms::of_either(ask, value)? {
-        return Ok(Some(answer));
-    }
-    if let Some(answer) = inspection::of_either(ask, value)? {
-        return Ok(Some(answer));
-    }
-    if let Some(answer) = in_place::of_either(ask, value)? {
-        return Ok(Some(answer));
-    }
-    if let Some(answer) = order::of_either(ask, value)? {
-        return Ok(Some(answer));
-    }
-    text::of_either(ask, value)
+    text::answer(ask, given)
 }

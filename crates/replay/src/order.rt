@@ -1,23 +1,17 @@
 //! The order of two values, and whether they are equal and hash alike.
 
 use crate::ask::{Ask, Said};
-use crate::read::{Held, Value};
-use either_or_both::{Either, EitherOrBoth};
+use crate::read::{Given, Held, Value};
 use std::hash::{DefaultHasher, Hash, Hasher};
 
-/// The comparison of an `EitherOrBoth` with another one.
-pub fn of_both<L: Value, R: Value>(ask: &Ask, value: EitherOrBoth<L, R>) -> Said {
-    match ask.call {
-        "cmp" => compared(ask, value),
-        _ => Ok(None),
+/// The comparison of a value with another one.
+pub fn answer<L: Value, R: Value>(ask: &Ask, given: Given<L, R>) -> Said {
+    if ask.call != "cmp" {
+        return Ok(None);
     }
-}
-
-/// The same of `Either`.
-pub fn of_either<L: Value, R: Value>(ask: &Ask, value: Either<L, R>) -> Said {
-    match ask.call {
-        "cmp" => compared(ask, value),
-        _ => Ok(None),
+    match given {
+        Given::Both(value) => compared(ask, value),
+        Given::One(value) => compared(ask, value),
     }
 }
 

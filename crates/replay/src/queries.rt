@@ -1,8 +1,7 @@
 //! Tests: which places are present, and whether what they hold passes a test.
 
 use crate::ask::{Ask, Said};
-use crate::read::Value;
-use either_or_both::{Either, EitherOrBoth};
+use crate::read::{Given, Value};
 
 // The calls that both enums have.
 macro_rules! shared {
@@ -19,11 +18,15 @@ macro_rules! shared {
     };
 }
 
-/// The answer of a test of an `EitherOrBoth`.
-pub fn of_both<L: Value, R: Value>(ask: &Ask, value: EitherOrBoth<L, R>) -> Said {
+/// The answer of a test.
+pub fn answer<L: Value, R: Value>(ask: &Ask, given: Given<L, R>) -> Said {
     let (first, second) = ask.functions();
     let left = |l: L| first.test(l);
     let right = |r: R| second.test(r);
+    let value = match given {
+        Given::One(value) => return shared!(ask, value, left, right),
+        Given::Both(value) => value,
+    };
     match ask.call {
         "has_left" => ask.show(value.has_left()),
         "has_left_and" => ask.show(value.has_left_and(left)),
@@ -36,12 +39,4 @@ pub fn of_both<L: Value, R: Value>(ask: &Ask, value: EitherOrBoth<L, R>) -> Said
         "is_both_or" => ask.show(value.is_both_or(left, right)),
         _ => shared!(ask, value, left, right),
     }
-}
-
-/// The answer of a test of an `Either`.
-pub fn of_either<L: Value, R: Value>(ask: &Ask, value: Either<L, R>) -> Said {
-    let (first, second) = ask.functions();
-    let left = |l: L| first.test(l);
-    let right = |r: R| second.test(r);
-    shared!(ask, value, left, right)
 }

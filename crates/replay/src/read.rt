@@ -23,7 +23,7 @@ pub trait Value: Held + Copy + Default + Ord + Hash + Debug + Display {
 
 impl Held for i32 {
     fn read(_alloc: Global, text: &str) -> Result<Self, Refused> {
-        text.parse().map_err(|_| Refused::Line)
+        text.parse().ok().ok_or(Refused::Line)
     }
 }
 
@@ -40,7 +40,7 @@ impl Value for i32 {
 impl Held for u8 {
     fn read(_alloc: Global, text: &str) -> Result<Self, Refused> {
         let digits = text.strip_suffix("u8").ok_or(Refused::Line)?;
-        digits.parse().map_err(|_| Refused::Line)
+        digits.parse().ok().ok_or(Refused::Line)
     }
 }
 
@@ -150,6 +150,24 @@ pub fn read_list<T: Held>(alloc: Global, text: &str, between: &str) -> Result<Ve
 /// A list of values, as `[Left(1); Both(2, 3)]`.
 pub fn read_values<T: Held>(alloc: Global, text: &str) -> Result<Vec<T>, Refused> {
     read_list(alloc, between(text, "[", "]")?, "; ")
+}
+
+/// A value of one of the two enums, with these types on its sides.
+#[derive(Clone, Copy, Drop)]
+pub enum Given<L, R> {
+    /// An `EitherOrBoth`.
+    Both(EitherOrBoth<L, R>),
+    /// An `Either`.
+    One(Either<L, R>),
+}
+
+impl<L: Value, R: Value> Held for Given<L, R> {
+    fn read(alloc: Global, text: &str) -> Result<Self, Refused> {
+        match optional(EitherOrBoth::read(alloc, text))? {
+            Some(value) => Ok(Given::Both(value)),
+            None => Ok(Given::One(Either::read(alloc, text)?)),
+        }
+    }
 }
 
 /// What was read, and None where the text is another thing.

@@ -1,18 +1,17 @@
 //! References to the places, and clones and copies of what they point to.
 
 use crate::ask::{Ask, Said};
-use crate::read::Value;
+use crate::read::{Given, Value};
 use either_or_both::{Either, EitherOrBoth};
 use std::alloc::{AllocError, Global};
 
 // The calls that both enums have. What is read from the line is written through a reference.
 macro_rules! shared {
-    ($ask:ident, $value:ident, $boxes:ident) => {
+    ($ask:ident, $value:ident, $boxes:ident, $left:ident, $right:ident) => {
         match $ask.call {
             "as_ref" => $ask.show($value.as_ref()),
             "as_mut" => {
-                let (first, second) = $ask.functions();
-                $value.as_mut().biapply(|l| *l = first.of(*l), |r| *r = second.of(*r));
+                $value.as_mut().biapply($left, $right);
                 $ask.show_left((), &$value)
             }
             "left_mut" => {
@@ -31,9 +30,8 @@ macro_rules! shared {
             }
             "as_deref" => $ask.show($boxes($ask.alloc(), $value)?.as_deref()),
             "as_deref_mut" => {
-                let (first, second) = $ask.functions();
                 let mut boxes = $boxes($ask.alloc(), $value)?;
-                boxes.as_deref_mut().biapply(|l| *l = first.of(*l), |r| *r = second.of(*r));
+                boxes.as_deref_mut().biapply($left, $right);
                 $ask.show_left((), &boxes)
             }
             "clone" => $ask.show($value.clone()?),
@@ -46,24 +44,26 @@ macro_rules! shared {
     };
 }
 
-/// The answer of a call on an `EitherOrBoth` that makes references or takes such.
-pub fn of_both<L: Value, R: Value>(ask: &Ask, value: EitherOrBoth<L, R>) -> Said {
-    let mut value = value;
-    shared!(ask, value, boxed)
-}
-
-/// The same of `Either`, which is made one of references by `from` too.
-pub fn of_either<L: Value, R: Value>(ask: &Ask, value: Either<L, R>) -> Said {
-    let mut value = value;
+/// The answer of a call that makes references or takes such. An `Either` is made one of references by `from` too.
+pub fn answer<L: Value, R: Value>(ask: &Ask, given: Given<L, R>) -> Said {
+    let (first, second) = ask.functions();
+    let left = |l: &mut L| *l = first.of(*l);
+    let right = |r: &mut R| *r = second.of(*r);
+    let mut value = match given {
+        Given::One(value) => value,
+        Given::Both(value) => {
+            let mut value = value;
+            return shared!(ask, value, boxed, left, right);
+        }
+    };
     match ask.call {
         "from_ref" => ask.show(Either::from(&value)),
         "from_mut" => {
-            let (first, second) = ask.functions();
             let places: Either<&mut L, &mut R> = Either::from(&mut value);
-            places.biapply(|l| *l = first.of(*l), |r| *r = second.of(*r));
+            places.biapply(left, right);
             ask.show_left((), &value)
         }
-        _ => shared!(ask, value, boxed_either),
+        _ => shared!(ask, value, boxed_either, left, right),
     }
 }
 

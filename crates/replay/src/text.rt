@@ -1,24 +1,19 @@
 //! What values print, under the settings of a formatter, and what they are in JSON.
 
 use crate::ask::{Ask, Refused, Said};
-use crate::read::Value;
+use crate::read::{Given, Value};
 use either_or_both::{Either, EitherOrBoth};
 use serde::{Deserialize, Serialize};
 use std::fmt::{Debug, Display};
 
-/// What an `EitherOrBoth` prints.
-pub fn of_both<L: Value, R: Value>(ask: &Ask, value: EitherOrBoth<L, R>) -> Said {
-    match ask.call {
-        "print" => printed(ask, value),
-        _ => Ok(None),
+/// What a value prints.
+pub fn answer<L: Value, R: Value>(ask: &Ask, given: Given<L, R>) -> Said {
+    if ask.call != "print" {
+        return Ok(None);
     }
-}
-
-/// The same of `Either`.
-pub fn of_either<L: Value, R: Value>(ask: &Ask, value: Either<L, R>) -> Said {
-    match ask.call {
-        "print" => printed(ask, value),
-        _ => Ok(None),
+    match given {
+        Given::Both(value) => printed(ask, value),
+        Given::One(value) => printed(ask, value),
     }
 }
 
@@ -39,7 +34,7 @@ fn printed<T: Debug + Display + Drop>(ask: &Ask, value: T) -> Said {
 }
 
 /// What a text of JSON is as a value of the type that the line names, and the text that is written of that value.
-pub fn answer(ask: &Ask) -> Said {
+pub fn of_json(ask: &Ask) -> Said {
     match ask.args {
         "EitherOrBoth" => read_json::<EitherOrBoth<i32>>(ask),
         "EitherOrBoth<u8, char>" => read_json::<EitherOrBoth<u8, char>>(ask),

@@ -1,8 +1,8 @@
 //! Unwraps. Here the caller proves the variant; where it is another one, the original panics, and the answer is `panics`.
 
 use crate::ask::{Ask, Said};
-use crate::read::Value;
-use either_or_both::{Either, EitherOrBoth};
+use crate::read::{Given, Value};
+use either_or_both::EitherOrBoth;
 
 // The calls that both enums have.
 macro_rules! shared {
@@ -27,8 +27,15 @@ macro_rules! shared {
     };
 }
 
-/// The answer of an unwrap of an `EitherOrBoth`.
-pub fn of_both<L: Value, R: Value>(ask: &Ask, value: EitherOrBoth<L, R>) -> Said {
+/// The answer of an unwrap.
+pub fn answer<L: Value, R: Value>(ask: &Ask, given: Given<L, R>) -> Said {
+    match given {
+        Given::Both(value) => of_both(ask, value),
+        Given::One(value) => shared!(ask, value),
+    }
+}
+
+fn of_both<L: Value, R: Value>(ask: &Ask, value: EitherOrBoth<L, R>) -> Said {
     match ask.call {
         "expect_both" | "unwrap_both" | "unwrap_both_unchecked" if !value.is_both() => ask.panics(),
         "expect_both" => ask.show(value.expect_both("both")),
@@ -46,9 +53,4 @@ pub fn of_both<L: Value, R: Value>(ask: &Ask, value: EitherOrBoth<L, R>) -> Said
         "unwrap_only_right_unchecked" => ask.show(value.unwrap_only_right_unchecked()),
         _ => shared!(ask, value),
     }
-}
-
-/// The answer of an unwrap of an `Either`.
-pub fn of_either<L: Value, R: Value>(ask: &Ask, value: Either<L, R>) -> Said {
-    shared!(ask, value)
 }
