@@ -1,1 +1,7 @@
-mod GrowthLemmas
+mod ItemLemmas
+mod CommandLemmas
+mod ShownLemmas
+mod EndLemmas
+mod TableLemmas
+mod SpacedLemmas
+mod AnswerLemmas

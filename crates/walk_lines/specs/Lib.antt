@@ -1,2 +1,3 @@
-pub mod Growth
-pub mod Names
+pub mod Commands
+pub mod Texts
+pub mod Answers

@@ -2,12 +2,12 @@
 //!
 //! The walk is driven some calls at a time, since its answers take many times the memory of the letters that call for them.
 ghost use Rattle.std.specs.Prelude.{◌≤◌, length};
-ghost use Rattle.walk_lines.specs.Growth.{Extends};
+ghost use Rattle.line_words.specs.Growth.{Extends};
 
 use super::items::append_item;
-use super::parts::{append_part, append_parts};
 use crate::line::{Calls, Item, Sides};
 use eob_lists::laws::{End, drive_walk};
+use line_words::{append_number, append_parts};
 use std::alloc::{AllocError, Allocator};
 
 // The calls that are answered at a time.
@@ -18,7 +18,7 @@ const CALLS_AT_A_TIME: usize = 64;
 /// # Errors
 ///
 /// Returns `AllocError` if a request for memory was refused. What was appended until then stays.
-#[tactic(auto, using(crate::proofs::GrowthLemmas::extends_trans))]
+#[tactic(auto, using(line_words::proofs::GrowthLemmas::extends_trans))]
 pub fn append_ends<'a, A: Allocator + Copy>(
     alloc: A,
     output: &mut Vec<u8, A>,
@@ -53,7 +53,7 @@ fn put_ends(ends: &mut [End], letters: &[u8]) -> usize
 }
 
 // Appends each answer of a walk with a space after it, `.` where it had none.
-#[tactic(auto, using(crate::proofs::GrowthLemmas::extends_trans))]
+#[tactic(auto, using(line_words::proofs::GrowthLemmas::extends_trans))]
 fn append_answers<A: Allocator>(
     output: &mut Vec<u8, A>,
     answers: &[Option<Item>],
@@ -68,20 +68,4 @@ fn append_answers<A: Allocator>(
         append_parts(output, &[b" "])?;
     }
     Ok(())
-}
-
-// Appends a number. One digit takes no memory of its own.
-fn append_number<A: Allocator + Clone>(
-    alloc: A,
-    output: &mut Vec<u8, A>,
-    number: usize,
-) -> Result<(), AllocError>
-    ensures { Extends output.old.items output.new.items }
-{
-    if number < 10 {
-        let digit = [b'0' + number as u8];
-        return append_part(output, &digit);
-    }
-    let digits = format!(in alloc; "{number}")?;
-    append_part(output, digits.as_bytes())
 }

@@ -1,4 +1,4 @@
-use Rattle.walk_lines.proofs.GrowthLemmas.{extends_same}
+use Rattle.line_words.proofs.GrowthLemmas.{extends_same}
 use Rattle.walk_lines.proofs.answer.ends.append_answers.Goals as goal
 
 pub loop-answer-init : goal.loop-answer-init

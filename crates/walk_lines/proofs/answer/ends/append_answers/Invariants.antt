@@ -1,4 +1,4 @@
-use Rattle.walk_lines.specs.Growth.{Extends}
+use Rattle.line_words.specs.Growth.{Extends}
 use Rattle.walk_lines.proofs.answer.ends.append_answers.Given as goal
 
 -- what was there stays

@@ -3,7 +3,7 @@ use Rattle.eob_lists.specs.Places.{left_place, right_place, map_places}
 use Rattle.eob_lists.proofs.EndsLemmas.{to_come_uncounted}
 use Rattle.eob_lists.proofs.StdEnds.{items_of, vec_place}
 use Rattle.eob_lists.proofs.SwapLemmas.{swap_of_places}
-use Rattle.walk_lines.proofs.GrowthLemmas.{extends_same, extends_trans}
+use Rattle.line_words.proofs.GrowthLemmas.{extends_same, extends_trans}
 use Rattle.walk_lines.proofs.answer.ends.append_ends.Goals as goal
 
 pub loop-letters-init : goal.loop-letters-init

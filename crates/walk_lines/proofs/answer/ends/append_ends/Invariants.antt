@@ -2,7 +2,7 @@ use Rattle.eob_lists.specs.Answers.{Listed}
 use Rattle.eob_lists.specs.Ends.{CountedToCome}
 use Rattle.eob_lists.specs.Swap.{swap_ends}
 use Rattle.eob_lists.proofs.StdEnds.{vec_ends}
-use Rattle.walk_lines.specs.Growth.{Extends}
+use Rattle.line_words.specs.Growth.{Extends}
 use Rattle.walk_lines.proofs.answer.ends.append_ends.Given as goal
 
 -- what was there stays, and the walk has some list still to come
