@@ -1,4 +1,5 @@
 use Rattle.std.proofs.Common.{refl}
+use Rattle.line_words.proofs.GrowthLemmas.{extends_same}
 use Rattle.walk_lines.specs.Texts.{LineAnswer, bad_text}
 use Rattle.walk_lines.proofs.AnswerLemmas.{answered}
 use Rattle.walk_lines.proofs.CommandLemmas.{answer_said, bad_said}
@@ -18,3 +19,6 @@ returns-in-None-clause-answer g c = (
   (bad_said c.args.line.now c.in_ok-answer.field-0 c.in-None.is c.in_ok-answer.ensures, refl),
   c.in_ok-append_bad_line-in-None.ensures.text,
 )
+
+pub returns-in_err-answer-clause-grown : goal.returns-in_err-answer-clause-grown
+returns-in_err-answer-clause-grown g c = extends_same _
