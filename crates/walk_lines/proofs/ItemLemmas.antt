@@ -16,8 +16,11 @@ behind b bs h p = All-cons (λ c. c ≢ 32) b bs h p
 pub item_word : (item : Named) → HasNames item → IsWord (item_text item)
 item_word (Left w) h = (λ e. absurd (cc), behind 108 (58 ∷ w) (λ q. absurd (omega arith)) (behind 58 w (λ q. absurd (omega arith)) (name_spaceless w h)))
 item_word (Right w) h = (λ e. absurd (cc), behind 114 (58 ∷ w) (λ q. absurd (omega arith)) (behind 58 w (λ q. absurd (omega arith)) (name_spaceless w h)))
-item_word (Both v w) h = (λ e. absurd (cc), behind 98 (58 ∷ v ++ 58 ∷ w) (λ q. absurd (omega arith)) (behind 58 (v ++ 58 ∷ w) (λ q. absurd (omega arith))
-    (All-append (λ c. c ≢ 32) v (58 ∷ w) (name_spaceless v h.0) (behind 58 w (λ q. absurd (omega arith)) (name_spaceless w h.1)))))
+item_word (Both v w) h = (
+  λ e. absurd (cc),
+  behind 98 (58 ∷ v ++ 58 ∷ w) (λ q. absurd (omega arith)) (behind 58 (v ++ 58 ∷ w) (λ q. absurd (omega arith))
+      (All-append (λ c. c ≢ 32) v (58 ∷ w) (name_spaceless v h.0) (behind 58 w (λ q. absurd (omega arith)) (name_spaceless w h.1)))),
+)
 
 pub entry_word : (p : Entry) → HasEntryNames p → IsWord (entry_text p)
 entry_word p h = (λ e. h.0.0 (front p.0 (61 ∷ p.1) e), All-append (λ c. c ≢ 32) p.0 (61 ∷ p.1) (name_spaceless p.0 h.0) (behind 61 p.1 (λ q. absurd (omega arith)) (name_spaceless p.1 h.1)))
@@ -42,6 +45,7 @@ item_once (Both u v) (Both w z) x y p q m n e =
     colon : ¬ IsNameByte 58
     colon (inl h) = absurd (omega arith)
     colon (inr h) = absurd (omega arith)
+
     tail : {xs ys : List ℕ} → 58 ∷ xs ≡ 58 ∷ ys → xs ≡ ys
     tail e = cc
 item_once (Left v) (Right w) x y p q m n e = absurd (heads 108 114 (58 ∷ (v ++ x)) (58 ∷ (w ++ y)) refl e)

@@ -30,7 +30,7 @@ no_name_nil b rest e p = absurd (cc)
 pub entry_once : (i j : Entry) (x y : List ℕ) → HasEntryNames i → HasEntryNames j → NoNameAhead x → NoNameAhead y → entry_text i ++ x ≡ entry_text j ++ y → (i ≡ j) × (x ≡ y)
 entry_once i j x y p q m n e =
     let r = one_split i.0 (61 ∷ (i.1 ++ x)) j.0 (61 ∷ (j.1 ++ y)) p.0.1 q.0.1 (byte_no_name 61 (i.1 ++ x) equals_no_name) (byte_no_name 61 (j.1 ++ y) equals_no_name)
-        (sym (append_assoc i.0 (61 ∷ i.1) x) ∙ e ∙ append_assoc j.0 (61 ∷ j.1) y) in
+    (sym (append_assoc i.0 (61 ∷ i.1) x) ∙ e ∙ append_assoc j.0 (61 ∷ j.1) y) in
     let s : i.1 ++ x ≡ j.1 ++ y = tail r.1 in
     let t = one_split i.1 x j.1 y p.1.1 q.1.1 m n s in
     (ap₂ (λ a b. (a, b)) r.0 t.0, t.1)

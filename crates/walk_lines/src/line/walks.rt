@@ -7,7 +7,6 @@ ghost use Rattle.line_words.specs.Words.{NoSpaceAhead};
 ghost use Rattle.walk_lines.specs.Answers.{AnswersBehind, HasItemAhead, NoItemAhead, SaysItems};
 ghost use Rattle.walk_lines.specs.Answers.{SaysNoItems, shown};
 ghost use Rattle.walk_lines.specs.Commands.{end_letter, HasNames, item_text, Named};
-
 ghost use Rattle.eob_lists.specs.declared.drive.End.{End};
 
 use super::{Answer, Item, Items, Name, Sides};

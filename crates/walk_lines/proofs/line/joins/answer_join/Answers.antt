@@ -47,12 +47,12 @@ returns-in-Some g c =
     not_rising c.args.words.now c.in_ok-left.words.now c.in-Some.words.now c.in_ok-right-in-Some.words.now (shown_table left) (shown_table right)
     (record { left_said = c.in_ok-left.ensures.0; left_whole = c.in_ok-left.ensures.2; slash = c.in-Some.ensures; right_said = c.in_ok-right-in-Some.ensures.0; right_whole = c.in_ok-right-in-Some.ensures.2 })
     (λ r. true≢false
-      (sym
-        (c.are_rising.ensures.1 (
-          subst (λ l. Rising bytes_cmp (shown_table l)) (sym c.deref.ensures.value) r.0,
-          subst (λ l. Rising bytes_cmp (shown_table l)) (sym c.deref-in-Some.ensures.value) r.1,
-        ))
-      ∙ c.if-are_rising.false))
+    (sym
+    (c.are_rising.ensures.1 (
+      subst (λ l. Rising bytes_cmp (shown_table l)) (sym c.deref.ensures.value) r.0,
+      subst (λ l. Rising bytes_cmp (shown_table l)) (sym c.deref-in-Some.ensures.value) r.1,
+    ))
+    ∙ c.if-are_rising.false))
 
 pub returns : goal.returns
 returns g c =

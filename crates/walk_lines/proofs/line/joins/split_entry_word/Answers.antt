@@ -12,8 +12,8 @@ pub returns-in_err-entry-clause-entry : goal.returns-in_err-entry-clause-entry
 returns-in_err-entry-clause-entry c =
     rw c.from_residual.ensures
     (λ entry ws h e.
-      let a = word_ahead c.args.bytes.now (entry_text entry) ws c.requires e in
-      true≢false (sym (c.in_err-entry.ensures.some entry.0 entry.1 a.0 h.0 h.1 (end_no_name a.0 a.2) a.1)))
+    let a = word_ahead c.args.bytes.now (entry_text entry) ws c.requires e in
+    true≢false (sym (c.in_err-entry.ensures.some entry.0 entry.1 a.0 h.0 h.1 (end_no_name a.0 a.2) a.1)))
 
 pub returns-then-is_word_end-clause-entry : goal.returns-then-is_word_end-clause-entry
 returns-then-is_word_end-clause-entry c =

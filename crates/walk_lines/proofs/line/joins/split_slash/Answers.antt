@@ -9,8 +9,8 @@ pub returns-in_err-rest : goal.returns-in_err-rest
 returns-in_err-rest c =
     rw c.from_residual.ensures
     (λ others e.
-      let a = word_ahead c.args.bytes.now (codes "/") others c.requires e in
-      c.in_err-rest.ensures a.0 a.1)
+    let a = word_ahead c.args.bytes.now (codes "/") others c.requires e in
+    c.in_err-rest.ensures a.0 a.1)
 
 pub returns-then-is_word_end : goal.returns-then-is_word_end
 returns-then-is_word_end c = ap words c.in_ok-rest.ensures ∙ words_word (codes "/") c.in_ok-rest.rest.now slash_word (c.if-is_word_end.ensures.0 refl)

@@ -11,8 +11,8 @@ pub returns-in_err-item-clause-item : goal.returns-in_err-item-clause-item
 returns-in_err-item-clause-item c =
     rw c.from_residual.ensures
     (λ item ws h e.
-      let a = word_ahead c.args.bytes.now (item_text item) ws c.requires e in
-      true≢false (sym (c.in_err-item.ensures.some item a.0 h (end_no_name a.0 a.2) a.1)))
+    let a = word_ahead c.args.bytes.now (item_text item) ws c.requires e in
+    true≢false (sym (c.in_err-item.ensures.some item a.0 h (end_no_name a.0 a.2) a.1)))
 
 pub returns-then-is_word_end-clause-item : goal.returns-then-is_word_end-clause-item
 returns-then-is_word_end-clause-item c =
