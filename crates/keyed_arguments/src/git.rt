@@ -160,13 +160,15 @@ fn versions_asked<'a>(
 
 fn merge_asked<'a>(alloc: Global, matches: &ArgMatches<'a>) -> Result<Asked<'a>, ParseError> {
     let ours = file_of(matches, "OURS");
-    let named = merge_of_path(matches.get_str("PATH").unwrap_or(ours));
+    let path = matches.get_str("PATH");
+    let named = merge_of_path(path.unwrap_or(ours));
     Ok(Asked::GitMerge {
         settings: settings_in_order(alloc, matches, named)?,
         merge: GitMerge {
             base: file_of(matches, "BASE"),
             ours,
             theirs: file_of(matches, "THEIRS"),
+            path,
         },
     })
 }

@@ -183,7 +183,7 @@ fn answer_of<'a>(
     Ok(Line::Asked {
         asked: Asked::Answer {
             command,
-            output: output_of(matches),
+            output: output_of(matches)?,
         },
         heading,
         progress: progress_of(matches),
@@ -748,8 +748,12 @@ fn put<T: Drop>(items: &mut Vec<T>, item: T) -> Result<(), AllocError> {
     Ok(())
 }
 
+// An option with a value, which may begin with a hyphen, as the name of a column may.
 fn text<'a>(alloc: Global, name: &'a str, value: &'a str, help: &'a str) -> Arg<'a> {
-    option(alloc, name).value_name(value).help(help)
+    option(alloc, name)
+        .value_name(value)
+        .allow_hyphen_values(true)
+        .help(help)
 }
 
 fn flag<'a>(alloc: Global, name: &'a str, help: &'a str) -> Arg<'a> {

@@ -30,11 +30,28 @@ pub fn tolerance_of<'a>(matches: &ArgMatches<'a>) -> Result<Option<Decimal<'a>>,
     match matches.get_str("tolerance") {
         Some(text) if by_number => match Decimal::parse(text.as_bytes()) {
             Some(tolerance) if !tolerance.is_negative() => Ok(Some(tolerance)),
-            _ => Err(wrong("not a number of 0 or more")),
+            Some(_) => Err(wrong("not a number of 0 or more")),
+            None if has_long_power(text) => {
+                Err(wrong("a power of ten of more than four digits"))
+            }
+            None => Err(wrong("not a number of 0 or more")),
         },
         Some(_) => Err(wrong("needs --numbers")),
         None if by_number => Ok(Some(Decimal::ZERO)),
         None => Ok(None),
+    }
+}
+
+// Whether a text would be a number if its power of ten had no more than four digits.
+fn has_long_power(text: &str) -> bool {
+    match text.split_once(['e', 'E']) {
+        Some((digits, power)) => {
+            let power = power.trim_start_matches(['-', '+']);
+            Decimal::parse(digits.as_bytes()).is_some()
+                && power.len() > 4
+                && power.bytes().all(|byte| byte.is_ascii_digit())
+        }
+        None => false,
     }
 }
 

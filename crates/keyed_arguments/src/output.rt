@@ -1,12 +1,26 @@
 //! The options for the file that an answer goes into, and for an answer that stands behind another.
 
-use crate::{Heading, flag, put};
+use crate::{Heading, ParseError, flag, put};
 use clap::{Arg, ArgMatches};
 use std::alloc::{AllocError, Global};
 
 /// The file that the answer goes into, if that is not the standard output.
-pub fn output_of<'a>(matches: &ArgMatches<'a>) -> Option<&'a str> {
-    matches.get_str("output").filter(|file| *file != "-")
+///
+/// # Errors
+///
+/// Returns a `ParseError` if the name of the file is empty.
+pub fn output_of<'a>(matches: &ArgMatches<'a>) -> Result<Option<&'a str>, ParseError> {
+    match matches.get_str("output") {
+        Some(file) => match file {
+            "" => Err(ParseError::Value {
+                option: "output",
+                wrong: "an empty name: give a file, or - for the standard output",
+            }),
+            "-" => Ok(None),
+            file => Ok(Some(file)),
+        },
+        None => Ok(None),
+    }
 }
 
 /// Whether the answer has the names of its columns.

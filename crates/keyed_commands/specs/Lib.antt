@@ -4,6 +4,7 @@ pub mod ByNumber
 pub mod ChangeRows
 pub mod ChangesRead
 pub mod ComeOut
+pub mod ConflictCells
 pub mod JoinAnswers
 pub mod Keys
 pub mod Laws

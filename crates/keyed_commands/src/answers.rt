@@ -15,7 +15,7 @@ use crate::by_number::{changed_by_number, settled_by_number};
 use crate::changed::{changes_shown, diff_as_csv, diff_status};
 use crate::job::{Job, Table};
 use crate::marks::{has_conflict, parted, write_marked};
-use crate::tables::{answer_of_rows, apply_tables, merge_by_cell, merge_by_row, report_conflicts};
+use crate::tables::{answer_of_merge, apply_tables, merge_by_cell, merge_by_row};
 use crate::watched::{Watched, watch};
 use eob_joins::Change;
 use keyed_files::{
@@ -343,8 +343,11 @@ fn merge_tables(
     match how.tolerance {
         Some(tolerance) => merge_by_number(job, how, tolerance, versions),
         None => match how.conflicts {
-            Conflicts::Report => merge_reported(job, how.unit, versions),
-            Conflicts::Marks => mark_conflicts(job, marked_rows(job.alloc, how.unit, versions)?),
+            Conflicts::Report => merge_reported(job, how, versions),
+            Conflicts::Marks => {
+                let rows = marked_rows(job.alloc, how.unit, versions)?;
+                mark_conflicts(job, how, rows)
+            }
         },
     }
 }
@@ -359,18 +362,8 @@ fn merge_by_number(
     let rows = marked_rows(job.alloc, how.unit, versions)?;
     let rows = settled_by_number(job.alloc, tolerance, how.unit, rows)?;
     match how.conflicts {
-        Conflicts::Marks => mark_conflicts(job, rows),
-        Conflicts::Report => merge_parted(job, rows),
-    }
-}
-
-// The merged table, or a report of the rows in conflict.
-fn merge_parted(job: &Job<'_, Columns>, rows: Vec<(Key, Marked<Group>)>) -> Result<Answer, Reason> {
-    let (settled, stuck) = parted(job.alloc, rows)?;
-    if stuck.is_empty() {
-        answer_of_rows(job, "merged", settled)
-    } else {
-        report_conflicts(job, stuck)
+        Conflicts::Marks => mark_conflicts(job, how, rows),
+        Conflicts::Report => answer_of_merge(job, how, parted(job.alloc, rows)?),
     }
 }
 
@@ -378,32 +371,34 @@ fn merge_parted(job: &Job<'_, Columns>, rows: Vec<(Key, Marked<Group>)>) -> Resu
 // rows are reported.
 fn mark_conflicts(
     job: &Job<'_, Columns>,
+    how: Merging<'_>,
     rows: Vec<(Key, Marked<Group>)>,
 ) -> Result<Answer, Reason> {
     if has_conflict(&rows) && job.columns.count_written() == job.columns.rest.len() {
         return Ok(Answer {
-            bytes: write_marked(job, job.arrange(rows)?)?,
+            bytes: write_marked(job, how, job.arrange(rows)?)?,
             status: 1,
             outcome: Outcome::Made,
         });
     }
-    merge_parted(job, rows)
+    answer_of_merge(job, how, parted(job.alloc, rows)?)
 }
 
 // The merged table, or a report of the rows in conflict.
 fn merge_reported(
     job: &Job<'_, Columns>,
-    unit: Unit,
+    how: Merging<'_>,
     versions: ThreeVersions,
 ) -> Result<Answer, Reason>
     ensures { IfOk result (λ answer. AnswersBy job.now.form job.now.columns.now
         (noted job.now.order) (is_none job.now.row_order.files)
-        versions.base.pairs.items versions.ours.pairs.items versions.theirs.pairs.items answer unit) }
+        versions.base.pairs.items versions.ours.pairs.items versions.theirs.pairs.items
+        answer how.entry.unit) }
 {
     let ThreeVersions { base, ours, theirs } = versions;
-    match unit {
-        Unit::Row => merge_by_row(job, base, ours, theirs),
-        Unit::Cell => merge_by_cell(job, base, ours, theirs),
+    match how.unit {
+        Unit::Row => merge_by_row(job, how, base, ours, theirs),
+        Unit::Cell => merge_by_cell(job, how, base, ours, theirs),
     }
 }
 

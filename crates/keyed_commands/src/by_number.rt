@@ -175,7 +175,7 @@ fn theirs_comes(tolerance: Decimal<'_>, versions: &Versions<Group>) -> bool
 }
 
 // The rows of each version.
-fn base_in(versions: &Versions<Group>) -> Option<&Group>
+pub(crate) fn base_in(versions: &Versions<Group>) -> Option<&Group>
     ensures { option_map (λ rows. rows.now) result ≡ left_place versions.now }
 {
     match versions {
@@ -185,7 +185,7 @@ fn base_in(versions: &Versions<Group>) -> Option<&Group>
     }
 }
 
-fn ours_in(versions: &Versions<Group>) -> Option<&Group>
+pub(crate) fn ours_in(versions: &Versions<Group>) -> Option<&Group>
     ensures { option_map (λ rows. rows.now) result ≡ item_left (right_place versions.now) }
 {
     match versions {
@@ -195,7 +195,7 @@ fn ours_in(versions: &Versions<Group>) -> Option<&Group>
     }
 }
 
-fn theirs_in(versions: &Versions<Group>) -> Option<&Group>
+pub(crate) fn theirs_in(versions: &Versions<Group>) -> Option<&Group>
     ensures { option_map (λ rows. rows.now) result ≡ item_right (right_place versions.now) }
 {
     match versions {
@@ -291,7 +291,7 @@ fn settled_versions(
 }
 
 // The row of a group of one.
-fn row_of(group: Option<&Group>) -> Option<&Cells>
+pub(crate) fn row_of(group: Option<&Group>) -> Option<&Cells>
     ensures { option_map (λ row. row.now) result
         ≡ option_and_then one_row (option_map (λ rows. rows.now) group.entry) }
 {
@@ -359,7 +359,7 @@ fn settled_of_three(
 }
 
 // Whether three rows have one length.
-fn are_same_length(base: &Cells, ours: &Cells, theirs: &Cells) -> bool
+pub(crate) fn are_same_length(base: &Cells, ours: &Cells, theirs: &Cells) -> bool
     ensures { result ≡ same_length base.now ours.now theirs.now }
 {
     ours.len() == base.len() && theirs.len() == base.len()
@@ -387,7 +387,7 @@ fn settled_cells(
 }
 
 // The cell of three versions, unless both sides changed it, and not alike.
-fn settled_cell<'a>(
+pub(crate) fn settled_cell<'a>(
     tolerance: Decimal<'_>,
     base: &[u8],
     ours: &'a [u8],

@@ -99,6 +99,27 @@ fn heading(alloc: Global, diff: GitDiff<'_>) -> Result<String, AllocError> {
     }
 }
 
+/// Writes the path of a table that changed and can't be opened, since the name of its file is not UTF-8, and says what compares it. The
+/// status is 0, so that git goes on with the next file.
+///
+/// # Errors
+///
+/// Returns the fault of the output, and want of memory as one of the path.
+pub fn write_git_unopened<'a, R: AllocGlobal, W: Write>(
+    rt: &R,
+    diff: GitDiff<'a>,
+    output: &mut W,
+) -> Result<u8, Fault<'a>> {
+    let mut text = at(diff.path, heading(rt.alloc(), diff))?;
+    at(diff.path, text.push_str(UNOPENED))?;
+    at("the standard output", write_whole(output, text.as_bytes()))?;
+    Ok(0)
+}
+
+// What is said of a table whose file can't be opened.
+const UNOPENED: &str =
+    "not compared: its name is not UTF-8 (git diff --no-ext-diff compares its lines)\n";
+
 /// Writes the line that git writes for a path that is in conflict. The status is 0.
 ///
 /// # Errors
@@ -138,7 +159,34 @@ pub fn write_git_merge<'a, R: Files + Input + AllocGlobal, W: Write>(
     write_answer(rt, answer, merge.ours, output)
 }
 
-/// Writes the commands of a shell that tell git of the two others, with these options for them. The status is 0.
+/// The name of a version that git has merged, by the name of its file: the path that git gives, and which version it is, since the file
+/// is one of git's own, which is gone after the merge. Any other file keeps its name, as does each where git gives no path.
+///
+/// # Errors
+///
+/// Returns `AllocError` if a request for memory was refused.
+pub fn version_name(alloc: Global, merge: GitMerge<'_>, file: &str) -> Result<String, AllocError> {
+    match (merge.path, version_of(merge, file)) {
+        (Some(path), Some(version)) => format!(in alloc; "{path} ({version})"),
+        _ => String::from_str(alloc, file),
+    }
+}
+
+// Which version a file has, if it is one of them.
+fn version_of(merge: GitMerge<'_>, file: &str) -> Option<&'static str> {
+    if file == merge.base {
+        Some("base")
+    } else if file == merge.ours {
+        Some("ours")
+    } else if file == merge.theirs {
+        Some("theirs")
+    } else {
+        None
+    }
+}
+
+/// Writes the commands of a shell that tell git of the two others, with these options for them. They can be run again, which changes
+/// nothing. The status is 0.
 ///
 /// # Errors
 ///
@@ -153,23 +201,42 @@ pub fn write_git_setup<'a, R: AllocGlobal, W: Write>(
     Ok(0)
 }
 
+// Puts each line behind those that `.gitattributes` has, unless it is there, and ends the last of those where nothing ends it.
+const ATTRIBUTES: &str =
+    r#"for line in '*.csv diff=keyed merge=keyed' '*.tsv diff=keyed merge=keyed'
+do
+    grep -qsxF "$line" .gitattributes ||
+        { test -z "$(tail -c 1 .gitattributes)" || echo; echo "$line"; } >>.gitattributes
+done
+"#;
+
+// The words that git puts behind the options stand behind `--`, so that the name of a file may begin as an option does. Where both branches
+// were merged before, git merges their bases first: a conflict there takes one side whole, since marks in it would be no table.
 fn setup_text(alloc: Global, options: &[String]) -> Result<String, AllocError> {
     let mut words = String::new(alloc);
-    for option in options {
+    for option in without_end(options) {
         words.push(' ')?;
         words.push_str(&quoted(alloc, option)?)?;
     }
-    let diff = quoted(alloc, &format!(in alloc; "keyed git-diff{words}")?)?;
+    let diff = quoted(alloc, &format!(in alloc; "keyed git-diff{words} --")?)?;
     let merge = quoted(
         alloc,
-        &format!(in alloc; "keyed git-merge{words} %O %A %B %P")?,
+        &format!(in alloc; "keyed git-merge{words} -- %O %A %B %P")?,
     )?;
     let mut text = String::new(alloc);
     writeln!(text, "git config diff.keyed.command {diff}")?;
     writeln!(text, "git config merge.keyed.driver {merge}")?;
-    text.push_str("echo '*.csv diff=keyed merge=keyed' >>.gitattributes\n")?;
-    text.push_str("echo '*.tsv diff=keyed merge=keyed' >>.gitattributes\n")?;
+    text.push_str("git config merge.keyed.recursive binary\n")?;
+    text.push_str(ATTRIBUTES)?;
     Ok(text)
+}
+
+// Options without a `--` that ends them: git's words follow one of our own.
+fn without_end(options: &[String]) -> &[String] {
+    match options.split_last() {
+        Some((last, rest)) if last.as_str() == "--" => rest,
+        _ => options,
+    }
 }
 
 // A word as a shell reads it: in single quotes, unless it is plain.

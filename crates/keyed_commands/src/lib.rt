@@ -10,6 +10,8 @@ mod as_written;
 mod by_number;
 mod changed;
 mod come_out;
+mod conflict_cells;
+mod draft;
 mod files;
 mod finished;
 mod fits;
@@ -36,7 +38,10 @@ mod written;
 pub use answers::{Answer, Outcome, apply, diff, merge};
 pub use files::{answer_request, stream_request, write_command, write_request, write_whole};
 pub use finished::{Finished, SideCounts, StreamCounts};
-pub use git::{write_git_diff, write_git_merge, write_git_setup, write_git_unmerged};
+pub use git::{
+    version_name, write_git_diff, write_git_merge, write_git_setup, write_git_unmerged,
+    write_git_unopened,
+};
 pub use joined::join;
 pub use keyed_files::{
     Asked, Colours, Command, Comment, Comparing, Conflicts, Decimal, Delimiter, Encoding, Fault,

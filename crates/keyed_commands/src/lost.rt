@@ -17,6 +17,23 @@ pub fn render_lost(
     word: &str,
     rows: &[(Key, Group)],
 ) -> Result<Vec<u8>, AllocError> {
+    let said = said_of_lost(job, rows)?;
+    let mut versions: Vec<Version<'_>> = Vec::new(job.alloc);
+    put_lost(&mut versions, job.columns, word, rows)?;
+    let stopped = Stopped {
+        said: &said,
+        columns: job.columns,
+        versions: &versions,
+    };
+    write_stopped(job.alloc, job.look, &stopped)
+}
+
+/// A line for each column that goes in which one of the rows has a cell that is not empty.
+///
+/// # Errors
+///
+/// Returns `AllocError` if a request for memory was refused.
+pub fn said_of_lost(job: &Job<'_, Columns>, rows: &[(Key, Group)]) -> Result<String, AllocError> {
     let mut said = String::new(job.alloc);
     let written = job.columns.count_written();
     for (place, name) in job.columns.rest.iter().enumerate().skip(written) {
@@ -28,19 +45,31 @@ pub fn render_lost(
             )?;
         }
     }
-    let mut versions: Vec<Version<'_>> = Vec::new(job.alloc);
+    Ok(said)
+}
+
+/// Puts those of the rows that have a cell which is not empty in a column that goes, with this word, behind others.
+///
+/// # Errors
+///
+/// Returns `AllocError` if a request for memory was refused.
+pub fn put_lost<'a>(
+    versions: &mut Vec<Version<'a>>,
+    columns: &Columns,
+    word: &'a str,
+    rows: &'a [(Key, Group)],
+) -> Result<(), AllocError> {
     for (key, group) in rows {
-        if job.columns.lose_cells(group) {
-            versions.push((word, key, Some(group)))?;
+        if columns.lose_cells(group) {
+            versions.push(Version {
+                why: "lost",
+                word,
+                key,
+                rows: Some(group),
+            })?;
         }
     }
-    let stopped = Stopped {
-        why: "lost",
-        said: &said,
-        columns: job.columns,
-        versions: &versions,
-    };
-    write_stopped(job.alloc, job.look, &stopped)
+    Ok(())
 }
 
 // Whether a row of a group has a cell at this place that is not empty.

@@ -1,12 +1,13 @@
 //! A merged table in which rows in conflict stand between marks, as git writes them.
 ghost use Rattle.keyed_commands.specs.ComeOut.{AlikeMarked};
 
+use crate::conflict_cells::told_conflict;
 use crate::job::Job;
 use crate::row_order::{Grouped, RowOrder};
 use eob_joins::Versions;
-use keyed_files::{Columns, Reason, Written, begin_table, quote_first};
+use keyed_files::{Columns, Merging, Reason, Written, begin_table, quote_first};
 use keyed_rows::{Group, Key};
-use keyed_tables::Marked;
+use keyed_tables::{Marked, Parted};
 use std::alloc::{AllocError, Global};
 
 impl Grouped for Marked<Group> {
@@ -40,7 +41,7 @@ fn is_stuck(row: &Marked<Group>) -> bool {
 pub fn parted(
     alloc: Global,
     rows: Vec<(Key, Marked<Group>)>,
-) -> Result<(Vec<(Key, Group)>, Vec<(Key, Versions<Group>)>), AllocError> {
+) -> Result<Parted<Key, Group>, AllocError> {
     let mut settled = Vec::new(alloc);
     let mut stuck = Vec::new(alloc);
     for (key, row) in rows {
@@ -49,10 +50,11 @@ pub fn parted(
             Marked::Stuck(versions) => stuck.push((key, versions))?,
         }
     }
-    Ok((settled, stuck))
+    Ok(Parted { settled, stuck })
 }
 
-/// The table as CSV, with the versions of each row in conflict between marks.
+/// The table as CSV, with the versions of each row in conflict between marks. Where rows are merged by cell, these differ in the cells in
+/// conflict alone.
 ///
 /// # Errors
 ///
@@ -60,6 +62,7 @@ pub fn parted(
 /// writer makes of it, if a request for memory was refused.
 pub fn write_marked(
     job: &Job<'_, Columns>,
+    how: Merging<'_>,
     rows: Vec<(Key, Marked<Group>)>,
 ) -> Result<Vec<u8>, Reason> {
     let mut text = Text {
@@ -69,7 +72,10 @@ pub fn write_marked(
     for (key, row) in rows {
         text = match row {
             Marked::Settled(group) => text.with_rows(job, &key, &group)?,
-            Marked::Stuck(versions) => text.with_versions(job, &key, &versions)?,
+            Marked::Stuck(versions) => {
+                let told = told_conflict(job.alloc, how, versions)?;
+                text.with_versions(job, &key, &told)?
+            }
         };
     }
     let bytes = text.with_line(job, "")?.bytes;

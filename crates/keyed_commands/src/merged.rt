@@ -1,6 +1,7 @@
 //! Rows that both sides of a merge changed, told to a person or to a program.
 
 use crate::job::Job;
+use crate::lost::{put_lost, said_of_lost};
 use either_or_both::EitherOrBoth;
 use eob_joins::Versions;
 use keyed_files::Columns;
@@ -8,22 +9,25 @@ use keyed_reports::{Stopped, Version, write_stopped};
 use keyed_rows::{Group, Key};
 use std::alloc::AllocError;
 
-/// The rows in conflict, each with its three versions.
+/// The rows in conflict, each with its three versions, and behind them those of the merged rows that have a cell which is not empty in a
+/// column that goes.
 ///
 /// # Errors
 ///
 /// Returns `AllocError` if a request for memory was refused.
 pub fn render_conflicts(
     job: &Job<'_, Columns>,
-    rows: &[(Key, Versions<Group>)],
+    stuck: &[(Key, Versions<Group>)],
+    settled: &[(Key, Group)],
 ) -> Result<Vec<u8>, AllocError> {
+    let said = said_of_lost(job, settled)?;
     let mut versions = Vec::new(job.alloc);
-    for (key, row) in rows {
+    for (key, row) in stuck {
         put_versions(&mut versions, key, row)?;
     }
+    put_lost(&mut versions, job.columns, "merged", settled)?;
     let stopped = Stopped {
-        why: "conflict",
-        said: "",
+        said: &said,
         columns: job.columns,
         versions: &versions,
     };
@@ -41,8 +45,18 @@ fn put_versions<'a>(
         Some(sides) => sides.as_ref().unzip(),
         None => (None, None),
     };
-    versions.push(("base", key, base))?;
-    versions.push(("ours", key, ours))?;
-    versions.push(("theirs", key, theirs))?;
+    versions.push(in_conflict("base", key, base))?;
+    versions.push(in_conflict("ours", key, ours))?;
+    versions.push(in_conflict("theirs", key, theirs))?;
     Ok(())
+}
+
+// A version of a row in conflict.
+fn in_conflict<'a>(word: &'a str, key: &'a Key, rows: Option<&'a Group>) -> Version<'a> {
+    Version {
+        why: "conflict",
+        word,
+        key,
+        rows,
+    }
 }

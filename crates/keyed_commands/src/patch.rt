@@ -26,7 +26,6 @@ pub fn render_misfits(
         put_misfit(&mut versions, key, row)?;
     }
     let stopped = Stopped {
-        why: "misfit",
         said: "",
         columns: job.columns,
         versions: &versions,
@@ -44,9 +43,19 @@ fn put_misfit<'a>(
     if let Some(change) = change {
         let wants = change.as_ref().left();
         if has != wants {
-            versions.push(("table", key, has))?;
-            versions.push(("change", key, wants))?;
+            versions.push(no_fit("table", key, has))?;
+            versions.push(no_fit("change", key, wants))?;
         }
     }
     Ok(())
+}
+
+// A version of a row that a change does not fit.
+fn no_fit<'a>(word: &'a str, key: &'a Key, rows: Option<&'a Group>) -> Version<'a> {
+    Version {
+        why: "misfit",
+        word,
+        key,
+        rows,
+    }
 }

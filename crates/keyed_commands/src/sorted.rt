@@ -22,10 +22,10 @@ use crate::joined_json::write_join;
 use crate::written::write_changes;
 use eob_joins::Change;
 use keyed_files::{
-    ColumnChanges, Columns, Content, Decimal, Fault, JoinColumns, Joining, Layout, Parts, Picked,
-    Reason, SortedChanges, Stream, Two, at, names_among, picked_columns,
+    ColumnChanges, Columns, Content, Decimal, Fault, JoinColumns, Joining, Layout, LoneColumns,
+    Parts, Picked, Reason, SortedChanges, Stream, Two, at, names_among, picked_columns,
 };
-use keyed_reports::{Counts, count, count_rows, json_rows, row_changes};
+use keyed_reports::{Counts, count, count_rows, json_columns, json_rows, row_changes};
 use keyed_rows::{Cells, Group, Key, Release};
 use keyed_tables::{changes_of, unique_rows};
 use std::alloc::{AllocError, Global};
@@ -216,11 +216,15 @@ pub fn diff_sorted<'a, R: Read + Drop, W: Write>(
             (ChangesForm::Json(tolerance), columns)
         }
     };
-    let has_lone = at(versions.next.file, has_lone(alloc, &versions, &columns))?;
+    let lone = at(versions.next.file, lone_among(alloc, &versions, &columns))?;
+    if let ChangesForm::Json(_) = form {
+        let told = at(versions.next.file, json_columns(alloc, &lone))?;
+        at("the standard output", output.write_all(&told))?;
+    }
     let mut work = Work::Changes(Job::sorted(alloc, layout, &columns), form);
     let finished = write_tables(alloc, &mut work, versions, output)?;
     Ok(Finished {
-        status: if has_lone { 1 } else { finished.status },
+        status: if lone.is_empty() { finished.status } else { 1 },
         ..finished
     })
 }
@@ -236,15 +240,15 @@ fn columns_compared<'a, R>(
     at(versions.next.file, picked_columns(alloc, picked, columns))
 }
 
-// Whether one of these columns is in one table alone.
-fn has_lone<R>(
+// Those of these columns that one table alone has.
+fn lone_among<R>(
     alloc: Global,
     versions: &Two<'_, R>,
     columns: &Columns,
-) -> Result<bool, AllocError> {
+) -> Result<LoneColumns, AllocError> {
     let before = names_among(alloc, versions.first.header(), columns)?;
     let after = names_among(alloc, versions.next.header(), columns)?;
-    ColumnChanges::new(&before, &after).has_lone(alloc)
+    ColumnChanges::new(&before, &after).lone(alloc)
 }
 
 /// Writes a join of two tables while they are read, and returns the status, and how many rows each has.

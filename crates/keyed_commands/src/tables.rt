@@ -1,6 +1,7 @@
 //! Tables in memory as the answers to the commands that make them: changes made to a table, and versions merged.
-ghost use Rattle.std.specs.Prelude.{◌≡◌, IfOk, MatchBool, is_none};
+ghost use Rattle.std.specs.Prelude.{◌≡◌, ◌==◌, IfOk, MatchBool, is_none, length};
 ghost use Rattle.keyed_tables.specs.Arranged.{noted};
+ghost use Rattle.keyed_tables.specs.Parted.{merged_of};
 ghost use Rattle.keyed_commands.specs.Answers.{AllFit, AnswersMerge, AnswersMerged, AnswersMergedByCell};
 ghost use Rattle.keyed_commands.specs.Answers.{AnswersPatched};
 ghost use Rattle.keyed_commands.specs.Answers.{AnswersTable, HasConflict, HasNoConflict, HasNoneStuck};
@@ -8,16 +9,16 @@ ghost use Rattle.keyed_commands.specs.Answers.{HasStuck, IsTableText, Stops, key
 ghost use Rattle.keyed_commands.specs.declared.answers.Outcome.TheVariants.{Made};
 
 use crate::answers::{Answer, Outcome};
+use crate::conflict_cells::told_conflicts;
 use crate::fits::all_fit;
 use crate::job::{Changes, Job, Table};
 use crate::losses::lose_cells;
 use crate::lost::render_lost;
 use crate::merged::render_conflicts;
 use crate::patch::render_misfits;
-use eob_joins::{Merged, Versions};
-use keyed_files::{Columns, Reason, write_table};
+use keyed_files::{Columns, Merging, Reason, write_table};
 use keyed_rows::{Group, Key};
-use keyed_tables::{merge_by_cell_of, merge_of, patched};
+use keyed_tables::{Parted, parted_merge_by_cell_of, parted_merge_of, patched};
 
 /// The answer to `apply`: the table with the changes made to it, where each of them fits, and else a report of those that do not.
 ///
@@ -81,6 +82,7 @@ fn report_misfits(job: &Job<'_, Columns>, old: Table, changes: Changes) -> Resul
 /// Returns the errors of `write_table`.
 pub fn merge_by_row(
     job: &Job<'_, Columns>,
+    how: Merging<'_>,
     base: Table,
     ours: Table,
     theirs: Table,
@@ -91,8 +93,8 @@ pub fn merge_by_row(
     ensures conflict { IfOk result (λ answer.
         HasConflict base.pairs.items ours.pairs.items theirs.pairs.items → Stops answer) }
 {
-    let merged = merge_of(job.alloc, base, ours, theirs)?;
-    let answer = answer_of_merge(job, merged)?;
+    let parted = parted_merge_of(job.alloc, base, ours, theirs)?;
+    let answer = answer_of_merge(job, how, parted)?;
     Ok(answer)
 }
 
@@ -103,6 +105,7 @@ pub fn merge_by_row(
 /// Returns the errors of `write_table`.
 pub fn merge_by_cell(
     job: &Job<'_, Columns>,
+    how: Merging<'_>,
     base: Table,
     ours: Table,
     theirs: Table,
@@ -113,41 +116,56 @@ pub fn merge_by_cell(
     ensures conflict { IfOk result (λ answer.
         HasStuck base.pairs.items ours.pairs.items theirs.pairs.items → Stops answer) }
 {
-    let merged = merge_by_cell_of(job.alloc, base, ours, theirs)?;
-    let answer = answer_of_merge(job, merged)?;
+    let parted = parted_merge_by_cell_of(job.alloc, base, ours, theirs)?;
+    let answer = answer_of_merge(job, how, parted)?;
     Ok(answer)
 }
 
-// The merged table, or a report of the rows in conflict.
-fn answer_of_merge(job: &Job<'_, Columns>, merged: Merged<Key, Group>) -> Result<Answer, Reason>
-    ensures { IfOk result (AnswersMerge job.now.form job.now.columns.now (noted job.now.order)
-        (is_none job.now.row_order.files) merged) }
-{
-    match merged {
-        Merged::Whole(rows) => {
-            let answer = answer_of_rows(job, "merged", rows)?;
-            Ok(answer)
-        }
-        Merged::Conflicts(rows) => {
-            let answer = report_conflicts(job, rows)?;
-            Ok(answer)
-        }
-    }
-}
-
-/// Rows in conflict as a report.
+/// The merged table, or a report of the rows in conflict.
 ///
 /// # Errors
 ///
-/// Returns `NoMemory` if a request for memory was refused.
-pub fn report_conflicts(
+/// Returns the errors of `write_table`.
+pub fn answer_of_merge(
     job: &Job<'_, Columns>,
-    rows: Vec<(Key, Versions<Group>)>,
+    how: Merging<'_>,
+    parted: Parted<Key, Group>,
+) -> Result<Answer, Reason>
+    ensures { IfOk result (AnswersMerge job.now.form job.now.columns.now (noted job.now.order)
+        (is_none job.now.row_order.files) (merged_of parted)) }
+{
+    if is_whole(&parted) {
+        let answer = answer_of_rows(job, "merged", parted.settled)?;
+        Ok(answer)
+    } else {
+        let answer = report_conflicts(job, how, parted)?;
+        Ok(answer)
+    }
+}
+
+// Whether no row is in conflict.
+fn is_whole(parted: &Parted<Key, Group>) -> bool
+    ensures { result ≡ (length parted.now.stuck.items == 0) }
+{
+    parted.stuck.is_empty()
+}
+
+// Rows in conflict as a report, and with them the merged rows that have cells in columns that go.
+fn report_conflicts(
+    job: &Job<'_, Columns>,
+    how: Merging<'_>,
+    parted: Parted<Key, Group>,
 ) -> Result<Answer, Reason>
     ensures { IfOk result Stops }
 {
-    let rows = job.arrange(rows)?;
-    let text = render_conflicts(job, &rows)?;
+    let Parted { settled, stuck } = parted;
+    let stuck = job.arrange(told_conflicts(job.alloc, how, stuck)?)?;
+    let settled = if lose_cells(job.columns, &settled) {
+        job.arrange(settled)?
+    } else {
+        Vec::new(job.alloc)
+    };
+    let text = render_conflicts(job, &stuck, &settled)?;
     Ok(stopped(text))
 }
 

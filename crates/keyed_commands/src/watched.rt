@@ -15,8 +15,9 @@ struct Noted {
     // The byte between cells of what is written.
     delimiter: u8,
     marks: Marks,
-    // How many lines are still to be passed over.
+    // How many lines are still to be passed over, and whether the last byte of one was a CR, which ends a line with an LF behind it or not.
     skipped: u64,
+    follows_cr: bool,
     place: Place,
     has_mark: bool,
     end: LineEnd,
@@ -46,6 +47,7 @@ impl Noted {
                 comment: form.reading.comment.map(Comment::byte),
             },
             skipped: form.reading.skipped,
+            follows_cr: false,
             place: Place::Top,
             has_mark: false,
             end: LineEnd::Open,
@@ -115,15 +117,20 @@ impl Noted {
 
     // Takes a byte of a line that is passed over, where quotes are bytes like any other.
     fn pass_over(&mut self, byte: u8, next: Place) {
-        if byte == b'\n' {
-            self.skipped = self.skipped.saturating_sub(1);
-            self.place = Place::Row;
-        } else {
-            self.place = match next {
-                Place::FirstOfMark | Place::SecondOfMark => next,
-                _ => Place::Bare,
-            };
+        match byte {
+            b'\n' if self.follows_cr => {}
+            b'\n' | b'\r' => {
+                self.skipped = self.skipped.saturating_sub(1);
+                self.place = Place::Row;
+            }
+            _ => {
+                self.place = match next {
+                    Place::FirstOfMark | Place::SecondOfMark => next,
+                    _ => Place::Bare,
+                };
+            }
         }
+        self.follows_cr = byte == b'\r';
     }
 
     // Notes whether the cell that a byte begins is in quotes, where the place behind the byte is this one, and whether the row is over.

@@ -17,13 +17,15 @@ use Rattle.keyed_text.proofs.TextLemmas.{rows-once}
 use Rattle.keyed_files.specs.Going.{GoneSaid}
 use Rattle.keyed_files.specs.Gone.{KnowsGone}
 use Rattle.keyed_files.specs.Headers.{HeaderOf, NamesOf}
-use Rattle.keyed_files.specs.Lines.{Begins, checked_left, lines_left}
-use Rattle.keyed_files.specs.Reading.{GivesRecord, HasGiven, HasGivenIn, HeadedBy, IsHeader, IsOpen, next_of, text_read}
+use Rattle.keyed_files.specs.Lines.{Begins, checked_left, lines_left, where_strict}
+use Rattle.keyed_files.specs.Reading.{GivesRecord, HasGiven, HasGivenIn, HeadedBy, IsHeader, IsOpen, next_of, text_lined, text_read}
 use Rattle.keyed_files.specs.Writing.{comment_of, delimiter_of}
 use Rattle.keyed_files.specs.declared.by_line.ByLine.{ByLine}
 use Rattle.keyed_files.specs.declared.checked.Checked.{Checked}
 use Rattle.keyed_files.specs.declared.request.Comment.{Comment}
 use Rattle.keyed_files.specs.declared.request.Form.{Form}
+use Rattle.keyed_files.specs.declared.request.Quotes.{Quotes}
+use Rattle.keyed_files.specs.declared.request.Quotes.TheVariants as quotes
 use Rattle.keyed_files.specs.declared.request.Reading.{Reading}
 use Rattle.keyed_files.specs.declared.source.Content.{Content}
 use Rattle.keyed_files.specs.declared.source.Next.TheVariants as next
@@ -48,13 +50,19 @@ some-kept P None b k h = tt
 some-kept P (Some x) None k h = absurd k
 some-kept P (Some x) (Some y) k h = subst P k h
 
+-- what is known where quotes have to be in order is kept with what is known
+pub strict-kept : (how : Quotes) (a b : Option (List ℕ)) → Keeps a b → Keeps (where_strict how a) (where_strict how b)
+strict-kept quotes.Strict a b k = k
+strict-kept quotes.Lenient a b k = tt
+
 -- a reader of the rows of what is read of a file
 pub begun-rows : {R : Type 0} (rem : R → Option (List ℕ)) (form : Form) (known left : Option (List ℕ)) (rows : RowReader (Checked R))
-    → Keeps (text_read form known) left
-    → IfSome left (λ text. HasRead (delimiter_of form) (comment_of form) (checked_left rem) text [] rows)
+    → Keeps (text_lined form known) left
+    → IfSome (where_strict form.reading.quotes left) (λ text. HasRead (delimiter_of form) (comment_of form) (checked_left rem) text [] rows)
     → IfSome (text_read form known) (λ text. HasRead (delimiter_of form) (comment_of form) (checked_left rem) text [] rows)
 begun-rows rem form known left rows k h =
-    some-kept (λ text. HasRead (delimiter_of form) (comment_of form) (checked_left rem) text [] rows) (text_read form known) left k h
+    some-kept (λ text. HasRead (delimiter_of form) (comment_of form) (checked_left rem) text [] rows) (text_read form known)
+    (where_strict form.reading.quotes left) (strict-kept form.reading.quotes (text_lined form known) left k) h
 
 -- a step of a source that reads on
 pub gives-next : {R : Type 0} (rem : R → Option (List ℕ)) (a b : Source R) (found : Bool) → a.next ≡ next.Read → (found ≡ true → b.next ≡ next.Read)

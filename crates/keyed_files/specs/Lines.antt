@@ -5,6 +5,8 @@ use Rattle.keyed_files.specs.declared.ahead.Ahead.{Ahead}
 use Rattle.keyed_files.specs.declared.by_line.ByLine.{ByLine}
 use Rattle.keyed_files.specs.declared.checked.Checked.{Checked}
 use Rattle.keyed_files.specs.declared.checked.Checked.TheVariants as way
+use Rattle.keyed_files.specs.declared.request.Quotes.{Quotes}
+use Rattle.keyed_files.specs.declared.request.Quotes.TheVariants as quotes
 use Rattle.keyed_files.specs.declared.request.Reading.{Reading}
 
 -- the bytes that were read ahead and are not taken yet
@@ -19,10 +21,15 @@ left_of remaining file = if file.is_ended then Some (ahead_of file) else prepend
 abbrev pub lines_left : {R : Type 0} → (R → Option (List ℕ)) → ByLine R → Option (List ℕ)
 lines_left remaining lines = if is_none lines.lines.comment then left_of remaining lines.file else None
 
--- the same of a reader that looks at quotes or lets them pass
+-- the same of a reader that looks at quotes; of one that puts them in order no clause says what it gives
 abbrev pub checked_left : {R : Type 0} → (R → Option (List ℕ)) → Checked R → Option (List ℕ)
 checked_left remaining (way.Strict strict) = lines_left remaining strict.reader
-checked_left remaining (way.Lenient lines) = lines_left remaining lines
+checked_left remaining (way.Lenient lenient) = None
+
+-- what is known, where quotes have to be in order
+abbrev pub where_strict : Quotes → Option (List ℕ) → Option (List ℕ)
+where_strict quotes.Strict known = known
+where_strict quotes.Lenient known = None
 
 -- a reader of lines of which nothing is read
 pub record Begins {R : Type 0} (inner : R) (reading : Reading) (lines : ByLine R) : Type 0 where

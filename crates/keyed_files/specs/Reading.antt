@@ -4,7 +4,7 @@ use Rattle.csv.specs.Records.{field_at, fields_of}
 use Rattle.keyed_rows.specs.declared.row.ReadRow.{ReadRow}
 use Rattle.keyed_text.specs.Streams.{HasRead}
 use Rattle.keyed_text.specs.Texts.{AreRows}
-use Rattle.keyed_files.specs.Lines.{checked_left}
+use Rattle.keyed_files.specs.Lines.{checked_left, where_strict}
 use Rattle.keyed_files.specs.Headers.{ArePlaces, HeaderOf, NamesOf, place_under}
 use Rattle.keyed_files.specs.Picked.{cell_at}
 use Rattle.keyed_files.specs.Rows.{shown_sign}
@@ -20,9 +20,13 @@ use Rattle.keyed_files.specs.declared.source.Next.TheVariants as next
 use Rattle.keyed_files.specs.declared.source.Places.{Places}
 use Rattle.keyed_files.specs.declared.source.Source.{Source}
 
--- the text that is read of a file; where lines are passed over, no clause says which
+-- the text whose lines are read of a file; where lines are passed over, no clause says which
+abbrev pub text_lined : Form → Option (List ℕ) → Option (List ℕ)
+text_lined form known = if is_none form.reading.comment && (form.reading.skipped == 0) then known else None
+
+-- the text that is read of a file; where quotes need not be in order, no clause says what is made of them
 abbrev pub text_read : Form → Option (List ℕ) → Option (List ℕ)
-text_read form known = if is_none form.reading.comment && (form.reading.skipped == 0) then known else None
+text_read form known = where_strict form.reading.quotes (text_lined form known)
 
 -- the cells of the record that was read last
 abbrev pub last_record : {R : Type 0} → Source R → List (List ℕ)

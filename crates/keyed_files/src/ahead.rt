@@ -4,12 +4,10 @@ ghost use Rattle.std.specs.Io.KnownBytes.{IsAtEnd, Keeps};
 ghost use Rattle.keyed_files.specs.Lines.{ahead_of, left_of};
 
 use crate::buffer::Buffer;
+use crate::encoding::TELLING;
 use std::alloc::{AllocError, Global};
 use std::io;
 use std::io::Read;
-
-// How many bytes tell what a file is.
-const TELLING: usize = 4;
 
 /// A reader, and the bytes that were read ahead of it and are not taken yet.
 #[derive(Drop)]

@@ -16,6 +16,10 @@ pub enum Asked<'a> {
         format: Format,
         diff: GitDiff<'a>,
     },
+    /// What git shows of a table that changed and can't be opened, since the name of its file is not UTF-8.
+    GitUnopened {
+        diff: GitDiff<'a>,
+    },
     /// What git shows of a table that is in conflict, and so has no two versions to compare.
     GitUnmerged {
         path: &'a str,
@@ -40,10 +44,11 @@ pub struct GitDiff<'a> {
     pub new: &'a str,
 }
 
-/// The files of the three versions that git has merged.
+/// The files of the three versions that git has merged, and the path of the table, if git gives it.
 #[derive(Clone, Copy, Debug)]
 pub struct GitMerge<'a> {
     pub base: &'a str,
     pub ours: &'a str,
     pub theirs: &'a str,
+    pub path: Option<&'a str>,
 }

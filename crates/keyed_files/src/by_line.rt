@@ -72,7 +72,7 @@ impl<R> ByLine<R> {
 
 impl<R: Read> ByLine<R> {
     /// Reads the first bytes of the file, passes over the lines at its top, and returns what the file is if its first bytes are those of no
-    /// text.
+    /// text, or of one that is no CSV.
     ///
     /// # Errors
     ///
@@ -83,7 +83,7 @@ impl<R: Read> ByLine<R> {
     {
         self.file.read_first()?;
         let first = self.file.rest();
-        let encoding = Encoding::of(first);
+        let encoding = Encoding::of_file(first);
         if first.starts_with(MARK) {
             self.lines.mark = MARK.len();
         }

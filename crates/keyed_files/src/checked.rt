@@ -1,30 +1,38 @@
-//! The bytes of a file on their way to the reader of CSV: line by line, and with quotes in order unless they are taken as they are.
-ghost use Rattle.std.specs.Prelude.{◌≡◌};
-ghost use Rattle.keyed_files.specs.Lines.{checked_left, lines_left};
+//! The bytes of a file on their way to the reader of CSV: line by line, and with quotes in order, or put in order line by line.
+ghost use Rattle.std.specs.Prelude.{◌≡◌, IfOk};
+ghost use Rattle.keyed_files.specs.Lines.{checked_left, lines_left, where_strict};
 ghost use Rattle.keyed_files.specs.Writing.{comment_of, delimiter_of};
 
 use crate::by_line::ByLine;
 use crate::request::{Comment, Form, Quotes};
-use keyed_text::{Marks, QuoteFault, Strict};
+use keyed_text::{Lenient, Marks, QuoteFault, Strict};
+use std::alloc::{AllocError, Global};
 use std::io;
 use std::io::Read;
 
-/// A reader of lines, which fails where quotes are not in order unless that is let pass.
+/// A reader of lines, which fails where quotes are not in order, or puts those of each line in order.
 #[derive(Drop)]
 pub enum Checked<R> {
     Strict(Strict<ByLine<R>>),
-    Lenient(ByLine<R>),
+    Lenient(Lenient<ByLine<R>>),
 }
 
 impl<R: Read + Drop> Checked<R> {
     /// The lines as the form has them read.
-    pub fn new(lines: ByLine<R>, form: Form) -> Self
-        ensures { checked_left R.remaining result ≡ lines_left R.remaining lines }
+    ///
+    /// # Errors
+    ///
+    /// Returns `AllocError` if a request for memory was refused.
+    pub fn new(alloc: Global, lines: ByLine<R>, form: Form) -> Result<Self, AllocError>
+        ensures { IfOk result (λ checked. checked_left R.remaining checked
+            ≡ where_strict form.reading.quotes (lines_left R.remaining lines)) }
     {
-        match form.reading.quotes {
+        Ok(match form.reading.quotes {
             Quotes::Strict => Checked::Strict(Strict::new(lines, marks_of(form))),
-            Quotes::Lenient => Checked::Lenient(lines),
-        }
+            Quotes::Lenient => {
+                Checked::Lenient(Lenient::new(alloc, lines, form.delimiter.byte())?)
+            }
+        })
     }
 }
 
@@ -33,7 +41,7 @@ impl<R> Checked<R> {
     pub fn lines(&self) -> &ByLine<R> {
         match self {
             Checked::Strict(strict) => strict.get_ref(),
-            Checked::Lenient(lines) => lines,
+            Checked::Lenient(lenient) => lenient.get_ref(),
         }
     }
 
@@ -63,7 +71,7 @@ impl<R: Read> Read for Checked<R> {
     fn read(&mut self, buf: &mut [u8]) -> io::Result<usize> {
         match self {
             Checked::Strict(strict) => strict.read(buf),
-            Checked::Lenient(lines) => lines.read(buf),
+            Checked::Lenient(lenient) => lenient.read(buf),
         }
     }
 }

@@ -1,5 +1,5 @@
 //! What became of the columns between two versions of a table.
-ghost use Rattle.std.specs.Prelude.{◌≡◌, ◌||◌, ◌∷◌, [], IfOk, OnOk, filter, is_none};
+ghost use Rattle.std.specs.Prelude.{◌≡◌, ◌||◌, ◌&&◌, ◌==◌, ◌∷◌, [], IfOk, OnOk, filter, is_none, length};
 ghost use Rattle.keyed_files.specs.ChangedColumns.{is_same_order};
 ghost use Rattle.keyed_files.specs.Names.{compared, has_lone, place_in};
 ghost use Rattle.keyed_files.specs.Rows.{change_name};
@@ -7,8 +7,8 @@ ghost use Rattle.keyed_files.specs.Writing.{PutsRows};
 
 use crate::columns::{has_name, kept_names, place_of};
 use crate::fault::Reason;
-use crate::lined_up::ShownName;
 use crate::names::Names;
+use crate::shown::ShownName;
 use crate::written::Written;
 use keyed_rows::Cells;
 use std::alloc::{AllocError, Global};
@@ -67,6 +67,15 @@ impl<'a> ColumnChanges<'a> {
 pub struct LoneColumns {
     pub added: Cells,
     pub removed: Cells,
+}
+
+impl LoneColumns {
+    /// Whether both tables have the same columns.
+    pub fn is_empty(&self) -> bool
+        ensures { result ≡ ((length self.now.added == 0) && (length self.now.removed == 0)) }
+    {
+        self.added.is_empty() && self.removed.is_empty()
+    }
 }
 
 impl ColumnChanges<'_> {

@@ -4,7 +4,7 @@ ghost use Rattle.keyed_files.specs.Explained.{IsOutside};
 ghost use Rattle.keyed_files.specs.declared.fault.Reason.TheVariants.{NoMemory};
 
 use crate::encoding::Encoding;
-use crate::lined_up::{Shown, ShownName};
+use crate::shown::{Shown, ShownInList};
 use keyed_rows::{Cells, Key, RepeatedKey, UniqueError};
 use keyed_text::QuoteFault;
 use std::alloc::{AllocError, AllocFailed};
@@ -32,7 +32,7 @@ pub enum Reason {
         line: u64,
         fault: QuoteFault,
     },
-    /// The header lacks this column of the key. It has those others.
+    /// The header lacks this column, which is one of the key or to have another name. It has those others.
     NoColumn {
         line: u64,
         name: Vec<u8>,
@@ -172,7 +172,11 @@ impl fmt::Display for ToText<'_> {
     fn fmt<W: fmt::Write>(&self, f: &mut fmt::Formatter<W>) -> fmt::Result {
         let ToText(encoding, file) = *self;
         let (name, remedy) = (encoding.name(), encoding.remedy());
-        write!(f, "looks like {name}: try {remedy} {file} | keyed .. -")
+        let rest = encoding.rest_of_remedy();
+        write!(
+            f,
+            "looks like {name}: try {remedy} {file}{rest} | keyed .. -"
+        )
     }
 }
 
@@ -199,7 +203,7 @@ impl fmt::Display for ShownKey<'_> {
             if place > 0 {
                 f.write_char(',')?;
             }
-            write!(f, "{}", ShownName(cell))?;
+            write!(f, "{}", ShownInList(cell))?;
         }
         Ok(())
     }
@@ -234,9 +238,29 @@ impl fmt::Display for ShownHeader<'_> {
             if place > 0 {
                 f.write_str(", ")?;
             }
-            write!(f, "{}", ShownName(name))?;
+            write!(f, "{}", ShownInList(name))?;
         }
-        Ok(())
+        match other_delimiter(self.0) {
+            Some(byte) => write!(f, ", one column; try -d {byte}"),
+            None => Ok(()),
+        }
+    }
+}
+
+// What is given as the delimiter of a header that has one column, in whose name a byte stands that is often one.
+fn other_delimiter(header: &Cells) -> Option<&'static str> {
+    if header.len() > 1 {
+        return None;
+    }
+    let name = header.get(0)?;
+    if name.contains(&b';') {
+        Some("\";\"")
+    } else if name.contains(&b'\t') {
+        Some("tab")
+    } else if name.contains(&b'|') {
+        Some("\"|\"")
+    } else {
+        None
     }
 }
 
@@ -253,34 +277,34 @@ impl fmt::Display for Reason {
             ),
             Reason::NoColumn { line, name, header } => write!(
                 f,
-                "line {line}: no column {}; {}",
-                ShownName(name),
+                "line {line}: no column {} (named by --key, --rename or the first file); {}",
+                ShownInList(name),
                 ShownHeader(header)
             ),
             Reason::RepeatedColumn { line, name } => write!(
                 f,
                 "line {line}: two columns {}, of which the key is to be one: give others by --key",
-                ShownName(name)
+                ShownInList(name)
             ),
             Reason::KeyNoRecord => f.write_str("not one record of CSV"),
-            Reason::RepeatedName(name) => write!(f, "the column {} twice", ShownName(name)),
+            Reason::RepeatedName(name) => write!(f, "the column {} twice", ShownInList(name)),
             Reason::NeitherHas(name) => {
-                write!(f, "neither table has a column {}", ShownName(name))
+                write!(f, "neither table has a column {}", ShownInList(name))
             }
             Reason::ManyNames(names) => write!(
                 f,
                 "more than two names of a column: {}",
-                ShownName(names)
+                ShownInList(names)
             ),
             Reason::NamedTwice { line, name } => write!(
                 f,
                 "line {line}: a column is to have the name {}, which another has",
-                ShownName(name)
+                ShownInList(name)
             ),
             Reason::JoinedTwice { name, option } => write!(
                 f,
                 "the join has two columns {}: give another by {option}",
-                ShownName(name)
+                ShownInList(name)
             ),
             Reason::NoSign(line) => write!(f, "line {line}: the first cell is neither - nor +"),
             Reason::NotRising(line) => {
@@ -298,10 +322,11 @@ impl fmt::Display for Reason {
                 let verb = if *expected == 1 { "is" } else { "are" };
                 let (cells, columns) = (Count(*found, "cell"), Count(*expected, "column"));
                 write!(f, "line {line}: {cells}, and there {verb} {columns}")?;
-                if found < expected {
-                    f.write_str(" (--ragged takes a short row)")?;
-                }
-                Ok(())
+                f.write_str(if found < expected {
+                    " (--ragged takes a short row)"
+                } else {
+                    " (--comment and --skip pass lines over, --delimiter parts cells)"
+                })
             }
             Reason::RepeatedKey(repeated) => {
                 write!(

@@ -21,6 +21,7 @@ mod joined_rows;
 mod key_record;
 mod laws;
 mod lined_up;
+mod look_alikes;
 mod lookups;
 mod merging;
 mod names;
@@ -30,6 +31,7 @@ mod overlays;
 mod parts;
 mod placed;
 mod request;
+mod shown;
 mod sign;
 mod source;
 mod written;
@@ -51,8 +53,7 @@ pub use laws::{
     law_keeps_names, law_names_once, law_places_cells, law_puts_back, law_writes_names,
 };
 pub use lined_up::{
-    Colour, Grid, Line, Shown, ShownCell, ShownName, heading, line_under, line_up, put_both,
-    put_shown, put_version,
+    Colour, Grid, Line, heading, line_under, line_up, put_both, put_shown, put_version,
 };
 pub use lookups::{Finding, Lookup, LookupKind};
 pub use merging::{Conflicts, Merging, Unit};
@@ -65,6 +66,7 @@ pub use request::{
     Layout, Lengths, Look, Picked, Quotes, Reading, Request, RowFormat, RowsShown, Settings,
     SortedChanges, SortedRequest, View, Wanted,
 };
+pub use shown::{Shown, ShownCell, ShownInList, ShownName};
 pub use sign::{Sign, SignedRow};
 pub use source::{Content, Places, Source};
 pub use written::{Written, begin_table, write_table};

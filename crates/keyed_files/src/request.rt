@@ -77,7 +77,7 @@ impl Comment {
 pub enum Quotes {
     /// Each quote that opens a cell is closed, and the cell ends right behind the closing one.
     Strict,
-    /// Nothing: a quote that is never closed ends with the file, and what stands behind a closing one is of the cell.
+    /// Nothing: a quote that opens a cell and closes it on the same line quotes it, and each other one is a byte like any other.
     Lenient,
 }
 

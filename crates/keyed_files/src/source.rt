@@ -14,7 +14,7 @@ ghost use Rattle.keyed_files.specs.Lines.{checked_left, lines_left};
 ghost use Rattle.keyed_files.specs.Names.{renamed};
 ghost use Rattle.keyed_files.specs.Picked.{cell_at};
 ghost use Rattle.keyed_files.specs.Reading.{GivesRecord, HasSign, IsOpen, IsPicked, IsSigned, PlacesOf};
-ghost use Rattle.keyed_files.specs.Reading.{key_in, last_record, next_of, text_read};
+ghost use Rattle.keyed_files.specs.Reading.{key_in, last_record, next_of, text_lined, text_read};
 ghost use Rattle.keyed_files.specs.Rows.{shown_sign};
 ghost use Rattle.keyed_files.specs.Writing.{comment_of, delimiter_of};
 ghost use Rattle.keyed_files.specs.declared.source.Content.TheVariants.{Changes};
@@ -350,7 +350,7 @@ fn begin_rows<R: Read + Drop>(
         (λ text. HasRead (delimiter_of form) (comment_of form) (checked_left R.remaining) text [] rows)) }
 {
     let file = begin_lines(alloc, reader, form)?;
-    let lines = Checked::new(file, form);
+    let lines = Checked::new(alloc, file, form)?;
     let marks = marks_of(form);
     let rows = RowReader::new(alloc, lines, marks);
     Ok(rows)
@@ -358,7 +358,7 @@ fn begin_rows<R: Read + Drop>(
 
 // The lines of a file that is text, or is to be read as it is.
 fn begin_lines<R: Read + Drop>(alloc: Global, reader: R, form: Form) -> Result<ByLine<R>, Reason>
-    ensures { IfOk result (λ lines. Keeps (text_read form (R.remaining reader))
+    ensures { IfOk result (λ lines. Keeps (text_lined form (R.remaining reader))
         (lines_left R.remaining lines)) }
 {
     let mut lines = ByLine::new(alloc, reader, form.reading)?;

@@ -8,7 +8,7 @@ use crate::changed_rows::{RowChange, word_of};
 use crate::report::Report;
 use either_or_both::EitherOrBoth;
 use json::Writer;
-use keyed_files::Columns;
+use keyed_files::{Columns, LoneColumns};
 use keyed_rows::{Cells, Iter};
 use std::alloc::{AllocError, Global};
 use std::fmt;
@@ -91,6 +91,33 @@ pub fn put_cells(
     writer.end_object()
 }
 
+/// The names of the columns that one of the tables alone has, as one object on a line. Where there are none there is no line.
+///
+/// # Errors
+///
+/// Returns `AllocError` if a request for memory was refused.
+pub fn json_columns(alloc: Global, lone: &LoneColumns) -> Result<Vec<u8>, AllocError> {
+    if lone.is_empty() {
+        return Ok(Vec::new(alloc));
+    }
+    let mut writer = Writer::new(Vec::new(alloc));
+    writer.begin_object()?;
+    put_lone(alloc, &mut writer, lone)?;
+    writer.end_object()?;
+    let mut text = writer.into_inner();
+    text.push(b'\n')?;
+    Ok(text)
+}
+
+// Puts the names of columns that came and of those that went, under one name.
+fn put_lone(alloc: Global, writer: &mut Writer, lone: &LoneColumns) -> Result<(), AllocError> {
+    writer.key("columns")?;
+    writer.begin_object()?;
+    put_names(alloc, writer, "added", &lone.added)?;
+    put_names(alloc, writer, "removed", &lone.removed)?;
+    writer.end_object()
+}
+
 /// The counts of rows, and the names of the columns that one of the tables alone has, as one object on a line.
 ///
 /// # Errors
@@ -104,11 +131,7 @@ pub fn json_counts(alloc: Global, report: &Report<'_>) -> Result<Vec<u8>, AllocE
     put_count(&mut writer, "changed", report.counts.changed)?;
     put_count(&mut writer, "same", report.counts.same)?;
     let lone = report.column_changes.lone(alloc)?;
-    writer.key("columns")?;
-    writer.begin_object()?;
-    put_names(alloc, &mut writer, "added", &lone.added)?;
-    put_names(alloc, &mut writer, "removed", &lone.removed)?;
-    writer.end_object()?;
+    put_lone(alloc, &mut writer, &lone)?;
     writer.end_object()?;
     let mut text = writer.into_inner();
     text.push(b'\n')?;

@@ -19,7 +19,7 @@ mod table;
 pub use changed_rows::{RowChange, row_changes};
 pub use counts::{Counts, count, count_rows};
 pub use joined_json::{JsonSides, put_json_row};
-pub use json_lines::json_rows;
+pub use json_lines::{json_columns, json_rows};
 pub use laws::law_html_is_text;
 pub use report::{Report, write_report};
 pub use stopped::{Stopped, Version, write_stopped};

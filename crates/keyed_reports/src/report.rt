@@ -5,7 +5,7 @@ ghost use Rattle.keyed_reports.specs.Shown.{count_more, shown_rows};
 use crate::changed_rows::RowChange;
 use crate::counts::{Counts, count};
 use crate::html::html;
-use crate::json_lines::{json_counts, json_rows};
+use crate::json_lines::{json_columns, json_counts, json_rows};
 use crate::markdown::markdown;
 use crate::table::table;
 use keyed_files::{ColumnChanges, Columns, Decimal, Look, RowsShown};
@@ -77,8 +77,8 @@ fn count_more(which: RowsShown, all: usize) -> usize
     }
 }
 
-/// The report as text of this form: what became of the columns, the rows, and the counts; of JSON the rows alone, or the counts and the
-/// columns where no row is to be shown.
+/// The report as text of this form: what became of the columns, the rows, and the counts; of JSON an object of columns that came or went, if
+/// there are any, and then the rows, or the counts and the columns where no row is to be shown.
 ///
 /// # Errors
 ///
@@ -90,7 +90,12 @@ pub fn write_report(alloc: Global, look: Look, report: &Report<'_>) -> Result<Ve
         Look::Html => html(alloc, report),
         Look::Json => match report.which {
             RowsShown::Nothing => json_counts(alloc, report),
-            RowsShown::All | RowsShown::First(_) => json_rows(alloc, report.columns, report.rows),
+            RowsShown::All | RowsShown::First(_) => {
+                let mut text = json_columns(alloc, &report.column_changes.lone(alloc)?)?;
+                let rows = json_rows(alloc, report.columns, report.rows)?;
+                text.extend_from_slice(&rows)?;
+                Ok(text)
+            }
         },
     }
 }

@@ -8,14 +8,21 @@ use keyed_files::{Columns, Grid, Look, heading, line_up, put_version};
 use keyed_rows::{Cells, Group, Key};
 use std::alloc::{AllocError, Global};
 
-/// The rows that one version of a table has under a key, behind the word for this version, or None where it has no row there.
-pub type Version<'a> = (&'a str, &'a Key, Option<&'a Group>);
+/// The rows that one version of a table has under a key.
+#[derive(Clone, Copy)]
+pub struct Version<'a> {
+    /// Why they are told, in one word, as JSON says it.
+    pub why: &'a str,
+    /// The word for this version.
+    pub word: &'a str,
+    pub key: &'a Key,
+    /// None where it has no row there.
+    pub rows: Option<&'a Group>,
+}
 
 /// Rows for which a command has no table.
 #[derive(Drop)]
 pub struct Stopped<'r> {
-    /// Why, in one word, as JSON says it.
-    pub why: &'r str,
     /// What is said before the rows, a line each. JSON has no place for it.
     pub said: &'r str,
     pub columns: &'r Columns,
@@ -44,8 +51,8 @@ pub fn write_stopped(
 fn table(alloc: Global, stopped: &Stopped<'_>) -> Result<String, AllocError> {
     let mut grid: Grid = Vec::new(alloc);
     grid.push(heading(alloc, stopped.columns)?)?;
-    for (word, key, rows) in stopped.versions {
-        put_version(alloc, &mut grid, word, key, *rows)?;
+    for version in stopped.versions {
+        put_version(alloc, &mut grid, version.word, version.key, version.rows)?;
     }
     let mut text = String::from_str(alloc, stopped.said)?;
     text.push_str(&line_up(alloc, &grid)?)?;
@@ -54,41 +61,38 @@ fn table(alloc: Global, stopped: &Stopped<'_>) -> Result<String, AllocError> {
 
 fn json_lines(alloc: Global, stopped: &Stopped<'_>) -> Result<Vec<u8>, AllocError> {
     let mut text = Vec::new(alloc);
-    for (word, key, rows) in stopped.versions {
-        match rows {
+    for version in stopped.versions {
+        match version.rows {
             Some(rows) => {
                 for cells in rows.rows() {
-                    put_json_line(alloc, &mut text, stopped, (word, key, Some(cells)))?;
+                    put_json_line(alloc, &mut text, stopped.columns, version, Some(cells))?;
                 }
             }
-            None => put_json_line(alloc, &mut text, stopped, (word, key, None))?,
+            None => put_json_line(alloc, &mut text, stopped.columns, version, None)?,
         }
     }
     Ok(text)
 }
 
-// One row of a version, or that it has none.
-type VersionRow<'a> = (&'a str, &'a Key, Option<&'a Cells>);
-
 // Puts the object of a row of a version: why it is told, which version it is of, its key, and its other cells, or null where it is none.
 fn put_json_line(
     alloc: Global,
     text: &mut Vec<u8>,
-    stopped: &Stopped<'_>,
-    row: VersionRow<'_>,
+    columns: &Columns,
+    version: &Version<'_>,
+    cells: Option<&Cells>,
 ) -> Result<(), AllocError> {
-    let (word, key, cells) = row;
     let mut writer = Writer::new(Vec::new(alloc));
     writer.begin_object()?;
     writer.key("why")?;
-    writer.string(stopped.why)?;
+    writer.string(version.why)?;
     writer.key("version")?;
-    writer.string(word)?;
+    writer.string(version.word)?;
     writer.key("key")?;
-    put_members(alloc, &mut writer, &stopped.columns.key, key.iter())?;
+    put_members(alloc, &mut writer, &columns.key, version.key.iter())?;
     writer.key("row")?;
     match cells {
-        Some(cells) => put_members(alloc, &mut writer, &stopped.columns.rest, cells.iter())?,
+        Some(cells) => put_members(alloc, &mut writer, &columns.rest, cells.iter())?,
         None => writer.null()?,
     }
     writer.end_object()?;
@@ -101,7 +105,12 @@ fn markdown_table(alloc: Global, stopped: &Stopped<'_>) -> Result<Vec<u8>, Alloc
     let mut text = Vec::new(alloc);
     put_items(&mut text, stopped.said)?;
     put_heading(alloc, &mut text, stopped.columns)?;
-    for (word, key, rows) in stopped.versions {
+    for Version {
+        word,
+        key,
+        rows,
+        ..
+    } in stopped.versions {
         match rows {
             Some(rows) => {
                 for cells in rows.rows() {
@@ -128,7 +137,12 @@ fn html_page(alloc: Global, stopped: &Stopped<'_>) -> Result<Vec<u8>, AllocError
     put_elements(alloc, &mut text, "th", stopped.columns.key.iter())?;
     put_elements(alloc, &mut text, "th", stopped.columns.rest.iter())?;
     text.extend_from_slice(b"</tr>\n</thead>\n<tbody>\n")?;
-    for (word, key, rows) in stopped.versions {
+    for Version {
+        word,
+        key,
+        rows,
+        ..
+    } in stopped.versions {
         match rows {
             Some(rows) => {
                 for cells in rows.rows() {

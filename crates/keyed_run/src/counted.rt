@@ -190,6 +190,14 @@ impl<'p, 'r, R: Files + Clock + Eprint> Files for CountedRuntime<'p, 'r, R> {
     fn canonicalize<B: Allocator>(&self, alloc: B, path: &str) -> io::Result<PathBuf<B>> {
         self.rt.canonicalize(alloc, path)
     }
+
+    fn read_link<B: Allocator>(&self, alloc: B, path: &str) -> io::Result<PathBuf<B>> {
+        self.rt.read_link(alloc, path)
+    }
+
+    fn lchown(&self, path: &str, uid: Option<u32>, gid: Option<u32>) -> io::Result<()> {
+        self.rt.lchown(path, uid, gid)
+    }
 }
 
 /// An output that is written when the line is gone. Where it is a terminal, as it may be that of the line, the line does not come again: it

@@ -4,6 +4,7 @@
 
 mod counted;
 mod heading;
+mod leavable;
 mod progress;
 mod words;
 
@@ -11,17 +12,19 @@ use counted::{ClearedOutput, CountedRuntime};
 use heading::write_with_no_heading;
 use keyed_arguments::{Heading, Line, ParseError, parse};
 use keyed_commands::{
-    Asked, Colours, Fault, Finished, Reason, Shown, at, write_command, write_git_diff,
-    write_git_merge, write_git_setup, write_git_unmerged, write_into_file,
+    Asked, Colours, Command, Fault, Finished, GitMerge, Reason, Shown, SortedRequest, at,
+    version_name, write_command, write_git_diff, write_git_merge, write_git_setup,
+    write_git_unmerged, write_git_unopened, write_into_file,
 };
 use keyed_cut::{Cut, write_cut};
+use leavable::{LeavableOutput, WhenLeft};
 use progress::ProgressLine;
 use std::alloc::{AllocError, Global};
 use std::env::FillError;
 use std::fs;
 use std::io::{IsTerminal, Write};
 use std::rt::{Clock, Env, Files};
-use words::{Words, words_of};
+use words::{ShownWords, Words, words_of};
 
 // The status of trouble.
 const TROUBLE: u8 = 2;
@@ -30,8 +33,8 @@ const TROUBLE: u8 = 2;
 const TROUBLE_FOR_GIT: u8 = 129;
 
 /// Answers the command line of a runtime on the output, and returns the status. Unless tables are read as they rise, nothing is written
-/// before the whole answer is known. What is wrong is said on the standard error, and so is an output that does not take the help; that a
-/// reader of the output has left is not said.
+/// before the whole answer is known. What is wrong is said on the standard error, and so is an output that does not take the help. That the
+/// reader of the output has left is no trouble: the status is that of the command, and a join or a look-up of tables as they are read stops.
 ///
 /// A standard stream that is closed stays so: no file that is named takes its place.
 ///
@@ -49,10 +52,7 @@ pub fn run<
     let _third = fs::open(rt, "/dev/null");
     match words_of(rt) {
         Ok(Words::Text(words)) => run_words(rt, &words, output, errors),
-        Ok(Words::NoText(said)) => {
-            let _ = eprintln!(rt; "keyed: the command line: {said}");
-            TROUBLE
-        }
+        Ok(Words::NoText(words)) => run_shown_words(rt, &words, output, errors),
         Err(reason) => trouble(rt, of_words(reason)),
     }
 }
@@ -65,12 +65,7 @@ pub fn run_words<
     W: Write + IsTerminal,
     E: IsTerminal,
 >(rt: &R, words: &[String], output: &mut W, errors: &E) -> u8 {
-    let colours = if output.is_terminal() && !has_text(rt, "NO_COLOR") {
-        Colours::On
-    } else {
-        Colours::Off
-    };
-    match parse(rt.alloc(), words, colours) {
+    match parse(rt.alloc(), words, colours_of(rt, output)) {
         Ok(
             Line::Asked {
                 asked,
@@ -86,6 +81,43 @@ pub fn run_words<
             cut_counted(rt, &line, cut)
         }
         Err(error) => refuse(rt, words, error),
+    }
+}
+
+// Answers what git asks for by words of which some are not UTF-8, or says so of the first, and returns the status.
+fn run_shown_words<
+    R: Files + Env + Input + Clock + Print + Eprint + AllocGlobal,
+    W: Write + IsTerminal,
+    E: IsTerminal,
+>(rt: &R, words: &ShownWords, output: &mut W, errors: &E) -> u8 {
+    if let Ok(
+        Line::Asked {
+            asked,
+            heading,
+            progress,
+        },
+    ) = parse(rt.alloc(), &words.words, colours_of(rt, output))
+    {
+        if let Some(asked) = words.asked_by_git(asked) {
+            let line = ProgressLine::new(rt, progress, errors);
+            return answer_counted(rt, &line, asked, heading, output);
+        }
+    }
+    match words.said(rt.alloc()) {
+        Ok(said) => {
+            let _ = eprintln!(rt; "keyed: the command line: {said}");
+            trouble_of(&words.words)
+        }
+        Err(AllocError) => trouble(rt, of_words(Reason::NoMemory)),
+    }
+}
+
+// Whether reports on an output have colours, where the command line leaves that open.
+fn colours_of<R: Env, W: IsTerminal>(rt: &R, output: &W) -> Colours {
+    if output.is_terminal() && !has_text(rt, "NO_COLOR") {
+        Colours::On
+    } else {
+        Colours::Off
     }
 }
 
@@ -135,6 +167,7 @@ fn refuse<R: Print + Eprint + AllocGlobal>(rt: &R, words: &[String], error: Pars
     }
     match at("the standard output", printed) {
         Ok(()) => 0,
+        Err(fault) if fault.is_closed_pipe() => 0,
         Err(fault) => trouble(rt, fault),
     }
 }
@@ -173,18 +206,44 @@ fn answer<R: Files + Input + Eprint + AllocGlobal, W: Write>(
     heading: Heading,
     output: &mut W,
 ) -> u8 {
-    let is_for_git = matches!(&asked, Asked::GitMerge { .. });
-    match write_asked(rt, asked, heading, output) {
+    let merge = merge_of(&asked);
+    let mut output = LeavableOutput::new(output, when_left(&asked));
+    match write_asked(rt, asked, heading, &mut output) {
         Ok(finished) => {
             if let Some(counts) = finished.counts {
                 let _ = eprintln!(rt; "{counts}");
             }
             finished.status
         }
-        Err(fault) => {
-            let status = trouble(rt, fault);
-            if is_for_git { TROUBLE_FOR_GIT } else { status }
-        }
+        Err(_closed) if output.has_stopped() => 0,
+        Err(fault) => match merge {
+            Some(merge) => trouble_for_git(rt, merge, fault),
+            None => trouble(rt, fault),
+        },
+    }
+}
+
+// The merge that git asks for, if it asks for one.
+fn merge_of<'a>(asked: &Asked<'a>) -> Option<GitMerge<'a>> {
+    match asked {
+        Asked::GitMerge { merge, .. } => Some(*merge),
+        _ => None,
+    }
+}
+
+// What a command does once the reader of its output has left: a join and a look-up, which write while they read and have but one status,
+// stop.
+fn when_left(asked: &Asked<'_>) -> WhenLeft {
+    match asked {
+        Asked::Answer { command, .. } => match command {
+            Command::Lookup { .. } => WhenLeft::Stop,
+            Command::Sorted { request, .. } => match request {
+                SortedRequest::Join { .. } => WhenLeft::Stop,
+                SortedRequest::Diff { .. } => WhenLeft::GoOn,
+            },
+            Command::Whole { .. } | Command::Overlay { .. } => WhenLeft::GoOn,
+        },
+        _ => WhenLeft::GoOn,
     }
 }
 
@@ -212,6 +271,7 @@ fn write_asked<'a, R: Files + Input + AllocGlobal, W: Write>(
             format,
             diff,
         } => write_git_diff(rt, settings, format, diff, output)?,
+        Asked::GitUnopened { diff } => write_git_unopened(rt, diff, output)?,
         Asked::GitUnmerged { path } => write_git_unmerged(rt, path, output)?,
         Asked::GitMerge { settings, merge } => write_git_merge(rt, settings, merge, output)?,
         Asked::GitSetup { options } => write_git_setup(rt, options, output)?,
@@ -244,10 +304,23 @@ fn has_text<R: Env>(rt: &R, name: &str) -> bool {
     }
 }
 
-// Says what is wrong, unless it is that a reader of the output has left, and returns the status of trouble.
+// Says what is wrong, and returns the status of trouble.
 fn trouble<R: Eprint>(rt: &R, fault: Fault<'_>) -> u8 {
-    if !fault.is_closed_pipe() {
-        let _ = eprintln!(rt; "keyed: {fault}");
-    }
+    let _ = eprintln!(rt; "keyed: {fault}");
     TROUBLE
+}
+
+// Says what is wrong with a merge for git, and returns the status of trouble with one.
+fn trouble_for_git<R: Eprint + AllocGlobal>(rt: &R, merge: GitMerge<'_>, fault: Fault<'_>) -> u8 {
+    match version_name(rt.alloc(), merge, fault.file) {
+        Ok(name) => {
+            let Fault { reason, .. } = fault;
+            let file = name.as_str();
+            trouble(rt, Fault { file, reason });
+        }
+        Err(AllocError) => {
+            trouble(rt, fault);
+        }
+    }
+    TROUBLE_FOR_GIT
 }

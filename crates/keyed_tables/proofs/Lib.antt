@@ -5,5 +5,6 @@ pub mod GatherLemmas
 pub mod KeyLemmas
 pub mod OrderLemmas
 pub mod OverlayLemmas
+pub mod PartedLemmas
 pub mod PlaceLemmas
 pub mod RepeatLemmas

@@ -1,15 +1,14 @@
-//! Three versions of a table merged, in which a key that has one row in each is merged cell by cell.
+//! The rule by which a key that has one row in each of three versions of a table is merged cell by cell.
 ghost use Rattle.std.specs.Prelude.{◌≡◌, IfOk, Some, map, option_map, zip};
 ghost use Rattle.eob_both.specs.Places.{item_left, item_right, left_place, right_place};
 ghost use Rattle.eob_joins.specs.Cells.{cell_clashes, cells_clash, same_length};
-ghost use Rattle.eob_joins.specs.Settled.{IsMergeWith, Settles};
+ghost use Rattle.eob_joins.specs.Settled.{Settles};
 ghost use Rattle.keyed_tables.specs.RowsByCell.{GivesRow, IsMergedRow, IsSettledRow, can_by_row, cell_eq};
 ghost use Rattle.keyed_tables.specs.RowsByCell.{cell_of, one_row, only_row};
 
-use crate::table::Rows;
-use eob_joins::{Merged, Settle, Versions, merge_versions_with};
+use eob_joins::{Settle, Versions};
 use eob_lists::EitherOrBoth;
-use keyed_rows::{Cells, Group, Key};
+use keyed_rows::{Cells, Group};
 use std::alloc::{AllocError, Global};
 
 /// The rule that settles three groups of one row each whose cells can be merged, each as a row of its own. It leaves all other groups in
@@ -160,29 +159,4 @@ fn merged_cell<'a>(base: &[u8], ours: &'a [u8], theirs: &'a [u8]) -> &'a [u8]
     ensures { result.now ≡ cell_of (base.now, (ours.now, theirs.now)) }
 {
     if base == ours { theirs } else { ours }
-}
-
-/// The merged table, as [`merge_of`](crate::merge_of) has it, in which a key that has one row in each version is merged cell by cell: each
-/// cell is that of a row of its own. Else the rows in conflict: of such a key those of which both sides changed one cell, and not alike.
-///
-/// # Errors
-///
-/// Returns `AllocError` if a request for memory was refused.
-pub fn merge_by_cell_of(
-    alloc: Global,
-    base: Rows<Key, Group>,
-    ours: Rows<Key, Group>,
-    theirs: Rows<Key, Group>,
-) -> Result<Merged<Key, Group>, AllocError>
-    ensures { IfOk result (λ m. IsMergeWith ⟦<Key as Ord>⟧.cmp ⟦<Group as PartialEq>⟧.eq can_by_row GivesRow
-        base.pairs.items ours.pairs.items theirs.pairs.items m) }
-{
-    let merge = merge_versions_with(
-        alloc,
-        base.pairs,
-        ours.pairs,
-        theirs.pairs,
-        &RowByCell::new(alloc),
-    )?;
-    Ok(merge)
 }

@@ -21,7 +21,7 @@ pub enum Marked<V> {
     Stuck(Versions<V>),
 }
 
-/// The merged table as [`merge_of`](crate::merge_of) has it, with each row in conflict in its place.
+/// The merged table as [`parted_merge_of`](crate::parted_merge_of) has it, with each row in conflict in its place.
 ///
 /// # Errors
 ///
@@ -38,7 +38,7 @@ pub fn marked_merge_of<K: Ord + Drop, V: Eq + Drop>(
     marked_merge(alloc, base, ours, theirs, &NoRule)
 }
 
-/// The merged table as [`merge_by_cell_of`](crate::merge_by_cell_of) has it, with each row in conflict in its place.
+/// The merged table as [`parted_merge_by_cell_of`](crate::parted_merge_by_cell_of) has it, with each row in conflict in its place.
 ///
 /// # Errors
 ///
@@ -56,8 +56,8 @@ pub fn marked_merge_by_cell_of(
     marked_merge(alloc, base, ours, theirs, &RowByCell::new(alloc))
 }
 
-// The rule that settles nothing.
-struct NoRule;
+/// The rule that settles nothing.
+pub struct NoRule;
 
 impl<V> Settle<V> for NoRule {
     ghost can = { λ rule. can_nothing };
@@ -106,8 +106,8 @@ fn marked_rows<K: Drop, V: Eq + Drop, S: Settle<V>>(
     Ok(rows)
 }
 
-// What stands of a row.
-fn marked_row<V: Eq + Drop, S: Settle<V>>(
+/// What stands of a row.
+pub fn marked_row<V: Eq + Drop, S: Settle<V>>(
     versions: Versions<V>,
     rule: &S,
 ) -> Result<Option<Marked<V>>, AllocError>

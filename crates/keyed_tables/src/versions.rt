@@ -1,12 +1,11 @@
-//! What changed between two versions of a table, changes made again, and three versions merged.
+//! What changed between two versions of a table, and changes made again.
 ghost use Rattle.std.specs.Prelude.{IfOk};
 ghost use Rattle.eob_lists.specs.Join.{IsJoin};
 ghost use Rattle.eob_joins.specs.Changes.{applied, changed};
 ghost use Rattle.eob_joins.specs.Tables.{IsKeptOfJoin};
-ghost use Rattle.eob_joins.specs.Versions.{IsMerge, IsMergeByKey};
 
 use crate::table::Rows;
-use eob_joins::{Change, Merged, apply, diff, merge_versions};
+use eob_joins::{Change, apply, diff};
 use eob_lists::join::outer_join;
 use std::alloc::{AllocError, Global};
 
@@ -56,24 +55,4 @@ pub fn patched<K: Ord + Drop, V: Drop>(
         (λ rows. IsKeptOfJoin K.cmp applied old.pairs.items changes.pairs.items rows.items) }
 {
     apply(alloc, old.pairs, changes.pairs)
-}
-
-/// The merged table, which has whatever one side alone changed as that side has it; or the rows that both sides changed, to rows that
-/// are not the same.
-///
-/// # Errors
-///
-/// Returns `AllocError` if a request for memory was refused.
-pub fn merge_of<K: Ord + Drop, V: Eq + Drop>(
-    alloc: Global,
-    base: Rows<K, V>,
-    ours: Rows<K, V>,
-    theirs: Rows<K, V>,
-) -> Result<Merged<K, V>, AllocError>
-    ensures rows { IfOk result
-        (λ m. IsMerge K.cmp V.eq base.pairs.items ours.pairs.items theirs.pairs.items m) }
-    ensures values { IfOk result
-        (λ m. IsMergeByKey K.cmp V.eq base.pairs.items ours.pairs.items theirs.pairs.items m) }
-{
-    merge_versions(alloc, base.pairs, ours.pairs, theirs.pairs)
 }

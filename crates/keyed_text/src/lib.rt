@@ -4,12 +4,14 @@
 #![tactic(auto)]
 
 mod laws;
+mod lenient;
 mod quotes;
 mod row_reader;
 mod row_writer;
 mod strict;
 
 pub use laws::{law_reads_back, law_reads_once, law_rows_have_cells};
+pub use lenient::Lenient;
 pub use quotes::{Marks, Place};
 pub use row_reader::RowReader;
 pub use row_writer::RowWriter;

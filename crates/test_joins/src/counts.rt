@@ -2,7 +2,6 @@
 //!
 //! No clause counts calls: a join that compares each two keys twice has the same rows.
 
-use crate::tables::KEYS;
 use either_or_both::join::{is_rising, outer_join, outer_join_lazily};
 use eob_joins::{
     anti_join, diff, group_by_key, inner_join, is_ordered, left_join, outer_join_hash_maps,
@@ -14,6 +13,9 @@ use std::collections::HashMap;
 use std::process::Abort;
 use std::test::Fail;
 use testkit::counts::{Count, Key};
+
+// The keys are below this.
+const KEYS: u32 = 400;
 
 // How many keys below 400 are even or multiples of three: 200 and 134, less the 67 multiples of six.
 const JOINED: u32 = 267;

@@ -188,7 +188,7 @@ fn gives_rows(alloc: Global, call: Call, left: Table, right: Table) -> Result<bo
     })
 }
 
-/// Each join has each key of the tables that it is of, made at once, walked, and of slices.
+/// Each join has each key of the tables that it is of, made at once and iterated.
 #[test]
 fn joins_have_every_row(rt: HostRuntime) -> Result<(), Fail> {
     let alloc = rt.alloc();
@@ -197,33 +197,54 @@ fn joins_have_every_row(rt: HostRuntime) -> Result<(), Fail> {
         let right = table(&rt, alloc, Side::Threes)?;
         assert!(rt; gives_rows(alloc, call, left, right)?, "{call:?}");
     }
+    Ok(())
+}
+
+/// So has a join of slices.
+#[test]
+fn joins_of_slices_have_every_row(rt: HostRuntime) -> Result<(), Fail> {
+    let alloc = rt.alloc();
     let left = table(&rt, alloc, Side::Evens)?;
     let right = table(&rt, alloc, Side::Threes)?;
     let mut rows = outer_join_slices(&left, &right);
-    let want = joined(alloc)?;
-    for (key, row) in &want {
+    for (key, row) in &joined(alloc)? {
         assert!(rt; rows.next() == Some((key, row.as_ref())));
     }
     assert!(rt; rows.next().is_none());
     Ok(())
 }
 
+type Changes = Vec<(u32, Change<u32>)>;
+
+// The changes from the even numbers to the multiples of three.
+fn changes(rt: &impl Abort, alloc: Global) -> Result<Changes, Fail>
+    ensures { IfOk result (λ changes. Rising nat_cmp changes.items) }
+{
+    let old = table(rt, alloc, Side::Evens)?;
+    let new = table(rt, alloc, Side::Threes)?;
+    let changes = diff(alloc, old, new)?;
+    assert!(rt; is_rising(&changes));
+    Ok(changes)
+}
+
+// The same by the rule.
+fn wanted_changes(alloc: Global) -> Result<Changes, AllocError> {
+    let mut changes = Vec::new(alloc);
+    for (key, row) in joined(alloc)? {
+        if row.left() != row.right() {
+            changes.push((key, row))?;
+        }
+    }
+    Ok(changes)
+}
+
 /// Changes name each key whose value is not the same in both versions, and made to the first give the second.
 #[test]
 fn changes_have_every_row(rt: HostRuntime) -> Result<(), Fail> {
     let alloc = rt.alloc();
-    let mut want: Vec<(u32, Change<u32>)> = Vec::new(alloc);
-    for (key, row) in joined(alloc)? {
-        if row.left() != row.right() {
-            want.push((key, row))?;
-        }
-    }
+    assert!(rt; changes(&rt, alloc)? == wanted_changes(alloc)?);
     let old = table(&rt, alloc, Side::Evens)?;
-    let new = table(&rt, alloc, Side::Threes)?;
-    let changes = diff(alloc, old, new)?;
-    assert!(rt; changes == want && is_rising(&changes));
-    let old = table(&rt, alloc, Side::Evens)?;
-    let patched = apply(alloc, old, changes)?;
+    let patched = apply(alloc, old, changes(&rt, alloc)?)?;
     assert!(rt; patched == table(&rt, alloc, Side::Threes)?);
     Ok(())
 }
@@ -242,35 +263,55 @@ fn clashes(key: u32) -> bool {
     base != ours && base != theirs && ours != theirs
 }
 
-/// A join of three versions has each key of any of them; a merge of them has the rows that both sides changed in two ways, and one
-/// in which their side changed nothing has our side's rows.
-#[test]
-fn versions_and_merges_have_every_row(rt: HostRuntime) -> Result<(), Fail> {
-    let alloc = rt.alloc();
-    let mut all = Vec::new(alloc);
-    let mut conflicts = Vec::new(alloc);
+// The rows of the three versions that are in conflict.
+fn conflicts(alloc: Global) -> Result<Vec<(u32, Versions<u32>)>, AllocError> {
+    let mut rows = Vec::new(alloc);
     for key in 0..KEYS {
         if let Some(row) = versions(key) {
-            all.push((key, row))?;
             if clashes(key) {
-                conflicts.push((key, row))?;
+                rows.push((key, row))?;
             }
         }
     }
-    let ours = table(&rt, alloc, Side::Threes)?;
-    let merges = [
-        (Side::Fours, Merged::Conflicts(conflicts)),
-        (Side::Evens, Merged::Whole(ours)),
-    ];
-    for (side, want) in merges {
-        let base = table(&rt, alloc, Side::Evens)?;
-        let ours = table(&rt, alloc, Side::Threes)?;
-        let theirs = table(&rt, alloc, side)?;
-        assert!(rt; merge_versions(alloc, base, ours, theirs)? == want);
+    Ok(rows)
+}
+
+// The rows of the join of the three versions.
+fn all_versions(alloc: Global) -> Result<Vec<(u32, Versions<u32>)>, AllocError> {
+    let mut rows = Vec::new(alloc);
+    for key in 0..KEYS {
+        if let Some(row) = versions(key) {
+            rows.push((key, row))?;
+        }
     }
+    Ok(rows)
+}
+
+/// A join of three versions has each key of any of them.
+#[test]
+fn joins_of_versions_have_every_row(rt: HostRuntime) -> Result<(), Fail> {
+    let alloc = rt.alloc();
     let base = table(&rt, alloc, Side::Evens)?;
     let ours = table(&rt, alloc, Side::Threes)?;
     let theirs = table(&rt, alloc, Side::Fours)?;
-    assert!(rt; join_versions(alloc, base, ours, theirs)? == all);
+    assert!(rt; join_versions(alloc, base, ours, theirs)? == all_versions(alloc)?);
+    Ok(())
+}
+
+// The multiples of three as ours merged with theirs over the even numbers.
+fn merged(rt: &impl Abort, alloc: Global, theirs: Side) -> Result<Merged<u32, u32>, Fail> {
+    let base = table(rt, alloc, Side::Evens)?;
+    let ours = table(rt, alloc, Side::Threes)?;
+    let theirs = table(rt, alloc, theirs)?;
+    Ok(merge_versions(alloc, base, ours, theirs)?)
+}
+
+/// A merge has the rows that both sides changed in two ways, and where their side changed nothing, our side's rows.
+#[test]
+fn merges_have_every_row(rt: HostRuntime) -> Result<(), Fail> {
+    let alloc = rt.alloc();
+    assert!(rt; merged(&rt, alloc, Side::Fours)? == Merged::Conflicts(conflicts(alloc)?));
+    let ours = table(&rt, alloc, Side::Threes)?;
+    assert!(rt; merged(&rt, alloc, Side::Evens)? == Merged::Whole(ours));
     Ok(())
 }

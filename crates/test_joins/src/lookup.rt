@@ -1,13 +1,14 @@
-//! Tests of a list joined with a map: each item of the list in its order, whose keys repeat, with what a rule puts under its key.
+//! Tests of a list whose keys repeat, joined with a map: each item of the list in its order, with what a rule puts under its key; and the
+//! parts of a slice.
 
-use eob_joins::{LookupRow, lookup_join, lookup_join_lazily};
+use either_or_both::EitherOrBoth;
+use either_or_both::join::outer_join_lazily;
+use eob_joins::{Lookup, LookupRow, groups_of, is_ordered, lookup_join, lookup_join_lazily};
 use indexmap::IndexMap;
 use std::alloc::{AllocError, Global};
 use std::cell::Cell;
 use std::collections::{BTreeMap, HashMap};
-use std::rc::Rc;
 use std::test::Fail;
-use testkit::memory::{RUNS, Refusing, Runs, Tokens};
 
 // How many items the lists have.
 const SIZES: [u32; 4] = [0, 1, 400, 70_000];
@@ -45,6 +46,18 @@ fn entries(alloc: Global) -> Result<Vec<(u32, u32)>, AllocError> {
     Ok(entries)
 }
 
+fn ordered(alloc: Global) -> Result<BTreeMap<u32, u32>, AllocError> {
+    entries(alloc)?.into_iter().collect(alloc)
+}
+
+fn hashed(alloc: Global) -> Result<HashMap<u32, u32>, AllocError> {
+    entries(alloc)?.into_iter().collect(alloc)
+}
+
+fn inserted(alloc: Global) -> Result<IndexMap<u32, u32>, AllocError> {
+    entries(alloc)?.into_iter().collect(alloc)
+}
+
 // Whether the rows are so many, each with its item, and what the rule puts under its key.
 fn are_rows(rows: &[LookupRow<u32, u32, u32>], count: u32) -> bool {
     rows.len() == count as usize
@@ -59,63 +72,87 @@ fn is_row(row: &LookupRow<u32, u32, u32>, number: u32) -> bool {
     row.0 == key_of(number) && row.1 == number && row.2.copied() == under(row.0)
 }
 
-/// Lists of some sizes, joined with an ordered map, a hashed one and one in the order of insertion.
-#[test]
-fn each_item_has_what_the_map_has(rt: HostRuntime) -> Result<(), Fail> {
-    let alloc = rt.alloc();
-    let ordered: BTreeMap<u32, u32> = entries(alloc)?.into_iter().collect(alloc)?;
-    let hashed: HashMap<u32, u32> = entries(alloc)?.into_iter().collect(alloc)?;
-    let inserted: IndexMap<u32, u32> = entries(alloc)?.into_iter().collect(alloc)?;
+// Whether a list of each size has its rows beside a map.
+fn has_rows<R: Lookup<u32, Value = u32>>(alloc: Global, map: &R) -> Result<bool, AllocError> {
     for count in SIZES {
-        assert!(rt; are_rows(&lookup_join(alloc, items(alloc, count)?, &ordered)?, count));
-        assert!(rt; are_rows(&lookup_join(alloc, items(alloc, count)?, &hashed)?, count));
-        assert!(rt; are_rows(&lookup_join(alloc, items(alloc, count)?, &inserted)?, count));
+        if !are_rows(&lookup_join(alloc, items(alloc, count)?, map)?, count) {
+            return Ok(false);
+        }
     }
+    Ok(true)
+}
+
+/// Lists of some sizes, joined with an ordered map.
+#[test]
+fn each_item_has_what_an_ordered_map_has(rt: HostRuntime) -> Result<(), Fail> {
+    assert!(rt; has_rows(rt.alloc(), &ordered(rt.alloc())?)?);
     Ok(())
 }
 
-/// The same one by one: the source is asked for an item where a row is, and for no other, and the hint is the source's.
+/// The same with a hashed map.
+#[test]
+fn each_item_has_what_a_hashed_map_has(rt: HostRuntime) -> Result<(), Fail> {
+    assert!(rt; has_rows(rt.alloc(), &hashed(rt.alloc())?)?);
+    Ok(())
+}
+
+/// The same with a map in the order of insertion.
+#[test]
+fn each_item_has_what_an_index_map_has(rt: HostRuntime) -> Result<(), Fail> {
+    assert!(rt; has_rows(rt.alloc(), &inserted(rt.alloc())?)?);
+    Ok(())
+}
+
+// Whether so many rows come one by one: the source is asked for an item where a row is, and for no other, and the hint is its own.
+fn come_one_by_one(
+    alloc: Global,
+    map: &BTreeMap<u32, u32>,
+    count: u32,
+) -> Result<bool, AllocError> {
+    let asked = Cell::new(0u32);
+    let source = items(alloc, count)?.into_iter().inspect(|_item| {
+        asked.set(asked.get().saturating_add(1));
+    });
+    let mut rows = lookup_join_lazily(source, map);
+    for number in 0..count {
+        let left = (count - number) as usize;
+        if rows.size_hint() != (left, Some(left)) || asked.get() != number {
+            return Ok(false);
+        }
+        match rows.next() {
+            Some(row) if is_row(&row, number) => {}
+            _ => return Ok(false),
+        }
+    }
+    Ok(rows.next().is_none() && asked.get() == count)
+}
+
+/// A join that is iterated takes an item of its source for each row, and has the hint of its source.
 #[test]
 fn rows_come_one_by_one(rt: HostRuntime) -> Result<(), Fail> {
     let alloc = rt.alloc();
-    let map: BTreeMap<u32, u32> = entries(alloc)?.into_iter().collect(alloc)?;
+    let map = ordered(alloc)?;
     for count in SIZES {
-        let asked = Cell::new(0u32);
-        let source = items(alloc, count)?.into_iter().inspect(|_item| {
-            asked.set(asked.get().saturating_add(1));
-        });
-        let mut rows = lookup_join_lazily(source, &map);
-        for number in 0..count {
-            let left = (count - number) as usize;
-            assert!(rt; rows.size_hint() == (left, Some(left)) && asked.get() == number);
-            assert!(rt; matches!(rows.next(), Some(row) if is_row(&row, number)));
-        }
-        assert!(rt; rows.next().is_none() && asked.get() == count);
+        assert!(rt; come_one_by_one(alloc, &map, count)?, "{count} items");
     }
     Ok(())
 }
 
-/// A look-up join answers whole, or drops the list where memory is refused.
+/// A slice whose keys repeat beside an ordered map that has each key once.
 #[test]
-fn lookup_join_drops_the_list_where_refused(rt: HostRuntime) -> Result<(), Fail> {
-    let memory = Refusing::new(rt.alloc());
-    let tokens = Tokens::new(rt.alloc())?;
-    let runs = Runs::new(rt.alloc(), &memory, &tokens);
-    let mut map = BTreeMap::new(rt.alloc());
-    map.insert(2, 'b')?;
-    let want =
-        "[(2, 1, Some('b')), (1, 1, None), (2, 2, Some('b')), (0, 3, None), (2, 3, Some('b')), (4, 1, None)]";
-    for number in 1..RUNS {
-        memory.refuse(0);
-        let mut list: Vec<(u32, Rc<u8>), &Refusing<Global>> = Vec::new(&memory);
-        for (key, token) in [(2, 1), (1, 1), (2, 2), (0, 3), (2, 3), (4, 1)] {
-            list.push((key, tokens.of(token)?))?;
-        }
-        memory.refuse(number);
-        if runs.is_whole(lookup_join(&memory, list, &map), want)? {
-            return Ok(());
-        }
+fn slice_with_repeated_keys_is_joined_to_a_map(rt: HostRuntime) -> Result<(), Fail> {
+    let alloc = rt.alloc();
+    let orders = [(1, 'a'), (1, 'b'), (4, 'c')];
+    let customers: BTreeMap<u32, &str> = [(1, "one"), (2, "two")].into_iter().collect(alloc)?;
+    assert!(rt; is_ordered(&orders));
+    let mut rows = outer_join_lazily(&customers, groups_of(&orders));
+    for row in [
+        (&1, EitherOrBoth::Both(&"one", &orders[..2])),
+        (&2, EitherOrBoth::Left(&"two")),
+        (&4, EitherOrBoth::Right(&orders[2..])),
+    ] {
+        assert!(rt; rows.next() == Some(row));
     }
-    Err("each run was refused")?;
+    assert!(rt; rows.next().is_none());
     Ok(())
 }

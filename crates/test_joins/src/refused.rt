@@ -1,5 +1,7 @@
-//! Tests: the joins of lists, what changed in a table, and merges, with each request for memory refused in turn. What is tested is
-//! their forms with any allocator, with memory of the tests' own.
+//! Tests: the joins of lists and of maps, what changed in a table, and merges, with each request for memory refused in turn. What is
+//! tested is their forms with any allocator, with memory of the tests' own.
+
+mod maps;
 
 use either_or_both::EitherOrBoth;
 use either_or_both::join::is_rising;
@@ -175,6 +177,12 @@ fn check(rt: &impl Abort, alloc: Global, call: &str, want: &str) -> Result<(), F
             "apply" => run.makes_changes(rt),
             "join_versions" | "merge_versions" => run.joins_versions(rt, call, Side::Fours),
             "merge_unchanged" => run.joins_versions(rt, call, Side::Evens),
+            "group_join_unordered" => run.joins_groups(),
+            "lookup_join" => run.looks_up(),
+            "outer_join_index_maps" | "overlay_index_maps" => run.joins_index_maps(call),
+            "outer_join_hash_maps" => run.joins_hash_maps(),
+            "overlay_maps" => run.lays_maps(),
+            "merge_version_maps" => run.merges_maps(),
             _ => run.joins_tables(rt, call),
         };
         if is_whole? {

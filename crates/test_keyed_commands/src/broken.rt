@@ -157,7 +157,10 @@ fn fault_of(
             "{name}: line {line}: 1 cell, and there are {columns} columns (--ragged takes a short row)"
         )
     } else {
-        format!(in alloc; "{name}: line {line}: {cells} cells, and there are {columns} columns")
+        format!(in alloc;
+            "{name}: line {line}: {cells} cells, and there are {columns} columns \
+             (--comment and --skip pass lines over, --delimiter parts cells)"
+        )
     }
 }
 

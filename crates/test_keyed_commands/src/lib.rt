@@ -1,5 +1,5 @@
-//! Tests of tables of CSV: tables of hundreds of rows made by a rule, changes made again, and what is said of inputs that
-//! are bad.
+//! Tests of commands on tables of CSV that no case of the crate `keyed_cases` is: tables of hundreds of rows and more, every byte as a cell,
+//! readers and writers that fail, and cells that never look the same.
 #![tactic(auto)]
 
 #[cfg(test)]
@@ -7,38 +7,12 @@ mod broken;
 #[cfg(test)]
 mod cells;
 #[cfg(test)]
-mod columns;
-#[cfg(test)]
 mod commands;
-#[cfg(test)]
-mod disk;
-#[cfg(test)]
-mod faults;
-#[cfg(test)]
-mod form;
-#[cfg(test)]
-mod groups;
-#[cfg(test)]
-mod looked_up;
 #[cfg(test)]
 mod made;
 #[cfg(test)]
-mod marks;
-#[cfg(test)]
-mod merge;
-#[cfg(test)]
-mod misfits;
-#[cfg(test)]
-mod output;
-#[cfg(test)]
-mod repeats;
+mod many;
 #[cfg(test)]
 mod shown;
 #[cfg(test)]
 mod sizes;
-#[cfg(test)]
-mod sorted;
-#[cfg(test)]
-mod styles;
-#[cfg(test)]
-mod whole;

@@ -1,21 +1,15 @@
-//! The tests of the public calls of `either_or_both` on values of both enums.
+//! The tests of the calls of `either_or_both` on values of both enums that no line of `replay` makes: with memory of their own, with
+//! drops counted, with memory refused, over streams and through pointers.
 //!
-//! A module of tests goes with a family of calls, and covers both enums: its tables give, for each call and each variant, the answer
-//! and the calls of the closures, as the equations of the calls or the original crate have them, and `testkit` goes over them.
+//! A module of tests goes with a family of calls, and covers both enums.
 #![tactic(auto)]
 
 #[cfg(test)]
-mod conversions;
-#[cfg(test)]
-mod getters;
-#[cfg(test)]
 mod in_place;
 #[cfg(test)]
-mod order;
+mod inspection;
 #[cfg(test)]
 mod owned;
-#[cfg(test)]
-mod queries;
 #[cfg(test)]
 mod references;
 #[cfg(test)]
@@ -24,9 +18,5 @@ mod serialized;
 mod streams;
 #[cfg(test)]
 mod text;
-#[cfg(test)]
-mod transpositions;
-#[cfg(test)]
-mod unwraps;
 #[cfg(test)]
 mod values;

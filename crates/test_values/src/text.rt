@@ -13,10 +13,8 @@ use testkit::same::same;
 fn printed(alloc: Global, style: &str, value: &impl Display) -> Result<String, AllocError> {
     match style {
         "{:>5}" => format!(in alloc; "{value:>5}"),
-        "{:<5}" => format!(in alloc; "{value:<5}"),
         "{:*^5}" => format!(in alloc; "{value:*^5}"),
         "{:+}" => format!(in alloc; "{value:+}"),
-        "{:05}" => format!(in alloc; "{value:05}"),
         "{:+05}" => format!(in alloc; "{value:+05}"),
         "{:.1}" => format!(in alloc; "{value:.1}"),
         "{:-<6.2}" => format!(in alloc; "{value:-<6.2}"),
@@ -26,19 +24,6 @@ fn printed(alloc: Global, style: &str, value: &impl Display) -> Result<String, A
 
 /// A style, and what a left and a right value print in it alone.
 type Row = (&'static str, &'static str, &'static str);
-
-/// Of 7 and 8.
-#[rattlefmt::skip]
-static NUMBERS: [Row; 7] = [
-    // style   left     right
-    ("{}",     "7",     "8"),
-    ("{:>5}",  "    7", "    8"),
-    ("{:<5}",  "7    ", "8    "),
-    ("{:*^5}", "**7**", "**8**"),
-    ("{:+}",   "+7",    "+8"),
-    ("{:05}",  "00007", "00008"),
-    ("{:+05}", "+0007", "+0008"),
-];
 
 /// Of the texts "one" and "other".
 #[rattlefmt::skip]
@@ -94,7 +79,6 @@ fn check_rows<L: Display + Debug + Copy, R: Display + Debug + Copy>(
 #[test]
 fn lone_values_print_under_settings_and_both_do_not(rt: HostRuntime) -> Result<(), Fail> {
     let alloc = rt.alloc();
-    check_rows(alloc, (7u8, 8i64), "7\n8", &NUMBERS)?;
     check_rows(alloc, ("one", "other"), "one\nother", &TEXTS)?;
     check_rows(alloc, (0.25f64, 2.5f32), "0.25\n2.5", &FRACTIONS)?;
     Ok(())
@@ -118,45 +102,6 @@ fn refusal_prints_its_text_under_all_settings(rt: HostRuntime) -> Result<(), Fai
     }
     let text = format!(in alloc; "{refused:?}")?;
     same("debug", &refused, &text.as_str(), &"TryFromOptionsError")
-}
-
-/// A value, its debug text, and its debug text over several lines.
-static DEBUG_OF_EITHER_OR_BOTH: [(EitherOrBoth<u8, char>, &str, &str); 3] = [
-    (Left(1), "Left(1)", "Left(\n    1,\n)"),
-    (Both(1, 'c'), "Both(1, 'c')", "Both(\n    1,\n    'c',\n)"),
-    (Right('c'), "Right('c')", "Right(\n    'c',\n)"),
-];
-
-static DEBUG_OF_EITHER: [(Either<u8, char>, &str, &str); 2] = [
-    (Either::Left(1), "Left(1)", "Left(\n    1,\n)"),
-    (Either::Right('c'), "Right('c')", "Right(\n    'c',\n)"),
-];
-
-// Each value shows as its row says, on one line and on several.
-fn check_debug<V: Debug>(alloc: Global, rows: &[(V, &str, &str)]) -> Result<(), Fail> {
-    for (value, short, long) in rows {
-        same(
-            "debug",
-            value,
-            &format!(in alloc; "{value:?}")?.as_str(),
-            short,
-        )?;
-        same(
-            "debug over lines",
-            value,
-            &format!(in alloc; "{value:#?}")?.as_str(),
-            long,
-        )?;
-    }
-    Ok(())
-}
-
-/// The debug text is the variant with what it holds.
-#[test]
-fn debug_text_is_the_variant_with_its_values(rt: HostRuntime) -> Result<(), Fail> {
-    check_debug(rt.alloc(), &DEBUG_OF_EITHER_OR_BOTH)?;
-    check_debug(rt.alloc(), &DEBUG_OF_EITHER)?;
-    Ok(())
 }
 
 // How a text ends in a writer with so much room: where it finds room the print succeeds, and else it gives the writer's error.

@@ -8,7 +8,6 @@ use either_or_both::iter::ChainedIterEitherOrBoth;
 use either_or_both::join::outer_join_lazily;
 use either_or_both::{Either, EitherOrBoth};
 use sides::{Counting, ENDLESS, Hinted};
-use std::alloc::AllocError;
 use std::iter::FusedIterator;
 use std::test::Fail;
 use testkit::counts::Asked;
@@ -340,34 +339,6 @@ fn left_is_asked_before_right(rt: HostRuntime) {
     assert_eq!(rt; asked.order(), 11212, "left alone; then left, right: twice");
 }
 
-/// What a begun paired walk still gives is what its clone gives, and taking from the clone leaves the walk as it was.
-#[test]
-fn clone_gives_what_a_begun_paired_walk_still_gives(rt: HostRuntime) -> Result<(), AllocError> {
-    let pair: EitherOrBoth<[u8; 2], [char; 3]> = Both([1, 2], ['c', 'm', 'x']);
-    let mut walk = pair.iter_swap();
-    assert_eq!(rt; walk.next(), Some(Both(&1, &'c')));
-    let mut copy = walk.clone()?;
-    let came = [copy.next(), copy.next(), copy.next()];
-    assert_eq!(rt; came, [Some(Both(&2, &'m')), Some(Right(&'x')), None]);
-    let came = [walk.next(), walk.next(), walk.next()];
-    assert_eq!(rt; came, [Some(Both(&2, &'m')), Some(Right(&'x')), None]);
-    Ok(())
-}
-
-/// The same of a begun chain, which is then taken from both ends.
-#[test]
-fn clone_gives_what_a_begun_chain_still_gives(rt: HostRuntime) -> Result<(), AllocError> {
-    let pair: EitherOrBoth<[u8; 2]> = Both([1, 2], [3, 4]);
-    let mut walk = pair.iter_chain();
-    assert_eq!(rt; walk.next(), Some(&1));
-    let mut copy = walk.clone()?;
-    let came = [copy.next(), copy.next(), copy.next(), copy.next()];
-    assert_eq!(rt; came, [Some(&2), Some(&3), Some(&4), None]);
-    let came = [walk.next_back(), walk.next(), walk.next(), walk.next()];
-    assert_eq!(rt; came, [Some(&4), Some(&2), Some(&3), None]);
-    Ok(())
-}
-
 /// A default chain is the walk over a lone left side, the default of the inner iterator.
 #[test]
 fn default_chain_is_a_lone_default_side(rt: HostRuntime) {
@@ -376,47 +347,4 @@ fn default_chain_is_a_lone_default_side(rt: HostRuntime) {
     let mut two = ChainedIterEitherOrBoth::<Hinted>::default();
     let came = (two.size_hint(), [two.next(), two.next(), two.next()]);
     assert_eq!(rt; came, ((2, Some(2)), [Some(0), Some(0), None]));
-}
-
-/// What is written through the items of the paired walk is what the value holds afterwards.
-#[test]
-fn items_side_by_side_are_written(rt: HostRuntime) {
-    let rows: [(
-        EitherOrBoth<[u8; 3], [u16; 2]>,
-        EitherOrBoth<[u8; 3], [u16; 2]>,
-    ); 3] = [
-        (Both([1, 2, 3], [4, 5]), Both([11, 12, 13], [104, 105])),
-        (Left([1, 2, 3]), Left([11, 12, 13])),
-        (Right([4, 5]), Right([104, 105])),
-    ];
-    for (value, want) in rows {
-        let mut pair = value;
-        for item in pair.iter_swap_mut() {
-            let (left, right) = item.unzip();
-            if let Some(l) = left {
-                *l = l.saturating_add(10);
-            }
-            if let Some(r) = right {
-                *r = r.saturating_add(100);
-            }
-        }
-        assert_eq!(rt; pair, want, "{value:?}");
-    }
-}
-
-/// What is written through the items of the chain is what the value holds afterwards.
-#[test]
-fn items_in_turn_are_written(rt: HostRuntime) {
-    let rows: [(EitherOrBoth<[u8; 2]>, EitherOrBoth<[u8; 2]>); 3] = [
-        (Both([1, 2], [3, 4]), Both([11, 12], [13, 14])),
-        (Left([1, 2]), Left([11, 12])),
-        (Right([3, 4]), Right([13, 14])),
-    ];
-    for (value, want) in rows {
-        let mut pair = value;
-        for item in pair.iter_chain_mut() {
-            *item = item.saturating_add(10);
-        }
-        assert_eq!(rt; pair, want, "{value:?}");
-    }
 }

@@ -11,19 +11,11 @@ use std::test::Fail;
 
 /// Values, and what they are collected into: lists, sets in the order of insertion, and sets in the order of their values.
 #[rattlefmt::skip]
-static VALUES: [(&[Either<u8, char>], &str, &str, &str); 5] = [
+static VALUES: [(&[Either<u8, char>], &str, &str, &str); 1] = [
     // values
         // lists                  by insertion         by order
-    (&[],
-        "Both([], [])",           "Both({}, {})",      "Both({}, {})"),
-    (&[Left(1), Right('c')],
-        "Both([1], ['c'])",       "Both({1}, {'c'})",  "Both({1}, {'c'})"),
-    (&[Right('c'), Left(2)],
-        "Both([2], ['c'])",       "Both({2}, {'c'})",  "Both({2}, {'c'})"),
     (&[Left(3), Left(1), Left(3)],
         "Left([3, 1, 3])",        "Left({3, 1})",      "Left({1, 3})"),
-    (&[Right('m'), Right('c'), Right('m')],
-        "Right(['m', 'c', 'm'])", "Right({'m', 'c'})", "Right({'c', 'm'})"),
 ];
 
 /// Vectors and queues hold what came in order, and sets hold it once, in the order of first places or in that of the values.
@@ -42,19 +34,11 @@ fn lists_and_sets_hold_what_came(rt: HostRuntime) -> Result<(), Fail> {
 
 /// Entries, and the maps that they are collected into: in the order of insertion, and in the order of their keys.
 #[rattlefmt::skip]
-static ENTRIES: [(&[Either<(u8, u8), (u8, char)>], &str, &str); 5] = [
+static ENTRIES: [(&[Either<(u8, u8), (u8, char)>], &str, &str); 1] = [
     // entries
         // by insertion            by keys
-    (&[],
-        "Both({}, {})",            "Both({}, {})"),
-    (&[Left((1, 7)), Right((2, 'c'))],
-        "Both({1: 7}, {2: 'c'})",  "Both({1: 7}, {2: 'c'})"),
-    (&[Left((1, 7)), Left((1, 8))],
-        "Left({1: 8})",            "Left({1: 8})"),
     (&[Left((2, 7)), Left((1, 8)), Left((2, 9))],
         "Left({2: 9, 1: 8})",      "Left({1: 8, 2: 9})"),
-    (&[Right((2, 'x')), Right((1, 'y')), Right((2, 'z'))],
-        "Right({2: 'z', 1: 'y'})", "Right({1: 'y', 2: 'z'})"),
 ];
 
 /// A key has the value of its last place, in the order of first places or in that of the keys.

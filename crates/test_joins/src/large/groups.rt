@@ -7,6 +7,7 @@ use eob_joins::{
     is_ordered,
 };
 use std::alloc::{AllocError, Global};
+use std::process::Abort;
 use std::test::Fail;
 
 type Table = Vec<(u32, u32)>;
@@ -76,18 +77,33 @@ fn rows_of_both(
     Ok(rows)
 }
 
+// The group join of tables with so many keys, whose rows come in turn.
+fn joined_unordered(
+    alloc: Global,
+    spread: (u32, u32),
+) -> Result<Vec<GroupRow<u32, u32, u32>>, AllocError> {
+    group_join_unordered(alloc, in_turn(alloc, spread.0)?, in_turn(alloc, spread.1)?)
+}
+
+// The same of tables in order.
+fn joined(
+    rt: &impl Abort,
+    alloc: Global,
+    spread: (u32, u32),
+) -> Result<Vec<GroupRow<u32, u32, u32>>, AllocError> {
+    let left = ordered(alloc, spread.0)?;
+    let right = ordered(alloc, spread.1)?;
+    assert!(rt; is_ordered(&left) && is_ordered(&right));
+    group_join(alloc, left, right)
+}
+
 /// A group join has each key of either table with all its rows, of tables in order and of others.
 #[test]
 fn group_joins_have_every_row(rt: HostRuntime) -> Result<(), Fail> {
     let alloc = rt.alloc();
-    for (lefts, rights) in SPREADS {
-        let want = rows_of_both(alloc, (lefts, rights))?;
-        let rows = group_join_unordered(alloc, in_turn(alloc, lefts)?, in_turn(alloc, rights)?)?;
-        assert!(rt; rows == want);
-        let left = ordered(alloc, lefts)?;
-        let right = ordered(alloc, rights)?;
-        assert!(rt; is_ordered(&left) && is_ordered(&right));
-        assert!(rt; group_join(alloc, left, right)? == want);
+    for spread in SPREADS {
+        assert!(rt; joined_unordered(alloc, spread)? == rows_of_both(alloc, spread)?);
+        assert!(rt; joined(&rt, alloc, spread)? == rows_of_both(alloc, spread)?);
     }
     Ok(())
 }
@@ -109,39 +125,72 @@ fn groups_have_every_row(rt: HostRuntime) -> Result<(), Fail> {
 }
 
 // Whether a part of a slice has these rows.
-fn is_part(part: Option<&[(u32, u32)]>, rows: Option<&[u32]>) -> bool {
-    match (part, rows) {
-        (Some(part), Some(rows)) => {
-            part.len() == rows.len() && part.iter().zip(rows).all(|(pair, row)| pair.1 == *row)
+fn is_part(part: &[(u32, u32)], rows: &[u32]) -> bool {
+    part.len() == rows.len() && part.iter().zip(rows).all(|(pair, row)| pair.1 == *row)
+}
+
+// Whether a hint has room for so many parts, and says of some that there is one at least.
+fn has_room(hint: (usize, Option<usize>), parts: u32) -> bool {
+    hint.0 == (parts as usize).min(1) && hint.1 >= Some(parts as usize)
+}
+
+/// The parts of a slice have each key once, with all its rows, and a hint that has room for them.
+#[test]
+fn parts_have_every_row(rt: HostRuntime) -> Result<(), Fail> {
+    let alloc = rt.alloc();
+    for (keys, _) in SPREADS {
+        let list = ordered(alloc, keys)?;
+        assert!(rt; is_ordered(&list));
+        let mut parts = groups_of(&list);
+        for key in 0..keys {
+            assert!(rt; has_room(parts.size_hint(), keys - key));
+            let rows = rows_of(alloc, keys, key)?;
+            assert!(rt;
+                parts
+                    .next()
+                    .is_some_and(|(found, part)| *found == key && is_part(part, &rows))
+            );
         }
-        (None, None) => true,
-        _ => false,
+        assert!(rt; parts.size_hint() == (0, Some(0)) && parts.next().is_none());
+    }
+    Ok(())
+}
+
+type Part<'a> = &'a [(u32, u32)];
+
+// Whether a row of parts has what is wanted.
+fn is_row(
+    row: Option<(&u32, EitherOrBoth<Part<'_>, Part<'_>>)>,
+    want: &GroupRow<u32, u32, u32>,
+) -> bool {
+    match row {
+        Some((key, EitherOrBoth::Left(a))) => {
+            *key == want.0 && matches!(&want.1, EitherOrBoth::Left(x) if is_part(a, x))
+        }
+        Some((key, EitherOrBoth::Both(a, b))) => {
+            *key == want.0
+                && matches!(&want.1, EitherOrBoth::Both(x, y) if is_part(a, x) && is_part(b, y))
+        }
+        Some((key, EitherOrBoth::Right(b))) => {
+            *key == want.0 && matches!(&want.1, EitherOrBoth::Right(y) if is_part(b, y))
+        }
+        None => false,
     }
 }
 
-/// The parts of two slices, and of one, have each key once, with all its rows.
+/// The parts of two slices, joined, have each key once, with all its rows.
 #[test]
-fn parts_of_slices_have_every_row(rt: HostRuntime) -> Result<(), Fail> {
+fn parts_of_two_slices_have_every_row(rt: HostRuntime) -> Result<(), Fail> {
     let alloc = rt.alloc();
     for (lefts, rights) in SPREADS {
         let left = ordered(alloc, lefts)?;
         let right = ordered(alloc, rights)?;
         assert!(rt; is_ordered(&left) && is_ordered(&right));
         let mut rows = group_join_slices(&left, &right);
-        let mut groups = groups_of(&left);
-        for (key, cells) in rows_of_both(alloc, (lefts, rights))? {
-            let (a, b) = cells.unzip();
-            let Some((found, parts)) = rows.next() else {
-                return Err("a row is missing")?;
-            };
-            let (x, y) = parts.unzip();
-            assert!(rt; *found == key && is_part(x, a.as_deref()) && is_part(y, b.as_deref()));
-            if a.is_some() {
-                let group = groups.next().map(|group| group.1);
-                assert!(rt; is_part(group, a.as_deref()));
-            }
+        for want in &rows_of_both(alloc, (lefts, rights))? {
+            assert!(rt; is_row(rows.next(), want));
         }
-        assert!(rt; rows.next().is_none() && groups.next().is_none());
+        assert!(rt; rows.next().is_none());
     }
     Ok(())
 }

@@ -4,4 +4,4 @@ use Rattle.keyed_files.proofs.source.begin_rows.Goals as goal
 pub returns : goal.returns
 returns g c =
     begun-rows g.R.Read.remaining c.args.form _ _ _ c.in_ok-file.ensures
-    (rw (c.new-lines.ensures, c.marks_of-marks.ensures.delimiter, c.marks_of-marks.ensures.comment) at c.new-rows.ensures)
+    (rw (c.in_ok-lines.ensures, c.marks_of-marks.ensures.delimiter, c.marks_of-marks.ensures.comment) at c.new-rows.ensures)

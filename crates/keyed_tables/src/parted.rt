@@ -1,0 +1,100 @@
+//! Three versions of a table merged, with the rows in conflict apart from those that are merged.
+ghost use Rattle.std.specs.Prelude.{◌≡◌, IfOk};
+ghost use Rattle.eob_joins.specs.Settled.{BecameUnless, IsMergeWith, KeptAs, stuck};
+ghost use Rattle.eob_joins.specs.Tables.{kept};
+ghost use Rattle.eob_joins.specs.Versions.{IsMergeByKey};
+ghost use Rattle.keyed_tables.specs.Parted.{merged_of};
+ghost use Rattle.keyed_tables.specs.RowsByCell.{GivesRow, can_by_row};
+
+use crate::by_cell::RowByCell;
+use crate::marked::{Marked, NoRule, marked_row};
+use crate::table::Rows;
+use eob_joins::{Settle, Versions, join_versions};
+use keyed_rows::{Group, Key};
+use std::alloc::{AllocError, Global};
+
+/// What a merge makes of three versions of a table: the rows that are merged, and those in conflict, each in the order of their keys.
+#[derive(Debug, Drop)]
+pub struct Parted<K, V> {
+    pub settled: Vec<(K, V)>,
+    pub stuck: Vec<(K, Versions<V>)>,
+}
+
+/// The merged rows, which have whatever one side alone changed as that side has it; and the rows that both sides changed, to rows that are
+/// not the same.
+///
+/// # Errors
+///
+/// Returns `AllocError` if a request for memory was refused.
+pub fn parted_merge_of<K: Ord + Drop, V: Eq + Drop>(
+    alloc: Global,
+    base: Rows<K, V>,
+    ours: Rows<K, V>,
+    theirs: Rows<K, V>,
+) -> Result<Parted<K, V>, AllocError>
+    ensures { IfOk result (λ parted. IsMergeByKey K.cmp V.eq
+        base.pairs.items ours.pairs.items theirs.pairs.items (merged_of parted)) }
+{
+    let parted = parted_merge(alloc, base, ours, theirs, &NoRule)?;
+    Ok(parted)
+}
+
+/// The same, in which a key that has one row in each version is merged cell by cell: each cell is that of a row of its own. Of such keys those
+/// are in conflict of which both sides changed one cell, and not alike.
+///
+/// # Errors
+///
+/// Returns `AllocError` if a request for memory was refused.
+pub fn parted_merge_by_cell_of(
+    alloc: Global,
+    base: Rows<Key, Group>,
+    ours: Rows<Key, Group>,
+    theirs: Rows<Key, Group>,
+) -> Result<Parted<Key, Group>, AllocError>
+    ensures { IfOk result (λ parted. IsMergeWith ⟦<Key as Ord>⟧.cmp ⟦<Group as PartialEq>⟧.eq
+        can_by_row GivesRow
+        base.pairs.items ours.pairs.items theirs.pairs.items (merged_of parted)) }
+{
+    let rule = RowByCell::new(alloc);
+    let parted = parted_merge(alloc, base, ours, theirs, &rule)?;
+    Ok(parted)
+}
+
+// The merged rows, and those that the rule does not settle.
+fn parted_merge<K: Ord + Drop, V: Eq + Drop, S: Settle<V>>(
+    alloc: Global,
+    base: Rows<K, V>,
+    ours: Rows<K, V>,
+    theirs: Rows<K, V>,
+    rule: &S,
+) -> Result<Parted<K, V>, AllocError>
+    ensures { IfOk result (λ parted. IsMergeWith K.cmp V.eq (S.can rule.now) (S.gives rule.now)
+        base.pairs.items ours.pairs.items theirs.pairs.items (merged_of parted)) }
+{
+    let all = join_versions(alloc, base.pairs, ours.pairs, theirs.pairs)?;
+    let parted = parted_rows(alloc, all, rule)?;
+    Ok(parted)
+}
+
+// What becomes of the rows of a join, in their order.
+fn parted_rows<K: Drop, V: Eq + Drop, S: Settle<V>>(
+    alloc: Global,
+    all: Vec<(K, Versions<V>)>,
+    rule: &S,
+) -> Result<Parted<K, V>, AllocError>
+    ensures settled { IfOk result (λ parted. KeptAs (BecameUnless V.eq (S.can rule.now) (S.gives rule.now))
+        all.items parted.settled.items) }
+    ensures stuck { IfOk result
+        (λ parted. parted.stuck.items ≡ kept (stuck V.eq (S.can rule.now)) all.items) }
+{
+    let mut settled = Vec::new(alloc);
+    let mut stuck = Vec::new(alloc);
+    for (key, versions) in all {
+        match marked_row(versions, rule)? {
+            Some(Marked::Settled(value)) => settled.push((key, value))?,
+            Some(Marked::Stuck(versions)) => stuck.push((key, versions))?,
+            None => {}
+        }
+    }
+    Ok(Parted { settled, stuck })
+}
