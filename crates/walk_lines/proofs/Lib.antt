@@ -5,3 +5,4 @@ mod EndLemmas
 mod TableLemmas
 mod SpacedLemmas
 mod AnswerLemmas
+mod DrivenLemmas

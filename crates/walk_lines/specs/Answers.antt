@@ -1,10 +1,14 @@
 -- What the answer to a line says, before it is written.
-use Rattle.std.specs.Prelude.{ℕ, List, [], ◌∷◌, ◌++◌, ◌≡◌, ◌≢◌, ◌↔◌, Bool, true, false, IsTrue, map, codes, Vec, Option, MatchOption, All, ⊤}
+use Rattle.std.specs.Prelude.{ℕ, List, [], ◌∷◌, ◌++◌, ◌≡◌, ◌≢◌, ◌↔◌, ◌==◌, if◌then◌else◌, Bool, true, false, IsTrue, map, codes, Vec, Option, MatchOption, All}
 use Rattle.std.specs.Borrow.{Bor}
 use Rattle.std.specs.Map.Iter.{deref_pair}
 use Rattle.eob_both.specs.declared.either_or_both.EitherOrBoth.{EitherOrBoth}
+use Rattle.eob_both.specs.declared.either_or_both.EitherOrBoth.TheVariants.{Left, Both, Right}
 use Rattle.eob_both.specs.Places.{map_places}
+use Rattle.eob_both.specs.Aligned.{aligned}
 use Rattle.eob_both.specs.Sides.{collected}
+use Rattle.eob_lists.specs.declared.drive.End.{End}
+use Rattle.eob_lists.specs.declared.drive.End.TheVariants.{Front, Back}
 use Rattle.eob_lists.specs.Join.{IsJoin}
 use Rattle.eob_lists.specs.Normal.{IsNormal, regrouped}
 use Rattle.line_words.specs.Words.{words}
@@ -13,7 +17,7 @@ use Rattle.walk_lines.specs.declared.line.Name.TheVariants as name
 use Rattle.walk_lines.specs.declared.line.Answer.{Answer}
 use Rattle.walk_lines.specs.declared.line.Answer.TheVariants as answer
 use Rattle.walk_lines.specs.Commands.{Named, Entry, Command, Collect, Walk, Normal, Ends, Join, item_text, entry_text, end_letter, bytes_cmp, HasNames, HasEntryNames, IsWellFormed, Says}
-use Rattle.walk_lines.specs.Texts.{Row, items_text, rows_text, sides_text, yes_or_no}
+use Rattle.walk_lines.specs.Texts.{Row, driven_text, items_text, rows_text, sides_text, yes_or_no}
 
 -- the word that names a command
 abbrev pub name_text : Name → List ℕ
@@ -83,6 +87,16 @@ shown_words v = map (λ w. w.now) v.items
 abbrev pub shown_sides : {M : Type 0} → EitherOrBoth (Vec (Bor (List ℕ)) M) (Vec (Bor (List ℕ)) M) → EitherOrBoth (List (List ℕ)) (List (List ℕ))
 shown_sides sides = map_places shown_words shown_words sides
 
+-- the end that a letter calls
+abbrev pub end_of : ℕ → End
+end_of letter = if letter == 102 then Front else Back
+
+-- two sides, aligned
+abbrev pub side_by_side : {A B : Type 0} → EitherOrBoth (List A) (List B) → List (EitherOrBoth A B)
+side_by_side (Left ps) = aligned ps []
+side_by_side (Both ps qs) = aligned ps qs
+side_by_side (Right qs) = aligned [] qs
+
 -- this is what a command gives
 abbrev pub Gives : {M : Type 0} → Command → Answer M → Type 0
 Gives (Collect items) (answer.Collect sides) = shown_sides sides ≡ collected items
@@ -126,7 +140,7 @@ abbrev pub HasText : {M : Type 0} → Answer M → List ℕ → Type 0
 HasText (answer.Collect sides) text = text ≡ sides_text (shown_sides sides)
 HasText (answer.Walk made) text = text ≡ items_text (map shown made.items)
 HasText (answer.Normal is) text = text ≡ yes_or_no is
-HasText (answer.Ends sides calls) text = ⊤
+HasText (answer.Ends sides calls) text = text ≡ driven_text (side_by_side (shown_sides sides)) (map end_of calls.letters.now)
 HasText (answer.Join joined) text = text ≡ rows_text (map shown_row joined.items)
 
 -- P of the text of an answer
@@ -134,5 +148,5 @@ abbrev pub ForText : {M : Type 0} → Answer M → (List ℕ → Type 0) → Typ
 ForText (answer.Collect sides) P = P (sides_text (shown_sides sides))
 ForText (answer.Walk made) P = P (items_text (map shown made.items))
 ForText (answer.Normal is) P = P (yes_or_no is)
-ForText (answer.Ends sides calls) P = ⊤
+ForText (answer.Ends sides calls) P = P (driven_text (side_by_side (shown_sides sides)) (map end_of calls.letters.now))
 ForText (answer.Join joined) P = P (rows_text (map shown_row joined.items))

@@ -1,10 +1,11 @@
 -- What a command is answered.
-use Rattle.std.specs.Prelude.{ℕ, List, [], ◌∷◌, ◌++◌, ◌≡◌, ◌⊎◌, ⊤, map, codes, Bool, true, false, Option, Some, None}
+use Rattle.std.specs.Prelude.{ℕ, List, [], ◌∷◌, ◌++◌, ◌≡◌, ◌⊎◌, map, codes, Bool, true, false, Option, Some, None}
 use Rattle.std.specs.List.{flat_map, join_with_byte}
 use Rattle.std.specs.Fmt.{decimal}
 use Rattle.eob_both.specs.declared.either_or_both.EitherOrBoth.{EitherOrBoth}
 use Rattle.eob_both.specs.declared.either_or_both.EitherOrBoth.TheVariants.{Left, Both, Right}
 use Rattle.eob_both.specs.Sides.{collected}
+use Rattle.eob_lists.specs.declared.drive.End.{End}
 use Rattle.eob_lists.specs.Answers.{answers, left_over}
 use Rattle.eob_lists.specs.Join.{IsJoin}
 use Rattle.eob_lists.specs.Normal.{IsNormal, regrouped}
@@ -38,6 +39,10 @@ given_text (Some item) = item_text item
 abbrev pub ends_text : List (Option Named) → ℕ → List ℕ
 ends_text given left = flat_map (λ g. given_text g ++ codes " ") given ++ (codes "left " ++ decimal left)
 
+-- what calls of the ends of items give, and how many items they leave
+abbrev pub driven_text : List Named → List End → List ℕ
+driven_text items calls = ends_text (answers items calls) (left_over items calls)
+
 -- a key with what the two tables have under it
 abbrev pub Row : Type 0
 Row = List ℕ × Named
@@ -59,7 +64,7 @@ abbrev pub IsAnswer : Command → List ℕ → Type 0
 IsAnswer (Collect items) text = text ≡ sides_text (collected items)
 IsAnswer (Walk items) text = text ≡ items_text (regrouped items)
 IsAnswer (Normal items) text = (IsNormal items × (text ≡ codes "yes")) ⊎ ((¬ IsNormal items) × (text ≡ codes "no"))
-IsAnswer (Ends ends items) text = ⊤
+IsAnswer (Ends ends items) text = text ≡ driven_text (regrouped items) ends
 IsAnswer (Join p q) text = (rows : List Row) × IsJoin bytes_cmp p q rows × (text ≡ rows_text rows)
 
 -- the answer to a bad line with this number

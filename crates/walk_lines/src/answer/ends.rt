@@ -1,19 +1,17 @@
 //! The answer to an `ends` line.
-//!
-//! The walk is driven some calls at a time, since its answers take many times the memory of the letters that call for them.
-ghost use Rattle.std.specs.Prelude.{◌≤◌, length};
+ghost use Rattle.std.specs.Prelude.{◌≡◌, ◌++◌, OnOk, codes, map};
+ghost use Rattle.std.specs.Option.{option_map};
+ghost use Rattle.eob_lists.specs.Answers.{MatchEnd};
 ghost use Rattle.line_words.specs.Growth.{Extends};
+ghost use Rattle.walk_lines.specs.Answers.{end_of, shown, shown_sides, side_by_side};
+ghost use Rattle.walk_lines.specs.Texts.{driven_text, given_text};
 
 use super::items::append_item;
 use crate::line::{Calls, Item, Sides};
-use eob_lists::laws::{End, drive_walk};
-use line_words::{append_number, append_parts};
+use line_words::{append_number, append_part};
 use std::alloc::{AllocError, Allocator};
 
-// The calls that are answered at a time.
-const CALLS_AT_A_TIME: usize = 64;
-
-/// Appends what the paired walk over two sides answers to calls of its ends, and how many items it has left.
+/// Appends what the paired walk over two sides gives to calls of its ends, and how many items it has left.
 ///
 /// # Errors
 ///
@@ -25,47 +23,50 @@ pub fn append_ends<'a, A: Allocator + Copy>(
     sides: Sides<'a, A>,
     calls: Calls<'a>,
 ) -> Result<(), AllocError>
-    ensures { Extends output.old.items output.new.items }
+    ensures grown { Extends output.old.items output.new.items }
+    ensures text { OnOk result (output.new.items ≡ output.old.items
+        ++ driven_text (side_by_side (shown_sides sides.entry)) (map end_of calls.entry.letters.now)) }
 {
     let mut walk = sides.into_iter_swap();
-    let mut ends = [End::Front; CALLS_AT_A_TIME];
-    for letters in calls.letters().chunks(CALLS_AT_A_TIME) {
-        let count = put_ends(&mut ends, letters);
-        let answers = drive_walk(alloc, &mut walk, &ends[..count])?;
-        append_answers(output, &answers)?;
+    let letters = calls.letters();
+    for letter in letters {
+        let given = call_end(&mut walk, *letter);
+        append_given(output, &given)?;
     }
-    append_parts(output, &[b"left "])?;
-    append_number(alloc, output, walk.len())
-}
-
-// Puts the end that each letter calls, as far as there is room for them, and returns how many these are.
-fn put_ends(ends: &mut [End], letters: &[u8]) -> usize
-    ensures { result ≤ length ends.old }
-{
-    let count = letters.len().min(ends.len());
-    for (end, letter) in ends.iter_mut().zip(letters) {
-        *end = match letter {
-            b'f' => End::Front,
-            _ => End::Back,
-        };
-    }
-    count
-}
-
-// Appends each answer of a walk with a space after it, `.` where it had none.
-#[tactic(auto, using(line_words::proofs::GrowthLemmas::extends_trans))]
-fn append_answers<A: Allocator>(
-    output: &mut Vec<u8, A>,
-    answers: &[Option<Item>],
-) -> Result<(), AllocError>
-    ensures { Extends output.old.items output.new.items }
-{
-    for answer in answers {
-        match answer {
-            Some(item) => append_item(output, b"", item)?,
-            None => append_parts(output, &[b"."])?,
-        }
-        append_parts(output, &[b" "])?;
-    }
+    append_part(output, b"left ")?;
+    append_number(alloc, output, walk.len())?;
     Ok(())
+}
+
+// What an iterator gives at the end that a letter calls: `f` the front, another one the back.
+#[inline(always)]
+fn call_end<I: DoubleEndedIterator>(walk: &mut I, letter: u8) -> Option<I::Item>
+    requires front { I.can_next walk.old }
+    requires back { I.can_next_back walk.old }
+    ensures { MatchEnd (end_of letter) (I.next_gives walk.old result walk.new)
+        (I.next_back_gives walk.old result walk.new) }
+{
+    if letter == b'f' {
+        walk.next()
+    } else {
+        walk.next_back()
+    }
+}
+
+// Appends what a call gave, `.` for nothing, with a space after it.
+#[inline(always)]
+#[tactic(auto, using(line_words::proofs::GrowthLemmas::extends_trans))]
+fn append_given<A: Allocator>(
+    output: &mut Vec<u8, A>,
+    given: &Option<Item>,
+) -> Result<(), AllocError>
+    ensures grown { Extends output.old.items output.new.items }
+    ensures text { OnOk result (output.new.items
+        ≡ output.old.items ++ (given_text (option_map shown given.now) ++ codes " ")) }
+{
+    match given {
+        Some(item) => append_item(output, b"", item)?,
+        None => append_part(output, b".")?,
+    }
+    append_part(output, b" ")
 }

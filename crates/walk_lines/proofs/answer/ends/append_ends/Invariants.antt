@@ -1,10 +1,18 @@
-use Rattle.eob_lists.specs.Answers.{Listed}
-use Rattle.eob_lists.specs.Ends.{CountedToCome}
-use Rattle.eob_lists.specs.Swap.{swap_ends}
+use Rattle.std.proofs.Common.{ℕ, ◌≡◌, List, ◌++◌, Option, map}
+use Rattle.std.specs.List.{flat_map}
+use Rattle.eob_both.specs.Ends.{IsExactly}
+use Rattle.eob_both.specs.Swap.{swap_ends}
+use Rattle.eob_lists.proofs.DriveLemmas.{Kept}
 use Rattle.eob_lists.proofs.StdEnds.{vec_ends}
 use Rattle.line_words.specs.Growth.{Extends}
+use Rattle.walk_lines.specs.Answers.{RefItem, end_of}
+use Rattle.walk_lines.proofs.DrivenLemmas.{as_it_is, given_part, items_of_sides}
 use Rattle.walk_lines.proofs.answer.ends.append_ends.Given as goal
 
--- what was there stays, and the walk has some list still to come
-abbrev pub invariant-loop-letters : goal.invariant-loop-letters
-invariant-loop-letters g l = Extends l.fn.output.items l.output.items × ((list : Listed _) × CountedToCome (swap_ends vec_ends vec_ends) list.view list.items l.walk)
+-- what the calls so far gave is written, and the walk has the items still to come that give what the other calls are to give
+abbrev pub invariant-loop-letter : goal.invariant-loop-letter
+invariant-loop-letter g l = record {
+  grown : Extends l.fn.output.items l.output.items;
+  driven : (given : List (Option RefItem)) × Kept IsExactly (swap_ends vec_ends vec_ends) as_it_is (items_of_sides l.fn.sides) (map end_of l.letters) l.walk given l.letter-index
+      × (l.output.items ≡ l.fn.output.items ++ flat_map given_part given);
+}
