@@ -1,13 +1,17 @@
 -- What has been taken of a text, line by line.
-use Rattle.std.proofs.Common.{ℕ, ◌≡◌, ◌≢◌, ◌<◌, ◌≤◌, ◌+◌, ◌-◌, ◌^◌, ◌==◌, min, List, [], ◌∷◌, ◌++◌, Bool, true, false, length, refl, sym, ap, ◌∙◌, subst, append-nil, append_assoc, arith, length-append}
-use Rattle.std.specs.Prelude.{All, ◌||◌, Option, Some, None, MatchOption}
-use Rattle.std.specs.List.{slice_split, flat_map}
+use Rattle.std.proofs.Common.{ℕ, ◌≡◌, ◌≢◌, ◌≤◌, ◌+◌, ◌-◌, ◌^◌, ◌==◌, min, List, [], ◌∷◌, ◌++◌, Bool, true, false, length, refl, sym, ap, ◌∙◌, subst, append-nil, append_assoc, arith, length-append}
+use Rattle.std.specs.Prelude.{All, ◌||◌, Option, Some, None, IfSome, MatchOption, Result, Ok, Err, IfErr}
+use Rattle.std.specs.List.{slice_split}
 use Rattle.std.proofs.lemmas.List.Concat.{flat_map-append}
-use Rattle.std.proofs.lemmas.List.Splits.{slice_split_none, slice_split_at}
-use Rattle.std.proofs.lemmas.List.Elements.{All-nil, All-cons, All-weaker, All-head, All-tail, All-append, All-push}
+use Rattle.std.specs.Io.KnownBytes.{Appends, Consumes}
+use Rattle.std.proofs.lemmas.List.Splits.{length-slice_split, slice_split_none, slice_split_at}
+use Rattle.std.proofs.lemmas.List.Elements.{All-nil, All-weaker, All-head, All-tail, All-append, All-push}
 use Rattle.line_runs.specs.Lines.{lines, last_line, without_empty_last}
 use Rattle.line_runs.specs.Texts.{Answering, AnswersLines, number_after}
-use Rattle.line_runs.specs.Session.{ended, HasNoEnd, HasTaken}
+use Rattle.std.proofs.KnownBytes.{Appends-trans}
+use Rattle.line_runs.specs.declared.session.Stop.{Stop}
+use Rattle.line_runs.specs.declared.session.Stop.TheVariants.{NoMemory}
+use Rattle.line_runs.specs.Session.{AnswersAhead, AnswersBeginning, AnswersFirst, AnswersFirstLines, ended, HasNoEnd, HasTaken, Stopped}
 
 abbrev is_end : ℕ → Bool
 is_end b = b == 10
@@ -37,6 +41,24 @@ no_empty_last (l ∷ m ∷ whole) last = ap (λ z. l ∷ z) (no_empty_last (m �
 pub lines_of : (whole : List (List ℕ)) (last : List ℕ) → All HasNoEnd whole → HasNoEnd last → lines (ended whole ++ last) ≡ whole ++ last_line last
 unfolding lines
 lines_of whole last w h = ap without_empty_last (pieces whole last w h) ∙ no_empty_last whole last
+
+pieces_ahead : (whole : List (List ℕ)) (rest : List ℕ) → All HasNoEnd whole → slice_split is_end (ended whole ++ rest) ≡ whole ++ slice_split is_end rest
+pieces_ahead [] rest w = refl
+pieces_ahead (l ∷ whole) rest w =
+    ap (slice_split is_end) (append_assoc (l ++ 10 ∷ []) (ended whole) rest ∙ append_assoc l (10 ∷ []) (ended whole ++ rest))
+    ∙ slice_split_at is_end l 10 (ended whole ++ rest) (endless l (All-head HasNoEnd l whole w)) refl
+    ∙ ap (λ z. l ∷ z) (pieces_ahead whole rest (All-tail HasNoEnd l whole w))
+
+last_ahead : (whole ls : List (List ℕ)) → 1 ≤ length ls → without_empty_last (whole ++ ls) ≡ whole ++ without_empty_last ls
+last_ahead [] ls h = refl
+last_ahead (l ∷ whole) [] h = absurd (omega arith)
+last_ahead (l ∷ []) (m ∷ ls) h = refl
+last_ahead (l ∷ k ∷ whole) (m ∷ ls) h = ap (λ z. l ∷ z) (last_ahead (k ∷ whole) (m ∷ ls) h)
+
+-- whole lines stand before those of the rest
+lines_ahead : (whole : List (List ℕ)) (rest : List ℕ) → All HasNoEnd whole → lines (ended whole ++ rest) ≡ whole ++ lines rest
+unfolding lines
+lines_ahead whole rest w = ap without_empty_last (pieces_ahead whole rest w) ∙ last_ahead whole (slice_split is_end rest) (omega (arith, length-slice_split is_end rest))
 
 or_false : (a : Bool) → (a || false) ≡ a
 or_false true = refl
@@ -164,3 +186,85 @@ no_bytes (x ∷ xs) e = absurd (omega arith)
 pub no_line : {B : Type 0} (bytes : List ℕ) (Q : B → Type 0) (r : Option B) → MatchOption r (HasNoEnd bytes) Q → ((x : B) → r ≡ Some x → ⊥) → HasNoEnd bytes
 no_line bytes Q None h n = h
 no_line bytes Q (Some x) h n = absurd (n x refl)
+
+-- the lines taken are the first ones of each text that begins with these bytes
+pub taken_ahead : (A : Answering) → (given written unfinished unwritten : List ℕ) (n : ℕ) (bad : Bool) → HasTaken A given written unfinished unwritten n bad
+    → (rest : List ℕ) → AnswersAhead A (given ++ rest) written unwritten
+taken_ahead A given written unfinished unwritten n bad t rest later = record {
+  first = t.whole;
+  others = lines (unfinished ++ (rest ++ later));
+  any_bad = bad;
+  split =
+      ap lines (append_assoc given rest later ∙ ap (λ l. l ++ (rest ++ later)) t.split ∙ append_assoc (ended t.whole) unfinished (rest ++ later))
+      ∙ lines_ahead t.whole (unfinished ++ (rest ++ later)) t.ends;
+  answered = t.answered;
+}
+
+-- the same of equal bytes
+pub ahead_of : (A : Answering) → (given same written unwritten equal : List ℕ) → same ≡ given → equal ≡ unwritten → AnswersAhead A given written unwritten → AnswersAhead A same written equal
+ahead_of A given same written unwritten equal e f a =
+    subst (λ g. AnswersAhead A g written equal) (sym e) (subst (λ u. AnswersAhead A given written u) (sym f) a)
+
+-- the lines taken are the first ones
+pub taken_first : (A : Answering) → (given written unfinished unwritten : List ℕ) (n : ℕ) (bad : Bool) → HasTaken A given written unfinished unwritten n bad
+    → (later : List ℕ) → AnswersFirst A (given ++ later) written unwritten
+taken_first A given written unfinished unwritten n bad t later =
+    subst (λ g. AnswersFirst A (g ++ later) written unwritten) (append-nil given) (taken_ahead A given written unfinished unwritten n bad t [] later)
+
+-- some of what is more is put
+pub first_moved : (A : Answering) → (text written put more : List ℕ) → AnswersFirst A text written (put ++ more) → AnswersFirst A text (written ++ put) more
+first_moved A text written put more f = record {
+  first = f.first;
+  others = f.others;
+  any_bad = f.any_bad;
+  split = f.split;
+  answered = subst (λ l. AnswersLines A 0 f.first l f.any_bad) (sym (append_assoc written put more)) f.answered;
+}
+
+-- all that is more is put
+pub first_put : (A : Answering) → (text written more : List ℕ) → AnswersFirst A text written more → AnswersFirst A text (written ++ more) []
+first_put A text written more f = first_moved A text written more [] (subst (λ l. AnswersFirst A text written l) (sym (append-nil more)) f)
+
+-- all lines are the first ones
+pub first_whole : (A : Answering) → (text written unwritten : List ℕ) (bad : Bool) → AnswersLines A 0 (lines text) (written ++ unwritten) bad → AnswersFirst A text written unwritten
+first_whole A text written unwritten bad a = record { first = lines text; others = []; any_bad = bad; split = sym (append-nil (lines text)); answered = a }
+
+-- no line is answered yet
+pub first_none : (A : Answering) → (text : List ℕ) → AnswersFirst A text [] []
+unfolding AnswersLines
+first_none A text = record { first = []; others = lines text; any_bad = false; split = refl; answered = (refl, refl) }
+
+-- a known text begins with the bytes that were read of it
+pub known_ahead : (old new : Option (List ℕ)) (given : List ℕ) (P : List ℕ → Type 0) → Consumes old new given → ((later : List ℕ) → P (given ++ later)) → IfSome old P
+known_ahead None new given P h f = tt
+known_ahead (Some text) None given P h f = absurd h
+known_ahead (Some text) (Some later) given P h f = subst P (sym h) (f later)
+
+-- a run that stopped after it had written some answers
+pub stopped_later : (A : Answering) → (old mid new : Option (List ℕ)) (text written : List ℕ) (stop : Stop) → Appends old mid written
+    → Stopped mid new (λ put more. AnswersFirst A text (written ++ put) more) stop → Stopped old new (AnswersFirst A text) stop
+stopped_later A old mid new text written stop e s = record {
+  put = written ++ s.put;
+  more = s.more;
+  appended = Appends-trans _ _ _ _ _ e s.appended;
+  answers = s.answers;
+  whole = s.whole;
+}
+
+pub first_lines : (A : Answering) → (given old new : Option (List ℕ)) (stop : Stop) → IfSome given (λ text. Stopped old new (AnswersFirst A text) stop) → stop ≡ NoMemory → AnswersFirstLines A given old new
+first_lines A None old new stop s e = tt
+first_lines A (Some text) old new stop s e = (s.put, s.appended, subst (λ l. AnswersFirst A text s.put l) (s.whole e) s.answers)
+
+pub beginning : (A : Answering) → (given old new : Option (List ℕ)) (stop : Stop) → IfSome given (λ text. Stopped old new (AnswersFirst A text) stop) → AnswersBeginning A given old new
+beginning A None old new stop s = tt
+beginning A (Some text) old new stop s = (s.put, s.more, s.appended, s.answers)
+
+-- of whatever error a result holds
+pub any_err : {T E : Type 0} (P : E → Type 0) (r : Result T E) → ((e : E) → P e) → IfErr r P
+any_err P (Ok x) f = tt
+any_err P (Err e) f = f e
+
+-- of an error of which Q is known
+pub err_with : {T E : Type 0} (Q P : E → Type 0) (r : Result T E) → IfErr r Q → ((e : E) → Q e → P e) → IfErr r P
+err_with Q P (Ok x) h f = tt
+err_with Q P (Err e) h f = f e h

@@ -1,5 +1,5 @@
 -- What the lines of a text are answered.
-use Rattle.std.specs.Prelude.{ℕ, List, [], ◌∷◌, ◌++◌, ◌≡◌, ◌+◌, ◌-◌, ◌^◌, min, Bool, true, false, ◌||◌}
+use Rattle.std.specs.Prelude.{ℕ, List, [], ◌∷◌, ◌++◌, ◌≡◌, ◌+◌, ◌-◌, ◌^◌, min, Bool, false, ◌||◌}
 
 -- of the number of a line, the line and a text: the text answers the line, which is bad or is not
 abbrev pub Answering : Type 1

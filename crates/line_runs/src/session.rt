@@ -3,11 +3,13 @@
 //! Each complete line is answered before the reader is asked for more, and the answers of one read are written together. Lines
 //! are answered where they stand in the buffer that was read, and only the bytes after the last of them are kept: so memory follows
 //! the longest line and its answer, and not the input.
-ghost use Rattle.std.specs.Prelude.{◌≡◌, ◌≤◌, ◌<◌, ◌+◌, ◌-◌, ◌^◌, ◌++◌, ◌∷◌, ◌↔◌, ℕ, List, min, true, false, IfOk, IfSome, [], MatchOption, OnOk, OnErr, IsFalse, take, length, vec_len};
+ghost use Rattle.std.specs.Prelude.{◌≡◌, ◌≤◌, ◌<◌, ◌+◌, ◌-◌, ◌^◌, ◌++◌, ◌∷◌, ◌↔◌, ℕ, List, min, true, false, IfOk, IfSome, [], MatchOption, OnOk, OnErr, IfErr, IsFalse, take, length, vec_len};
 ghost use Rattle.std.specs.Io.KnownBytes.{Appends, IsAtEnd};
 ghost use Rattle.line_words.specs.Growth.{Extends};
 ghost use Rattle.line_runs.specs.Lines.{lines};
-ghost use Rattle.line_runs.specs.Session.{AddsAnswer, AnswersText, HasNoEnd, Taken};
+ghost use Rattle.line_runs.specs.Session.{AddsAnswer, AnswersAhead, AnswersBeginning, AnswersFirst};
+ghost use Rattle.line_runs.specs.Session.{AnswersFirstLines, AnswersText, HasNoEnd, PutSome, Stopped};
+ghost use Rattle.line_runs.specs.Session.{StopsAmid, StopsAtEnd, Taken};
 ghost use Rattle.line_runs.specs.Texts.{AnswersLines};
 
 use crate::answerer::Answerer;
@@ -65,6 +67,10 @@ pub fn run<A: Allocator + Copy, N: Answerer + Drop, R: Read, W: Write>(
         (W.contents writer.old) (W.contents writer.new) false }
     ensures bad_answers { result ≡ Outcome.BadLine → AnswersText N.answers (R.remaining reader.old)
         (W.contents writer.old) (W.contents writer.new) true }
+    ensures no_memory { result ≡ Outcome.NoMemory → AnswersFirstLines N.answers
+        (R.remaining reader.old) (W.contents writer.old) (W.contents writer.new) }
+    ensures io { result ≡ Outcome.Io → AnswersBeginning N.answers (R.remaining reader.old)
+        (W.contents writer.old) (W.contents writer.new) }
 {
     let mut session = Session::new(alloc, answerer);
     match session.answer_all(reader, writer) {
@@ -149,7 +155,8 @@ struct Session<N: Drop, A: Allocator + Copy> {
 
 impl<N: Answerer + Drop, A: Allocator + Copy> Session<N, A> {
     fn new(alloc: A, answerer: N) -> Self
-        ensures { Taken N.answers [] [] result }
+        ensures taken { Taken N.answers [] [] result }
+        ensures none_left { result.answers.unwritten.items ≡ [] }
     {
         Session {
             unfinished: Vec::new(alloc),
@@ -165,10 +172,13 @@ impl<N: Answerer + Drop, A: Allocator + Copy> Session<N, A> {
 
     // Answers all lines of the input. The number of reads is bounded, since nothing says that an input ends.
     fn answer_all<R: Read, W: Write>(&mut self, reader: &mut R, writer: &mut W) -> Result<(), Stop>
-        requires { Taken N.answers [] [] self.old }
+        requires taken { Taken N.answers [] [] self.old }
+        requires none_left { self.old.answers.unwritten.items ≡ [] }
         ensures end { OnOk result (IsAtEnd (R.remaining reader.new)) }
         ensures answers { OnOk result (AnswersText N.answers (R.remaining reader.old) (W.contents writer.old)
             (W.contents writer.new) self.new.answers.any_bad) }
+        ensures stopped { IfErr result (λ stop. IfSome (R.remaining reader.old) (λ text.
+            Stopped (W.contents writer.old) (W.contents writer.new) (AnswersFirst N.answers text) stop)) }
     {
         let mut memory = read_memory(self.answers.alloc)?;
         let buffer = memory.as_mut_slice();
@@ -185,7 +195,10 @@ impl<N: Answerer + Drop, A: Allocator + Copy> Session<N, A> {
 
     // Answers each line that the bytes complete.
     fn answer_bytes<W: Write>(&mut self, bytes: &[u8], writer: &mut W) -> Result<(), Stop>
-        ensures { OnOk result ((given written : List ℕ) → Taken N.answers given written self.old
+        ensures none_left { OnOk result (self.new.answers.unwritten.items ≡ []) }
+        ensures stopped { IfErr result (λ stop. StopsAmid N.answers self.old bytes.now
+            (W.contents writer.old) (W.contents writer.new) stop) }
+        ensures taken { OnOk result ((given written : List ℕ) → Taken N.answers given written self.old
             → (more : List ℕ) × Appends (W.contents writer.old) (W.contents writer.new) more
             × Taken N.answers (given ++ bytes.now) (written ++ more) self.new) }
     {
@@ -198,7 +211,9 @@ impl<N: Answerer + Drop, A: Allocator + Copy> Session<N, A> {
 
     // Answers each line that the bytes complete, and keeps the bytes after the last of them.
     fn take_bytes(&mut self, bytes: &[u8]) -> Result<(), AllocError>
-        ensures { OnOk result ((given written : List ℕ) → Taken N.answers given written self.old
+        ensures ahead { (given written : List ℕ) → Taken N.answers given written self.old
+            → AnswersAhead N.answers (given ++ bytes.now) written self.new.answers.unwritten.items }
+        ensures taken { OnOk result ((given written : List ℕ) → Taken N.answers given written self.old
             → Taken N.answers (given ++ bytes.now) written self.new) }
     {
         let mut rest = bytes;
@@ -212,7 +227,8 @@ impl<N: Answerer + Drop, A: Allocator + Copy> Session<N, A> {
 
     // Answers the line that these bytes end.
     fn take_line(&mut self, line: &[u8]) -> Result<(), AllocError>
-        ensures { OnOk result ((given written : List ℕ) → HasNoEnd line.now
+        ensures refused { OnErr result (self.new.answers.unwritten.items ≡ self.old.answers.unwritten.items) }
+        ensures taken { OnOk result ((given written : List ℕ) → HasNoEnd line.now
             → Taken N.answers given written self.old → Taken N.answers (given ++ line.now ++ 10 ∷ []) written self.new) }
     {
         if self.unfinished.is_empty() {
@@ -230,6 +246,8 @@ impl<N: Answerer + Drop, A: Allocator + Copy> Session<N, A> {
         ensures written { OnOk result
             (Appends (W.contents writer.old) (W.contents writer.new) self.old.answers.unwritten.items) }
         ensures none_left { OnOk result (self.new.answers.unwritten.items ≡ []) }
+        ensures stopped { IfErr result (λ stop. (stop ≡ Stop.Io)
+            × PutSome (W.contents writer.old) (W.contents writer.new) self.old.answers.unwritten.items) }
         ensures same { self.new.answers.any_bad ≡ self.old.answers.any_bad }
         ensures taken { OnOk result ((given written : List ℕ) → Taken N.answers given written self.old
             → Taken N.answers given (written ++ self.old.answers.unwritten.items) self.new) }
@@ -241,7 +259,10 @@ impl<N: Answerer + Drop, A: Allocator + Copy> Session<N, A> {
 
     // Ends the run with the end of the input: bytes after the last line's end are a line, where there are any.
     fn end<W: Write>(&mut self, writer: &mut W) -> Result<(), Stop>
-        ensures { OnOk result ((given written : List ℕ) → Taken N.answers given written self.old
+        requires { self.old.answers.unwritten.items ≡ [] }
+        ensures stopped { IfErr result (λ stop. StopsAtEnd N.answers self.old (W.contents writer.old)
+            (W.contents writer.new) stop) }
+        ensures answers { OnOk result ((given written : List ℕ) → Taken N.answers given written self.old
             → (more : List ℕ) × Appends (W.contents writer.old) (W.contents writer.new) more
             × AnswersLines N.answers 0 (lines given) (written ++ more) self.new.answers.any_bad) }
     {
@@ -253,7 +274,8 @@ impl<N: Answerer + Drop, A: Allocator + Copy> Session<N, A> {
 
     // Answers the bytes after the last line's end, where there are any.
     fn take_last(&mut self) -> Result<(), AllocError>
-        ensures { OnOk result ((given written : List ℕ) → Taken N.answers given written self.old
+        ensures refused { OnErr result (self.new.answers.unwritten.items ≡ self.old.answers.unwritten.items) }
+        ensures answers { OnOk result ((given written : List ℕ) → Taken N.answers given written self.old
             → AnswersLines N.answers 0 (lines given) (written ++ self.new.answers.unwritten.items) self.new.answers.any_bad) }
     {
         if self.unfinished.is_empty() {
@@ -320,7 +342,9 @@ fn read_memory<A: Allocator>(alloc: A) -> Result<Vec<u8, A>, AllocError>
 
 // Writes all the bytes. An error ends it, an interruption too, and so does a write that takes none of a rest.
 fn write_whole<W: Write>(writer: &mut W, bytes: &[u8]) -> Result<(), Stop>
-    ensures { OnOk result (Appends (W.contents writer.old) (W.contents writer.new) bytes.now) }
+    ensures written { OnOk result (Appends (W.contents writer.old) (W.contents writer.new) bytes.now) }
+    ensures stopped { IfErr result (λ stop. (stop ≡ Stop.Io)
+        × PutSome (W.contents writer.old) (W.contents writer.new) bytes.now) }
 {
     let mut rest = bytes;
     while !rest.is_empty() {

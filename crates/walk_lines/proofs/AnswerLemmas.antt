@@ -1,13 +1,12 @@
 -- From what a command gives to its answer as a text.
-use Rattle.std.proofs.Common.{ℕ, ◌≡◌, List, [], ◌∷◌, ◌++◌, inl, inr, map, refl, sym, ap, ap₂, ◌∙◌, append_assoc, true≢false}
-use Rattle.std.specs.Prelude.{Bool, true, false}
+use Rattle.std.proofs.Common.{ℕ, ◌≡◌, List, [], ◌∷◌, ◌++◌, inl, inr, map, refl, sym, ap, ap₂, ◌∙◌, true≢false}
+use Rattle.std.specs.Prelude.{true, false}
 use Rattle.line_words.specs.Growth.{Extends}
-use Rattle.eob_lists.specs.Normal.{IsNormal}
 use Rattle.walk_lines.specs.declared.line.Answer.{Answer}
 use Rattle.walk_lines.specs.declared.line.Answer.TheVariants as answer
 use Rattle.walk_lines.specs.Commands.{Command, Collect, Walk, Normal, Ends, Join}
 use Rattle.walk_lines.specs.Texts.{IsAnswer, driven_text, items_text, sides_text}
-use Rattle.walk_lines.specs.Answers.{ForText, Gives, HasText, end_of, shown, shown_row, side_by_side}
+use Rattle.walk_lines.specs.Answers.{ForText, Gives, HasText, end_of, shown_row, side_by_side}
 use Rattle.walk_lines.proofs.DrivenLemmas.{collected_aligned, letters_back}
 
 pub answered : {M : Type 0} (c : Command) (a : Answer M) (text : List ℕ) → Gives c a → HasText a text → IsAnswer c text

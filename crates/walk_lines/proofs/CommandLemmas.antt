@@ -1,14 +1,13 @@
 -- From what the words behind a name say to what the line says.
 use Rattle.std.proofs.Common.{ℕ, ◌==◌, ◌≡◌, ◌≢◌, List, [], ◌∷◌, get_or, map, Option, Some, None, refl, sym, ap, ◌∙◌, subst}
 use Rattle.std.specs.Bool.{if◌then◌else◌}
-use Rattle.std.specs.Prelude.{Result, Ok, Err, IfOk, MatchOption, ◌↔◌, IsTrue, Bool, true, false, Vec}
+use Rattle.std.specs.Prelude.{Result, Ok, Err, IfOk, MatchOption, Vec}
 use Rattle.line_words.specs.Words.{words}
 use Rattle.walk_lines.specs.declared.line.Name.{Name}
 use Rattle.walk_lines.specs.declared.line.Name.TheVariants as name
 use Rattle.walk_lines.specs.declared.line.Answer.{Answer}
-use Rattle.walk_lines.specs.declared.line.Answer.TheVariants as answer
-use Rattle.walk_lines.specs.Commands.{Named, Command, Collect, Walk, Normal, Ends, Join, command_words, IsBad, Says}
-use Rattle.walk_lines.specs.Answers.{AnswersBehind, AnswersLine, Gives, RefItem, shown, name_of, name_text, SaysBehind, SaysItems, SaysNoItems, words_behind}
+use Rattle.walk_lines.specs.Commands.{Command, Collect, Walk, Normal, Ends, Join, command_words, IsBad, Says}
+use Rattle.walk_lines.specs.Answers.{AnswersBehind, AnswersLine, RefItem, shown, name_of, name_text, SaysBehind, SaysItems, SaysNoItems, words_behind}
 
 -- the words of a command: its name, and what stands behind it
 pub words_of : (c : Command) → command_words c ≡ name_text (name_of c) ∷ words_behind c
@@ -32,7 +31,7 @@ named-name_text name.Normal = refl
 named-name_text name.Ends = refl
 named-name_text name.Join = refl
 
-name_once : (n m : Name) → name_text n ≡ name_text m → n ≡ m
+pub name_once : (n m : Name) → name_text n ≡ name_text m → n ≡ m
 name_once n m e = sym (named-name_text n) ∙ ap named e ∙ named-name_text m
 
 says_line : (line bytes : List ℕ) (n : Name) (c : Command) → words line ≡ name_text n ∷ words bytes → SaysBehind n bytes c → Says line c

@@ -1,11 +1,11 @@
 -- Items and entries that the words of a line say.
-use Rattle.std.proofs.Common.{ℕ, ◌==◌, false, eq-eqb, true≢false, ◌≡◌, ◌≢◌, List, [], ◌∷◌, ◌++◌, inl, inr, length, map, refl, sym, ap, ◌∙◌, subst, append-nil, append_assoc, arith}
-use Rattle.std.specs.Prelude.{All, codes}
+use Rattle.std.proofs.Common.{ℕ, ◌==◌, false, eq-eqb, true≢false, ◌≡◌, ◌≢◌, List, [], ◌∷◌, ◌++◌, inl, inr, map, refl, sym, ap, ◌∙◌, append-nil, append_assoc, arith}
+use Rattle.std.specs.Prelude.{All}
 use Rattle.std.proofs.lemmas.List.{map-append}
-use Rattle.std.proofs.lemmas.List.Elements.{All-nil, All-cons, All-weaker, All-head, All-tail, All-append, All-push}
+use Rattle.std.proofs.lemmas.List.Elements.{All-cons, All-head, All-tail, All-append, All-push}
 use Rattle.eob_both.specs.declared.either_or_both.EitherOrBoth.TheVariants.{Left, Both, Right}
-use Rattle.line_words.specs.Names.{IsName, IsNameByte, NoNameAhead}
-use Rattle.line_words.specs.Words.{words, IsWord, IsWordEnd, NoSpaceAhead}
+use Rattle.line_words.specs.Names.{IsNameByte, NoNameAhead}
+use Rattle.line_words.specs.Words.{words, IsWord}
 use Rattle.line_words.proofs.NameLemmas.{byte_no_name, name_spaceless, one_split}
 use Rattle.walk_lines.specs.Commands.{Named, Entry, item_text, entry_text, HasNames, HasEntryNames}
 use Rattle.walk_lines.specs.Answers.{SaysFirst, SaysItems, SaysNoItems, NoItemAhead}
@@ -29,7 +29,7 @@ entry_word p h = (λ e. h.0.0 (front p.0 (61 ∷ p.1) e), All-append (λ c. c �
     front [] ys e = refl
     front (x ∷ xs) ys e = absurd (cc)
 
-heads : (a b : ℕ) (xs ys : List ℕ) → (a == b) ≡ false → a ∷ xs ≡ b ∷ ys → ⊥
+pub heads : (a b : ℕ) (xs ys : List ℕ) → (a == b) ≡ false → a ∷ xs ≡ b ∷ ys → ⊥
 heads a b xs ys n e = let h : a ≡ b = cc in true≢false (sym (eq-eqb a b h) ∙ n)
 
 -- two ways to take an item off the front are one

@@ -6,3 +6,4 @@ mod TableLemmas
 mod SpacedLemmas
 mod AnswerLemmas
 mod DrivenLemmas
+mod OnceLemmas

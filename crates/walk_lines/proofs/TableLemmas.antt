@@ -1,5 +1,5 @@
 -- The tables that the words of a `join` line say.
-use Rattle.std.proofs.Common.{ℕ, ◌≡◌, ◌≢◌, List, [], ◌∷◌, ◌++◌, length, map, refl, sym, ap, ap₂, ◌∙◌, subst, append-nil, append_assoc, inl, inr, arith}
+use Rattle.std.proofs.Common.{ℕ, ◌≡◌, ◌≢◌, List, [], ◌∷◌, ◌++◌, map, refl, sym, ap, ap₂, ◌∙◌, subst, append-nil, append_assoc, inl, inr, arith}
 use Rattle.std.specs.Prelude.{All, codes, ⊤, Option, Some, None, MatchOption}
 use Rattle.std.specs.Borrow.{Bor}
 use Rattle.std.specs.declared.cmp.Ordering.TheVariants.{Less}
@@ -13,7 +13,7 @@ use Rattle.line_words.specs.Words.{words, IsWord}
 use Rattle.line_words.proofs.NameLemmas.{byte_no_name, one_split}
 use Rattle.walk_lines.specs.declared.line.Name.TheVariants as name
 use Rattle.walk_lines.specs.Commands.{Entry, Command, Collect, Walk, Normal, Ends, Join, bytes_cmp, entry_text, HasEntryNames}
-use Rattle.walk_lines.specs.Answers.{NoEntryAhead, SaysBehind, SaysTable, shown_entry, shown_table}
+use Rattle.walk_lines.specs.Answers.{NoEntryAhead, SaysBehind, SaysTable, shown_table}
 
 equals_no_name : ¬ IsNameByte 61
 equals_no_name (inl h) = absurd (omega arith)
@@ -71,10 +71,10 @@ table_once (i ∷ p) (j ∷ q) x y a b e m n =
     let r = table_once p q x y (All-tail HasEntryNames i p a) (All-tail HasEntryNames j q b) (cc) m n in
     (ap₂ (λ z zs. z ∷ zs) (entry_same i j (All-head HasEntryNames i p a) (All-head HasEntryNames j q b) texts) r.0, r.1)
 
-slash_ahead : (ws : List (List ℕ)) (i : Entry) (others : List (List ℕ)) → HasEntryNames i → codes "/" ∷ ws ≡ entry_text i ∷ others → ⊥
+pub slash_ahead : (ws : List (List ℕ)) (i : Entry) (others : List (List ℕ)) → HasEntryNames i → codes "/" ∷ ws ≡ entry_text i ∷ others → ⊥
 slash_ahead ws i others h e = let s : entry_text i ≡ codes "/" = cc in slash_no_entry i h s
 
-nothing_ahead : (i : Entry) (others : List (List ℕ)) → HasEntryNames i → [] ≡ entry_text i ∷ others → ⊥
+pub nothing_ahead : (i : Entry) (others : List (List ℕ)) → HasEntryNames i → [] ≡ entry_text i ∷ others → ⊥
 nothing_ahead i others h e = absurd (cc)
 
 -- the first table of a command is the one that was read

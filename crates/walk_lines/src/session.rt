@@ -1,7 +1,7 @@
 //! The run over a reader and a writer whose lines are commands.
 ghost use Rattle.std.specs.Prelude.{◌≡◌, true, false};
 ghost use Rattle.std.specs.Io.KnownBytes.{IsAtEnd};
-ghost use Rattle.line_runs.specs.Session.{AnswersText};
+ghost use Rattle.line_runs.specs.Session.{AnswersBeginning, AnswersFirstLines, AnswersText};
 ghost use Rattle.walk_lines.specs.Texts.{LineAnswer};
 
 use crate::answer::append_line;
@@ -40,6 +40,10 @@ pub fn run<A: Allocator + Copy, R: Read, W: Write>(
         (W.contents writer.old) (W.contents writer.new) false }
     ensures bad_answers { result ≡ Outcome.BadLine → AnswersText LineAnswer (R.remaining reader.old)
         (W.contents writer.old) (W.contents writer.new) true }
+    ensures no_memory { result ≡ Outcome.NoMemory → AnswersFirstLines LineAnswer
+        (R.remaining reader.old) (W.contents writer.old) (W.contents writer.new) }
+    ensures io { result ≡ Outcome.Io → AnswersBeginning LineAnswer (R.remaining reader.old)
+        (W.contents writer.old) (W.contents writer.new) }
 {
     line_runs::run(alloc, Commands, reader, writer)
 }

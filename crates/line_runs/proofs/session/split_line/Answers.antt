@@ -1,6 +1,3 @@
-use Rattle.std.proofs.Common.{◌≡◌, ◌++◌, take, drop, sym, ap, subst, ◌∙◌, refl, take-append-drop}
-use Rattle.std.proofs.lemmas.List.Elements.{All-append}
-use Rattle.line_runs.specs.Session.{HasNoEnd}
 use Rattle.line_runs.proofs.BlockLemmas.{line_behind, endless_behind}
 use Rattle.line_runs.proofs.session.split_line.Goals as goal
 

@@ -1,6 +1,6 @@
-use Rattle.std.proofs.Common.{◌≡◌, ◌++◌, ◌∷◌, [], refl, sym, ap, subst, ◌∙◌, append-nil, append_assoc}
+use Rattle.std.proofs.Common.{ℕ, List, ◌≡◌, ◌++◌, ◌∷◌, [], refl, sym, ap, subst, ◌∙◌, append-nil, append_assoc}
 use Rattle.line_runs.specs.Session.{HasNoEnd, HasTaken, Taken}
-use Rattle.line_runs.proofs.SessionLemmas.{no_line, rest_taken, retaken, done_more, given_more}
+use Rattle.line_runs.proofs.SessionLemmas.{ahead_of, taken_ahead, no_line, rest_taken, retaken, done_more, given_more}
 use Rattle.line_runs.proofs.session.Session.take_bytes.Goals as goal
 
 pub loop-line-init : goal.loop-line-init
@@ -13,11 +13,39 @@ loop-line-preserved g c =
     let s = c.in-Some.ensures.line in (
       done ++ line ++ 10 ∷ [],
       done_more _ done _ line c.in-Some.after.now split s.0,
-      λ given written t. subst (λ x. Taken g.N.Answerer.answers x written c.take_line.new.self) (given_more given done line) (c.in_ok-take_line.ensures (given ++ done) written s.1 (taken given written t)),
+      λ given written t. subst (λ x. Taken g.N.Answerer.answers x written c.take_line.new.self) (given_more given done line) (c.in_ok-take_line.ensures.taken (given ++ done) written s.1 (taken given written t)),
     )
 
-pub returns : goal.returns
-returns g c given written t =
+-- the bytes given before, and these
+these : (given done rest bytes : List ℕ) → bytes ≡ done ++ rest → given ++ bytes ≡ (given ++ done) ++ rest
+these given done rest bytes split = ap (λ l. given ++ l) split ∙ sym (append_assoc given done rest)
+
+pub returns-in_err-take_line-clause-ahead : goal.returns-in_err-take_line-clause-ahead
+returns-in_err-take_line-clause-ahead g c given written t =
+    let (done, split, taken) = c.loop-line.invariant in
+    let s = c.loop-line.self in
+    let rest = c.loop-line.rest.now in
+    ahead_of g.N.Answerer.answers ((given ++ done) ++ rest) _ written s.answers.unwritten.items _ (these given done rest _ split) c.in_err-take_line.ensures.refused
+    (taken_ahead g.N.Answerer.answers (given ++ done) written s.unfinished.items s.answers.unwritten.items s.answers.lines s.answers.any_bad (taken given written t) rest)
+
+pub returns-in_err-extend_from_slice-clause-ahead : goal.returns-in_err-extend_from_slice-clause-ahead
+returns-in_err-extend_from_slice-clause-ahead g c given written t =
+    let (done, split, taken) = c.loop-line.invariant in
+    let s = c.loop-line.self in
+    let rest = c.loop-line.rest.now in
+    ahead_of g.N.Answerer.answers ((given ++ done) ++ rest) _ written s.answers.unwritten.items _ (these given done rest _ split) refl
+    (taken_ahead g.N.Answerer.answers (given ++ done) written s.unfinished.items s.answers.unwritten.items s.answers.lines s.answers.any_bad (taken given written t) rest)
+
+pub returns-clause-ahead : goal.returns-clause-ahead
+returns-clause-ahead g c given written t =
+    let (done, split, taken) = c.loop-line.invariant in
+    let s = c.loop-line.self in
+    let rest = c.loop-line.rest.now in
+    ahead_of g.N.Answerer.answers ((given ++ done) ++ rest) _ written s.answers.unwritten.items _ (these given done rest _ split) refl
+    (taken_ahead g.N.Answerer.answers (given ++ done) written s.unfinished.items s.answers.unwritten.items s.answers.lines s.answers.any_bad (taken given written t) rest)
+
+pub returns-clause-taken : goal.returns-clause-taken
+returns-clause-taken g c given written t =
     let (done, split, taken) = c.loop-line.invariant in
     let rest = c.loop-line.rest.now in
     let s = c.loop-line.self in

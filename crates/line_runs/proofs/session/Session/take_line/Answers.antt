@@ -1,9 +1,9 @@
-use Rattle.std.proofs.Common.{rules, ◌≡◌, ◌++◌, [], length, refl, sym, subst, ◌∙◌}
+use Rattle.std.proofs.Common.{rules, ◌≡◌, ◌++◌, [], length, sym, subst, ◌∙◌}
 use Rattle.line_runs.proofs.SessionLemmas.{line_taken, no_bytes, retaken}
 use Rattle.line_runs.proofs.session.Session.take_line.Goals as goal
 
-pub returns-then-is_empty : goal.returns-then-is_empty
-returns-then-is_empty g c given written h t =
+pub returns-then-is_empty-clause-taken : goal.returns-then-is_empty-clause-taken
+returns-then-is_empty-clause-taken g c given written h t =
     let s = c.args.self.now in
     let line = c.args.line.now in
     let zero : length s.unfinished.items ≡ 0 = grind rules in
@@ -13,8 +13,8 @@ returns-then-is_empty g c given written h t =
     (line_taken g.N.Answerer.answers given written s.unfinished.items s.answers.unwritten.items s.answers.lines c.add.new.self.lines s.answers.any_bad t line h a.0 a.1 (subst (λ u. g.N.Answerer.answers c.add.new.self.lines (u ++ line) a.0 a.1) (sym none) a.2) c.in_ok-add.ensures.number)
     none a.3 a.4
 
-pub returns : goal.returns
-returns g c given written h t =
+pub returns-clause-taken : goal.returns-clause-taken
+returns-clause-taken g c given written h t =
     let s = c.args.self.now in
     let line = c.args.line.now in
     let a = c.in_ok-add-2.ensures.answer in

@@ -1,4 +1,4 @@
-use Rattle.std.proofs.Common.{ℕ, ◌≡◌, ◌<◌, ◌≤◌, List, [], ◌∷◌, ◌++◌, map, length, drop, refl, sym, ap, ◌∙◌, append-nil, arith}
+use Rattle.std.proofs.Common.{◌≡◌, ◌<◌, ◌≤◌, [], ◌∷◌, ◌++◌, map, length, drop, refl, sym, ap, ◌∙◌, append-nil, arith}
 use Rattle.std.specs.Option.{option_map}
 use Rattle.std.specs.Iterator.{size}
 use Rattle.std.proofs.Math.ListN.{drop_of_length-le}
@@ -6,7 +6,7 @@ use Rattle.std.proofs.lemmas.List.{flat_map_more, length-map}
 use Rattle.eob_lists.specs.Answers.{answers, left_over}
 use Rattle.eob_lists.specs.Places.{left_place, right_place}
 use Rattle.eob_lists.proofs.DriveLemmas.{kept}
-use Rattle.eob_lists.proofs.StdEnds.{items_of, vec_place}
+use Rattle.eob_lists.proofs.StdEnds.{vec_place}
 use Rattle.eob_lists.proofs.SwapLemmas.{swap_of_places}
 use Rattle.line_words.proofs.GrowthLemmas.{extends_same, extends_trans}
 use Rattle.walk_lines.specs.Answers.{end_of, shown_sides, side_by_side}

@@ -1,4 +1,4 @@
-use Rattle.std.proofs.Common.{ℕ, ◌≡◌, List, ◌++◌, Option, map}
+use Rattle.std.proofs.Common.{◌≡◌, List, ◌++◌, Option, map}
 use Rattle.std.specs.List.{flat_map}
 use Rattle.eob_both.specs.Ends.{IsExactly}
 use Rattle.eob_both.specs.Swap.{swap_ends}

@@ -4,7 +4,7 @@ use Rattle.line_words.proofs.GrowthLemmas.{extends_same, extends_trans}
 use Rattle.line_words.proofs.PartLemmas.{part_more}
 use Rattle.walk_lines.specs.Commands.{item_text}
 use Rattle.walk_lines.specs.Answers.{shown}
-use Rattle.walk_lines.proofs.SpacedLemmas.{texts_all, texts_none}
+use Rattle.walk_lines.proofs.SpacedLemmas.{texts_all}
 use Rattle.walk_lines.proofs.answer.items.append_items.Goals as goal
 
 pub loop-item-init : goal.loop-item-init

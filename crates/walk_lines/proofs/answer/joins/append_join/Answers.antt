@@ -4,7 +4,7 @@ use Rattle.line_words.proofs.GrowthLemmas.{extends_same, extends_trans}
 use Rattle.line_words.proofs.PartLemmas.{part_more}
 use Rattle.walk_lines.specs.Texts.{row_text}
 use Rattle.walk_lines.specs.Answers.{shown_row}
-use Rattle.walk_lines.proofs.SpacedLemmas.{texts_all, texts_none}
+use Rattle.walk_lines.proofs.SpacedLemmas.{texts_all}
 use Rattle.walk_lines.proofs.answer.joins.append_join.Goals as goal
 
 pub loop-row-init : goal.loop-row-init

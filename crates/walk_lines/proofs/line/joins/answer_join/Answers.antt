@@ -5,7 +5,7 @@ use Rattle.line_words.specs.Words.{words}
 use Rattle.line_words.proofs.WordLemmas.{has_word, no_bytes, words_nil}
 use Rattle.walk_lines.specs.Commands.{Join, bytes_cmp}
 use Rattle.walk_lines.specs.Answers.{shown_table}
-use Rattle.walk_lines.proofs.TableLemmas.{Tables, no_slash, not_rising, rising_refs, says_tables, words_left}
+use Rattle.walk_lines.proofs.TableLemmas.{no_slash, not_rising, rising_refs, says_tables, words_left}
 use Rattle.walk_lines.proofs.line.joins.answer_join.Goals as goal
 
 pub returns-then-not-is_empty : goal.returns-then-not-is_empty

@@ -1,4 +1,4 @@
-use Rattle.std.proofs.Common.{◌≡◌, ◌∷◌, [], sym, ap, ◌∙◌, subst, refl, true≢false}
+use Rattle.std.proofs.Common.{◌≡◌, ◌∷◌, sym, ap, ◌∙◌, subst, refl, true≢false}
 use Rattle.std.specs.Prelude.{codes}
 use Rattle.line_words.specs.Words.{words, IsWordEnd}
 use Rattle.line_words.proofs.WordLemmas.{words_word, word_ahead}
