@@ -45,11 +45,21 @@ where
     let mut copy = walk.clone()?;
     let (count, _) = walk.size_hint();
     for _ in 0..count.saturating_add(1) {
-        if let Some(item) = copy.next() {
-            items.push(item).map_err(AllocError::from)?;
-        }
+        put_next(&mut items, &mut copy)?;
     }
     Ok(items)
+}
+
+// Puts what an iterator gives next behind the items, if it gives one.
+fn put_next<I: Iterator>(items: &mut Vec<I::Item>, walk: &mut I) -> Result<(), AllocError>
+where
+    I::Item: Drop,
+    requires { (s : I) → I.can_next s }
+{
+    if let Some(item) = walk.next() {
+        items.push(item)?;
+    }
+    Ok(())
 }
 
 /// What the calls returned, the hint then, and what still comes.
