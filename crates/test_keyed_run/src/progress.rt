@@ -30,10 +30,14 @@ fn words_of(alloc: Global, line: &str) -> Result<Vec<Vec<u8>>, AllocError> {
 
 // What stands on the standard error where tables are joined as they are read, onto such an output, and each look at the clock is a second
 // behind the one before.
-fn said_of(alloc: Global, disk: &Disk, stdout: Sink) -> io::Result<String> {
-    let words = words_of(alloc, "keyed join old new --sorted")?;
+fn said_of<'a>(
+    alloc: Global,
+    disk: &'a Disk,
+    words: &'a [Vec<u8>],
+    stdout: Sink,
+) -> io::Result<String> {
     let world = World {
-        words: &words,
+        words,
         no_color: None,
         stdin: b"",
         stdout,
@@ -57,8 +61,9 @@ fn line_leaves_rows_on_a_terminal_alone(rt: HostRuntime) -> Result<(), Fail> {
     for name in ["old", "new"] {
         disk.put(name, table.as_bytes())?;
     }
+    let words = words_of(alloc, "keyed join old new --sorted")?;
     for stdout in [Sink::Terminal, Sink::Pipe] {
-        let said = said_of(alloc, &disk, stdout)?;
+        let said = said_of(alloc, &disk, &words, stdout)?;
         let times = said.split(BLANK).count().saturating_sub(1);
         assert!(rt; (stdout == Sink::Terminal) == (times == 1), "{said}");
     }
