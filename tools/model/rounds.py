@@ -1,0 +1,196 @@
+"""Random tables for a mixture of options, and what `keyed` says of them beside what is wanted."""
+import csv
+import io
+import json
+import re
+import subprocess
+import sys
+from collections import Counter
+
+from model.cells import CELLS, MARK, NAMES, QUOTED, apart
+from model.tables import Table, as_record, line_ends, style_of, written
+
+
+class Round:
+    """One mixture of options, and tables for it."""
+
+    def __init__(self, program, rng, folder):
+        self.program, self.rng, self.folder, self.stdin = program, rng, folder, None
+        # On which line of each file its first row begins.
+        self.first_lines = {}
+        self.has_header, self.is_large = rng.random() < 0.7, rng.random() < 0.03
+        most = 4 if self.is_large else len(NAMES)
+        columns = rng.sample(NAMES, rng.randint(1, most)) if self.has_header else [str(it + 1) for it in range(rng.randint(1, most))]
+        self.delimiter = rng.choice([",", ",", ";", "\t", "|"])
+        self.repeats, self.keeps_order = rng.random() < 0.3, rng.random() < 0.3
+        self.options, self.named = ["--delimiter", self.delimiter], None
+        if rng.random() < 0.7:
+            named = rng.sample(columns, rng.randint(1, min(2, len(columns))))
+            if not any("," in name for name in named) and named != [""] and not named[0].startswith("-"):
+                self.named = named
+                self.options += ["--key", as_record(named)]
+        self.options += ["--group"] * self.repeats + ["--keep-order"] * self.keeps_order + ["--no-header"] * (not self.has_header)
+        key, pool = self.named or columns[:1], rng.sample(CELLS, rng.randint(1, 8))
+        self.base = self.table(columns, key, pool)
+        self.ours, self.theirs = (self.own_columns(self.changed(columns, key, pool), key) for _ in range(2))
+        self.write(base=self.base, ours=self.ours, theirs=self.theirs)
+
+    def write(self, **tables):
+        for name, table in tables.items():
+            text, starts = written(table.lines(self.has_header), self.delimiter, self.rng)
+            self.put(name, text)
+            self.first_lines[name] = next(iter(starts), 1)
+            if not self.has_header and not table.rows:
+                table.columns = []
+
+    def put(self, name, text):
+        (self.folder / name).write_bytes(text.encode("latin-1"))
+
+    def table(self, columns, key, pool):
+        rows, seen = [], set()
+        for number in range(self.rng.randint(1000, 2500) if self.is_large else self.rng.randint(0, 8)):
+            under = tuple(self.rng.choice(pool) for _ in key)
+            if self.is_large:
+                under = (str(self.rng.randint(0, 9999)), *under[1:])
+            if self.repeats or under not in seen:
+                seen.add(under)
+                rows.append({**{name: self.rng.choice(CELLS) for name in columns}, **dict(zip(key, under))})
+        return Table(columns, rows)
+
+    def changed(self, columns, key, pool):
+        """Most rows of the base, some of them with another cell, and rows of its own, in any order."""
+        rows = [dict(row) for row in self.base.rows if self.rng.random() < 0.8]
+        for row in rows:
+            others = [name for name in columns if name not in key]
+            if others and self.rng.random() < (0.01 if self.is_large else 0.3):
+                row[self.rng.choice(others)] = self.rng.choice(CELLS)
+        there = {tuple(row[name] for name in key) for row in self.base.rows}
+        for row in self.table(columns, key, pool).rows:
+            if self.repeats or tuple(row[name] for name in key) not in there:
+                rows.append(row)
+        self.rng.shuffle(rows)
+        return Table(columns, rows)
+
+    def own_columns(self, table, key):
+        """A table with its columns in another order, perhaps without some, and with some that no other has, or as it is."""
+        if self.rng.random() < 0.5:
+            return table
+        kept = [name for name in table.columns if name in key or self.rng.random() < 0.7]
+        if self.has_header:
+            kept += [name for name in self.rng.sample(NAMES, 2) if name not in table.columns]
+            self.rng.shuffle(kept)
+        else:
+            most = max(map(int, key))
+            kept = [str(it + 1) for it in range(max(most, len(table.columns) + self.rng.randint(-1, 1)))]
+        made = table.under(kept)
+        for row in made.rows:
+            for name in kept:
+                if name not in table.columns and self.rng.random() < 0.1:
+                    row[name] = self.rng.choice(CELLS)
+        return made
+
+    def columns_of(self, *tables):
+        """The columns of all, the key, and the other columns."""
+        columns = [*dict.fromkeys(name for table in tables for name in table.columns)]
+        key = self.named or columns[:1]
+        return columns, key, [name for name in columns if name not in key]
+
+    def arranged(self, key, rest, groups, *tables):
+        """The rows of groups as they come out: in the order of their cells, or in that of these tables."""
+        if not self.keeps_order:
+            return groups
+        there = [table.in_place(key, rest) for table in tables]
+        made = {}
+        for under, rows in groups.items():
+            wanted, put, made[under] = Counter(rows), Counter(), []
+            for table in there:
+                seen = Counter()
+                for row in table.get(under, []):
+                    seen[row] += 1
+                    if put[row] < min(seen[row], wanted[row]):
+                        put[row] += 1
+                        made[under].append(row)
+            if len(made[under]) < len(rows):
+                made[under] = rows
+        return made
+
+    @staticmethod
+    def merged_columns(base, ours, theirs):
+        """The columns of a merged table: those that no side dropped, as they stand in the side that moved them."""
+        ours, theirs = ours or base, theirs or base
+        is_same_order = lambda columns: [it for it in base if it in columns] == [it for it in columns if it in base]
+        is_theirs = ours == base or is_same_order(ours) and not is_same_order(theirs)
+        first, other = (theirs, ours) if is_theirs else (ours, theirs)
+        return [it for it in first if it in other or it not in base] + [it for it in other if it not in [*first, *base]]
+
+    def in_order(self, key, keys, *tables):
+        """Keys as they come out: in their own order, or in that of these tables."""
+        if not self.keeps_order:
+            return sorted(keys)
+        read = [tuple(row[name] for name in key) for table in tables for row in table.rows]
+        return [it for it in dict.fromkeys(read) if it in keys]
+
+    def in_merged_order(self, key, keys, ours, theirs):
+        """Those of a merge: in the order of ours, with each new one behind the one that it follows in theirs, or first."""
+        if not self.keeps_order:
+            return sorted(keys)
+        ours, theirs = ([*dict.fromkeys(tuple(row[name] for name in key) for row in table.rows)] for table in (ours, theirs))
+        placed, there = [*ours], {*ours}
+        for place, it in enumerate(theirs):
+            if it not in there:
+                placed.insert(placed.index(theirs[place - 1]) + 1 if place else 0, it)
+        return [it for it in placed if it in keys]
+
+    def ask(self, *words, options=None):
+        """The status of a run, what it printed and what it said, perhaps with the standard input in the place of a file."""
+        files = [it for it in words if (self.folder / it).is_file()]
+        self.stdin = self.rng.choice(files) if files and self.rng.random() < 0.3 else None
+        if words.count(self.stdin) > 1:
+            self.stdin = None
+        return self.ask_again(*words, options=options)
+
+    def ask_again(self, *words, options=None):
+        """The same, with the standard input in the place of the file that it had last, or of none."""
+        files = [it for it in words if (self.folder / it).is_file()]
+        words = ["-" if it == self.stdin else str(self.folder / it) if it in files else it for it in words]
+        words = [it.encode("latin-1") for it in [*words, *(self.options if options is None else options)]]
+        given = (self.folder / self.stdin).read_bytes() if self.stdin else b""
+        found = subprocess.run([self.program, *words], input=given, capture_output=True, timeout=300)
+        return found.returncode, found.stdout, found.stderr
+
+    def rows_of(self, answer):
+        """The rows that were printed as CSV."""
+        return list(csv.reader(io.StringIO(answer[1].decode("latin-1"), newline=""), delimiter=self.delimiter))
+
+    def expect(self, what, answer, status, columns, rows, like=None):
+        """The header, where there is one, and rows as CSV, written as a file is, or plainly."""
+        text = answer[1].decode("latin-1")
+        has_mark, end, has_quotes = style_of((self.folder / like).read_bytes().decode("latin-1"), self.delimiter) if like else (False, "\n", False)
+        body = text[len(MARK) :] if has_mark else text
+        found = list(csv.reader(io.StringIO(body, newline=""), delimiter=self.delimiter))
+        want = [columns] * self.has_header + rows
+        quoted = re.fullmatch(f"(?:{QUOTED}(?:{re.escape(self.delimiter)}{QUOTED})*{end})*", body)
+        if text.startswith(MARK) != has_mark or {*line_ends(body)} - {end} or has_quotes and not quoted:
+            self.stop(what, f"not written as {like}: {text[:200]!r}")
+        if answer[0] != status or found != want or answer[2]:
+            self.stop(what, f"status {answer[0]}, not {status}, {answer[2]}", *apart(found, want))
+
+    def expect_objects(self, words, status, objects, options=None):
+        """An object of JSON a line."""
+        answer = self.ask(*words, "--format", "json", options=options)
+        found = [json.loads(line, object_pairs_hook=list) for line in answer[1].decode().split("\n")[:-1]]
+        if answer[0] != status or found != objects or answer[2]:
+            self.stop(" ".join(words) + " as JSON", f"status {answer[0]}, {answer[2]}", *apart(found, objects))
+
+    def expect_text(self, what, answer, status, text):
+        if answer != (status, text.encode(), b""):
+            self.stop(what, f"status {answer[0]}, not {status}, {answer[2]}", *apart(answer[1].decode(), text))
+
+    def stop(self, what, *lines):
+        print(f"{what} with {self.options}, - for {self.stdin}, of {self.folder}", *lines, sep="\n    ")
+        sys.exit(1)
+
+    @staticmethod
+    def line(columns, key, rest):
+        cells = {**dict(zip(*key)), **dict(zip(*rest))}
+        return [cells[name] for name in columns]

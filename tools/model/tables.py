@@ -1,0 +1,94 @@
+"""Tables by the names of their columns, and what a text of CSV is in each of its forms."""
+import csv
+import io
+import re
+
+from model.cells import LINE_END, MARK, QUOTED
+
+
+def as_record(names, others=None):
+    """The names as one record of CSV, as --key takes them, with those that they have in the other tables."""
+    text, cells = io.StringIO(), [it.replace("=", "==") for it in names]
+    if others:
+        others = [it.replace("=", "==") for it in others]
+        cells = [it if it == other else f"{it}={other}" for it, other in zip(cells, others)]
+    csv.writer(text, lineterminator="", quoting=csv.QUOTE_ALL).writerow(cells)
+    return text.getvalue()
+
+
+class Table:
+    """Rows by the names of their columns."""
+
+    def __init__(self, columns, rows):
+        self.columns, self.rows = columns, rows
+
+    def under(self, columns):
+        return Table(columns, [{name: row.get(name, "") for name in columns} for row in self.rows])
+
+    def lines(self, has_header):
+        return [self.columns] * has_header + [[row[name] for name in self.columns] for row in self.rows]
+
+    def in_place(self, key, rest):
+        """The rows by key, as they stand in the table; a cell of a column that is not there is empty."""
+        found = {}
+        for row in self.rows:
+            found.setdefault(tuple(row[name] for name in key), []).append(tuple(row.get(name, "") for name in rest))
+        return found
+
+    def groups(self, key, rest):
+        """The same, those under a key in the order of their cells."""
+        return {it: sorted(rows) for it, rows in self.in_place(key, rest).items()}
+
+
+def told_apart(names):
+    """Names of columns, of which those that stand there already have the next number that makes no other name."""
+    told, last = [], {}
+    for name in names:
+        number = last.get(name, 0) + 1
+        while number > 1 and f"{name}.{number}" in names:
+            number += 1
+        last[name] = number
+        told.append(name if number == 1 else f"{name}.{number}")
+    return told
+
+
+def written(lines, delimiter, rng, comment=None, skipped=0):
+    """Lines of cells as CSV in one of its forms, perhaps with notes between them and so many lines before them, and on which line of the
+    text each begins."""
+    quotes_all, end, blanks = rng.random() < 0.3, rng.choice(["\n", "\n", "\r\n", "\r"]), rng.random() < 0.2
+    special = {'"', "\r", "\n", delimiter, comment}
+
+    def cell(text, is_alone):
+        # What would say at the beginning of a text what it is stands in quotes, wherever it is.
+        if quotes_all or special & set(text) or is_alone and not text or text.startswith(("\xef\xbb\xbf", "\xff\xfe")):
+            return '"' + text.replace('"', '""') + '"'
+        return text
+
+    top = "".join(rng.choice(["", "a title", 'a "quote', "a\0b", delimiter * 3]) + end for _ in range(skipped))
+    parts, starts = ["\xef\xbb\xbf" * (rng.random() < 0.1), top], []
+    line = 1 + len(LINE_END.findall(top))
+    for cells in lines:
+        blank = end * rng.randint(1, 3) if blanks and rng.random() < 0.3 else ""
+        if comment and rng.random() < 0.3:
+            blank += comment + rng.choice(["", " a note", '"', delimiter, comment]) + end
+        text = delimiter.join(cell(it, len(cells) == 1) for it in cells) + end
+        line += len(LINE_END.findall(blank))
+        starts.append(line)
+        line += len(LINE_END.findall(text))
+        parts += [blank, text]
+    if comment and rng.random() < 0.3:
+        parts.append(comment + " the last")
+    return "".join(parts), starts
+
+
+def line_ends(text):
+    """The ends of lines outside quotes."""
+    return [it for it in re.findall(f"{QUOTED}|(\r\n|\r|\n)", text) if it]
+
+
+def style_of(text, delimiter):
+    """Whether a text of CSV has a byte order mark, how it ends lines, CR LF or else LF, and whether the cells of its first row are in quotes."""
+    rows = text.removeprefix(MARK)
+    end = "\r\n" if line_ends(rows)[:1] == ["\r\n"] else "\n"
+    quotes = re.match(f"{QUOTED}(?:{re.escape(delimiter)}{QUOTED})*(?:[\r\n]|$)", rows.lstrip("\r\n"))
+    return text.startswith(MARK), end, quotes is not None
