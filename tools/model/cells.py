@@ -8,6 +8,9 @@ CELLS += ["(no row)", "a -> b", "-> b", "a ->", '""', "a ", '"a "', "\\n", "\\"]
 CELLS += ["\xef\xbb\xbfx", "-", "+", ";", "|", "\t", "\0", "change", "side", "#", "\\", "\x1b[31m", "\x7f", "\xc2\x85", "e\xcc\x81"]
 # A right-to-left mark and override, a wide character, an emoji, and a character that is cut off.
 CELLS += ["\xe2\x80\x8f", "\xe2\x80\xae", "\xe6\x97\xa5", "\xf0\x9f\x98\x80", "\xf0\x9f\x98"]
+# One value in many ways, values that are near to others, long ones, and what is no number.
+NUMBERS = ["", "1", "1.0", "+1", "01", "1.", "1e0", "10E-1", "0", "-0", "0.00", "-1", "-1.0", ".5", "0.50", "5e-1", "0.6", "1.05", "1.5", "1.5000001"]
+NUMBERS += ["1e9999", "10e9998", "1e10000", "1e-9999", "12345678901234567890.1", "12345678901234567890.10", "12345678901234567890.2", " 1", "1,5", "NaN", "a"]
 NAMES = ["id", "\xef\xbb\xbfmark", "name", "second key", "", "-", "-minus", "+plus", "=", "left.id", "side", '"quoted"', "with, comma", "caf\xc3\xa9", "two\nlines", "\x1b[0m", "\xe6\x97\xa5"]
 KINDS = ["outer", "inner", "left", "right", "semi", "anti"]
 MARKS = "\u061c\u200e\u200f\u2028\u2029\u202a\u202b\u202c\u202d\u202e\u2066\u2067\u2068\u2069"

@@ -200,6 +200,14 @@ class Joins:
         if whole != parts:
             self.stop(f"diff with {picked} {view}", f"status {parts[0]}, not {whole[0]}, {parts[2]}", *apart(parts[1], whole[1]))
 
+    def some_view(self):
+        """Options that say what of two tables is compared, and how."""
+        rest = self.columns_of(self.base, self.ours)[2]
+        views = [["--numbers"], ["--numbers", "--tolerance", "1"]]
+        if self.has_header and rest:
+            views += [["--only", as_record([rest[0]])], ["--ignore", as_record(rest[1:]), "--numbers"] if rest[1:] else []]
+        return self.rng.choice([[], *views])
+
     def check_sorted(self):
         """Tables whose keys rise, read part by part, give what they give as a whole."""
         key = self.columns_of(self.base, self.ours)[1]
@@ -211,8 +219,11 @@ class Joins:
         rows = f"rows: {len(self.base.rows)} in LEFT, {len(self.ours.rows)} in RIGHT\n".encode()
         for words, counts in ((["diff", "first", "next"], changed), (join, rows)):
             for form in ("csv", "json"):
-                whole = self.ask(*words, "--format", form, options=options)
-                parts = self.ask_again(*words, "--format", form, options=[*options, "--sorted"])
+                view = self.some_view() if words[0] == "diff" and form == "json" else []
+                whole = self.ask(*words, "--format", form, *view, options=options)
+                parts = self.ask_again(*words, "--format", form, *view, options=[*options, "--sorted"])
+                # Counts are those of what is compared.
+                counts = self.ask("diff", "first", "next", "--summary", *view, options=options)[1].splitlines(True)[-1] if view else counts
                 is_same = self.rows_of(whole) == self.rows_of(parts) if form == "csv" else whole[1] == parts[1]
                 said = b"" if whole[2] else counts
                 # The first cell of a part that would say what a text is stands in quotes, also where the part is not the first.

@@ -1,30 +1,80 @@
 """Reports as pages of HTML and as Markdown, read back into the cells that they show."""
+import re
 from html.parser import HTMLParser
 
 
 class Page(HTMLParser):
-    """The lines of the table of a page, each with its cells as text. A tag that the program does not write is a fault."""
+    """The paragraphs of a page, and the lines of its table, each with its cells as text. A cell of which one version alone has the text is a
+    pair of its mark, `del` or `ins`, and the text. A tag that the program does not write is a fault."""
 
     TAGS = {"html", "head", "meta", "title", "style", "body", "p", "table", "thead", "tbody", "tr", "th", "td", "del", "ins"}
 
     def __init__(self, text):
         super().__init__()
-        self.lines, self.is_cell = [], False
+        self.paragraphs, self.lines, self.within = [], [], []
         self.feed(text)
         self.close()
 
     def handle_starttag(self, tag, attributes):
         if tag not in self.TAGS or not {name for name, _ in attributes} <= {"lang", "charset", "name", "content", "class", "colspan"}:
             raise ValueError(f"a tag {tag} with {attributes}")
+        self.within.append(tag)
         if tag == "tr":
             self.lines.append([])
         elif tag in ("td", "th"):
             self.lines[-1].append("")
-            self.is_cell = True
+        elif tag == "p":
+            self.paragraphs.append("")
+        elif tag in ("del", "ins"):
+            self.lines[-1][-1] = (tag, "")
+        elif tag == "meta":
+            self.within.pop()
 
     def handle_endtag(self, tag):
-        self.is_cell = self.is_cell and tag not in ("td", "th")
+        if not self.within or self.within.pop() != tag:
+            raise ValueError(f"an end of {tag} that is not open")
 
     def handle_data(self, text):
-        if self.is_cell:
+        place = self.within[-1] if self.within else ""
+        if place in ("td", "th"):
             self.lines[-1][-1] += text
+        elif place in ("del", "ins"):
+            self.lines[-1][-1] = (place, self.lines[-1][-1][1] + text)
+        elif place == "p":
+            self.paragraphs[-1] += text
+        elif text.strip() and place not in ("title", "style"):
+            raise ValueError(f"a text {text!r} in {place}")
+
+
+class Markdown:
+    """The items of the list of a page of Markdown, the lines of its table, each with its cells as text, and the lines behind it. A cell of
+    two versions, the old one struck through and the new one in bold, is a pair. A mark that stands there bare is a fault."""
+
+    def __init__(self, text):
+        self.items, self.lines, self.paragraphs = [], [], []
+        for line in text.split("\n"):
+            if line.startswith("|"):
+                self.lines.append([self.read(it) for it in re.findall(r"((?:\\.|[^\\|])*)\|", line[1:], re.S)])
+                if re.sub(r"\\.|[^\\|]", "", line, flags=re.S)[-1:] != "|" or not line.endswith("|"):
+                    raise ValueError(f"a line with no end: {line!r}")
+            elif line.startswith("- "):
+                self.items.append(self.plain(line[2:]))
+            elif line:
+                self.paragraphs.append(self.plain(line))
+        if len(self.lines) > 1 and any(it != "---" for it in self.lines.pop(1)):
+            raise ValueError("no line below the names of the columns")
+
+    def read(self, cell):
+        pair = re.fullmatch(r" ~~((?:\\.|[^\\~*])*)~~ \*\*((?:\\.|[^\\~*])*)\*\* ", cell, re.S)
+        if pair:
+            return tuple(map(self.plain, pair.groups()))
+        # One space stands on each side of a cell, and none where there is none but its end.
+        return self.plain(cell[1:-1] if cell.startswith(" ") and len(cell) > 1 else cell.strip())
+
+    @staticmethod
+    def plain(text):
+        """A text without the backslashes before its marks, of which each has one."""
+        bare = re.sub(r"\\[!-/:-@\[-`{-~]", "", text)
+        if re.search(r"[\\`*_~|<>&\[\]()#!@]", bare):
+            raise ValueError(f"a mark that is one: {text!r}")
+        return re.sub(r"\\([!-/:-@\[-`{-~])", r"\1", text)

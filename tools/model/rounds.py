@@ -7,7 +7,7 @@ import subprocess
 import sys
 from collections import Counter
 
-from model.cells import CELLS, MARK, NAMES, QUOTED, apart
+from model.cells import CELLS, MARK, NAMES, NUMBERS, QUOTED, apart
 from model.tables import Table, as_record, line_ends, style_of, written
 
 
@@ -18,7 +18,7 @@ class Round:
         self.program, self.rng, self.folder, self.stdin = program, rng, folder, None
         # On which line of each file its first row begins.
         self.first_lines = {}
-        self.has_header, self.is_large = rng.random() < 0.7, rng.random() < 0.03
+        self.has_header, self.is_large, self.is_whole = rng.random() < 0.7, rng.random() < 0.03, False
         most = 4 if self.is_large else len(NAMES)
         columns = rng.sample(NAMES, rng.randint(1, most)) if self.has_header else [str(it + 1) for it in range(rng.randint(1, most))]
         self.delimiter = rng.choice([",", ",", ";", "\t", "|"])
@@ -31,6 +31,8 @@ class Round:
                 self.options += ["--key", as_record(named)]
         self.options += ["--group"] * self.repeats + ["--keep-order"] * self.keeps_order + ["--no-header"] * (not self.has_header)
         key, pool = self.named or columns[:1], rng.sample(CELLS, rng.randint(1, 8))
+        # What cells are that stand beside a key.
+        self.cells = NUMBERS if rng.random() < 0.2 else CELLS
         self.base = self.table(columns, key, pool)
         self.ours, self.theirs = (self.own_columns(self.changed(columns, key, pool), key) for _ in range(2))
         self.write(base=self.base, ours=self.ours, theirs=self.theirs)
@@ -54,7 +56,7 @@ class Round:
                 under = (str(self.rng.randint(0, 9999)), *under[1:])
             if self.repeats or under not in seen:
                 seen.add(under)
-                rows.append({**{name: self.rng.choice(CELLS) for name in columns}, **dict(zip(key, under))})
+                rows.append({**{name: self.rng.choice(self.cells) for name in columns}, **dict(zip(key, under))})
         return Table(columns, rows)
 
     def changed(self, columns, key, pool):
@@ -63,7 +65,7 @@ class Round:
         for row in rows:
             others = [name for name in columns if name not in key]
             if others and self.rng.random() < (0.01 if self.is_large else 0.3):
-                row[self.rng.choice(others)] = self.rng.choice(CELLS)
+                row[self.rng.choice(others)] = self.rng.choice(self.cells)
         there = {tuple(row[name] for name in key) for row in self.base.rows}
         for row in self.table(columns, key, pool).rows:
             if self.repeats or tuple(row[name] for name in key) not in there:
@@ -150,26 +152,61 @@ class Round:
         return self.ask_again(*words, options=options)
 
     def ask_again(self, *words, options=None):
-        """The same, with the standard input in the place of the file that it had last, or of none."""
+        """The same, with the standard input in the place of the file that it had last, or of none. Now and then the answer goes into a file."""
+        options = self.options if options is None else options
+        target = self.some_target(words) if self.rng.random() < 0.1 else None
         files = [it for it in words if (self.folder / it).is_file()]
-        words = ["-" if it == self.stdin else str(self.folder / it) if it in files else it for it in words]
-        words = [it.encode("latin-1") for it in [*words, *(self.options if options is None else options)]]
+        said = ["-" if it == self.stdin else str(self.folder / it) if it in files else it for it in words]
         given = (self.folder / self.stdin).read_bytes() if self.stdin else b""
-        found = subprocess.run([self.program, *words], input=given, capture_output=True, timeout=300)
+        if not target:
+            return self.run([*said, *options], given)
+        before = target.read_bytes() if target.exists() else None
+        status, printed, complaint = self.run([*said, *options, "-o", str(target)], given)
+        after = target.read_bytes() if target.exists() else None
+        is_report = bool(printed) and status == 1 and words[0] in ("apply", "merge")
+        if before is not None:
+            target.write_bytes(before)
+        elif after is not None:
+            target.unlink()
+        # A report of rows for which there is no table goes to the standard output, and the file stays.
+        if (status == 2 or is_report) and after != before or [*self.folder.glob(".*keyed-*")]:
+            self.stop(" ".join(words) + f" into {target}", f"status {status}: the file is not as it was, or a draft is left")
+        if status == 2 or is_report:
+            return status, printed, complaint
+        is_lost = after is None or printed or status == 1 and (words[0] == "apply" or words[0] == "merge" and "marks" not in words)
+        if is_lost:
+            self.stop(" ".join(words) + f" into {target}", f"status {status}, printed {printed[:80]}, the file {after and after[:80]}")
+        return status, after, complaint
+
+    def some_target(self, words):
+        """A file that the answer of a command goes into: a new one, one that is there, or one that it reads."""
+        if words[:1] not in {(it,) for it in ("diff", "apply", "merge", "join", "lookup", "overlay")} or {"-q", "--quiet", "--no-heading"} & {*words}:
+            return None
+        read = [self.folder / it for it in words[1:] if (self.folder / it).is_file() and it != self.stdin]
+        target = self.rng.choice([self.folder / "out", *read])
+        if target.name == "out" and self.rng.random() < 0.5:
+            target.write_bytes(b"as it was")
+        elif target.name == "out":
+            target.unlink(missing_ok=True)
+        return target
+
+    def run(self, words, given):
+        found = subprocess.run([self.program, *(it.encode("latin-1") for it in words)], input=given, capture_output=True, timeout=300)
         return found.returncode, found.stdout, found.stderr
 
     def rows_of(self, answer):
         """The rows that were printed as CSV."""
         return list(csv.reader(io.StringIO(answer[1].decode("latin-1"), newline=""), delimiter=self.delimiter))
 
-    def expect(self, what, answer, status, columns, rows, like=None):
-        """The header, where there is one, and rows as CSV, written as a file is, or plainly."""
+    def expect(self, what, answer, status, columns, rows, like=None, marks=()):
+        """The header, where there is one, and rows as CSV, written as a file is, or plainly. A row that is a text is a mark."""
         text = answer[1].decode("latin-1")
         has_mark, end, has_quotes = style_of((self.folder / like).read_bytes().decode("latin-1"), self.delimiter) if like else (False, "\n", False)
         body = text[len(MARK) :] if has_mark else text
         found = list(csv.reader(io.StringIO(body, newline=""), delimiter=self.delimiter))
-        want = [columns] * self.has_header + rows
-        quoted = re.fullmatch(f"(?:{QUOTED}(?:{re.escape(self.delimiter)}{QUOTED})*{end})*", body)
+        want = [columns] * self.has_header + [it.split(self.delimiter) if isinstance(it, str) else it for it in rows]
+        bare = "".join(f"|{re.escape(it)}" for it in marks)
+        quoted = re.fullmatch(f"(?:(?:{QUOTED}(?:{re.escape(self.delimiter)}{QUOTED})*{bare}){end})*", body)
         if text.startswith(MARK) != has_mark or {*line_ends(body)} - {end} or has_quotes and not quoted:
             self.stop(what, f"not written as {like}: {text[:200]!r}")
         if answer[0] != status or found != want or answer[2]:
@@ -178,9 +215,23 @@ class Round:
     def expect_objects(self, words, status, objects, options=None):
         """An object of JSON a line."""
         answer = self.ask(*words, "--format", "json", options=options)
-        found = [json.loads(line, object_pairs_hook=list) for line in answer[1].decode().split("\n")[:-1]]
+        found = self.objects_of(answer[1].decode())
         if answer[0] != status or found != objects or answer[2]:
             self.stop(" ".join(words) + " as JSON", f"status {answer[0]}, {answer[2]}", *apart(found, objects))
+
+    @staticmethod
+    def objects_of(text):
+        """The objects of JSON on the lines of a text."""
+        lines = text.split("\n")
+        return [json.loads(line, object_pairs_hook=list) for line in lines[:-1]] + ["no line end"] * bool(lines[-1])
+
+    def same(self, what, found, want):
+        if found != want:
+            self.stop(what, *apart(found, want))
+
+    def some_of(self, forms):
+        """Those of the forms that this round looks at: one, or of a table whose size is looked at all."""
+        return forms if self.is_whole else [self.rng.choice(forms)]
 
     def expect_text(self, what, answer, status, text):
         if answer != (status, text.encode(), b""):

@@ -2,6 +2,8 @@
 import csv
 import io
 import re
+from decimal import MAX_EMAX, MIN_EMIN, Context, Decimal, localcontext
+from functools import lru_cache
 
 from model.cells import LINE_END, MARK, QUOTED
 
@@ -92,3 +94,24 @@ def style_of(text, delimiter):
     end = "\r\n" if line_ends(rows)[:1] == ["\r\n"] else "\n"
     quotes = re.match(f"{QUOTED}(?:{re.escape(delimiter)}{QUOTED})*(?:[\r\n]|$)", rows.lstrip("\r\n"))
     return text.startswith(MARK), end, quotes is not None
+
+
+NUMBER = re.compile(r"([+-]?)([0-9]*)(?:\.([0-9]*))?(?:[eE]([+-]?[0-9]{1,4}))?")
+
+
+@lru_cache(1 << 16)
+def as_number(cell):
+    """The number that a cell is, or None."""
+    found = NUMBER.fullmatch(cell)
+    if not found or not (found[2] or found[3]):
+        return None
+    return Decimal(cell)
+
+
+def are_near(number, other, tolerance):
+    """Whether two numbers have no more than so much between them."""
+    if number is None or other is None:
+        return False
+    # Exact sums of all that has a power of four digits.
+    with localcontext(Context(prec=50_000, Emax=MAX_EMAX, Emin=MIN_EMIN)):
+        return abs(number - other) <= Decimal(tolerance)

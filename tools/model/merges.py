@@ -1,0 +1,95 @@
+"""What `merge` is to say of three versions of a table."""
+from model.cells import named
+from model.reports import FORMS
+from model.tables import as_number, are_near
+
+MARKS = ("<<<<<<< ours", "||||||| base", "=======", ">>>>>>> theirs")
+
+
+def is_same(cell, other, tolerance):
+    """Whether two cells are the same, by value where there is a tolerance and they are numbers."""
+    return cell == other or tolerance is not None and are_near(as_number(cell), as_number(other), tolerance)
+
+
+def are_same(rows, others, tolerance):
+    """Whether two versions of a key, of one row at most, are there and the same."""
+    return bool(rows and others) and all(is_same(*it, tolerance) for it in zip(rows[0], others[0]))
+
+
+def merged_cell(base, ours, theirs, tolerance):
+    """What one side made of a cell, or None where both did, and not alike. What is ours stays where both have the same value."""
+    if base == ours:
+        return theirs
+    if is_same(ours, theirs, tolerance) or is_same(base, theirs, tolerance):
+        return ours
+    return theirs if is_same(base, ours, tolerance) else None
+
+
+class Merges:
+    """Checks of a round, of merges."""
+
+    def check_merge(self, by_cell=False, tolerance=None):
+        """The merged table, or the rows in conflict in each form, or the table with these between marks. Rows are merged whole or by cell,
+        and numbers compared by value where there is a tolerance."""
+        columns, key, _ = self.columns_of(self.base, self.ours, self.theirs)
+        written = self.merged_columns(self.base.columns, self.ours.columns, self.theirs.columns)
+        gone = [it for it in columns if it not in written]
+        rest = [it for it in [*written, *gone] if it not in key]
+        sides = self.ours, self.theirs
+        versions = [self.arranged(key, rest, it.groups(key, rest), *sides) for it in (self.base, *sides)]
+        rows, stuck, lost = [], [], []
+        for it in self.in_merged_order(key, {*versions[0], *versions[1], *versions[2]}, *sides):
+            three = [rows.get(it) for rows in versions]
+            is_merged, found = self.merged(three, by_cell, tolerance)
+            rows.append((it, is_merged, found))
+            if not is_merged:
+                stuck += [(word, it, version) for word, version in zip(("base", "ours", "theirs"), found)]
+            elif any(dict(zip(rest, row))[name] for row in found or [] for name in gone):
+                lost.append(("merged", it, found))
+        words = ["merge", "base", "ours", "theirs", *["--by-cell"] * by_cell, *self.numbers(tolerance)]
+        if stuck or lost:
+            said = [name for name in rest if name in gone and any(dict(zip(rest, row))[name] for it in lost for row in it[2])]
+            said = [f"column {named(name)} goes, and has cells in these rows" for name in said]
+            why = {"base": "conflict", "ours": "conflict", "theirs": "conflict", "merged": "lost"}
+            for form in self.some_of(FORMS):
+                self.expect_stopped(words, form, said, key, rest, [*stuck, *lost], why)
+            if gone or not stuck:
+                return self.expect_stopped([*words, "--conflicts", "marks"], "table", said, key, rest, [*stuck, *lost], why)
+            lines = self.marked_lines(written, key, rest, rows)
+            return self.expect("merge with marks", self.ask(*words, "--conflicts", "marks"), 1, written, lines, "ours", MARKS)
+        lines = [self.line(written, (key, it), (rest, row)) for it, _, found in rows for row in found or []]
+        self.expect("merge", self.ask(*words, *self.rng.choice([[], ["--conflicts", "marks"]])), 0, written, lines, "ours")
+
+    def marked_lines(self, written, key, rest, rows):
+        """The lines of a table in which rows in conflict stand between marks, with a text for a mark."""
+        lines = []
+        for it, is_merged, found in rows:
+            of = lambda version: [self.line(written, (key, it), (rest, row)) for row in version or []]
+            if is_merged:
+                lines += of(found)
+            else:
+                base, ours, theirs = found
+                lines += [MARKS[0], *of(ours), MARKS[1], *of(base), MARKS[2], *of(theirs), MARKS[3]]
+        return lines
+
+    @staticmethod
+    def merged(three, by_cell, tolerance):
+        """Whether a key is merged, and the rows that it has then, or those of each version."""
+        base, ours, theirs = three
+        keys = [it and sorted(it) for it in three]
+        if keys[0] == keys[1] or keys[0] == keys[2] or keys[1] == keys[2]:
+            return True, theirs if keys[0] == keys[1] else ours
+        is_one_each = all(it and len(it) == 1 for it in three)
+        plain = [merged_cell(*it, None) for it in zip(base[0], ours[0], theirs[0])] if is_one_each else []
+        if by_cell and is_one_each and None not in plain:
+            return True, [tuple(plain)]
+        if tolerance is not None and (are_same(ours, theirs, tolerance) or are_same(base, theirs, tolerance)):
+            return True, ours
+        if tolerance is not None and are_same(base, ours, tolerance):
+            return True, theirs
+        if by_cell and is_one_each:
+            cells = [merged_cell(*it, tolerance) for it in zip(base[0], ours[0], theirs[0])]
+            if None not in cells:
+                return True, [tuple(cells)]
+            return False, [[tuple(own if it is None else it for it, own in zip(cells, row[0]))] for row in three]
+        return False, three

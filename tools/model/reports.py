@@ -1,0 +1,90 @@
+"""What a report says in each of its forms."""
+from model.cells import lined_up, named, pairs, shown
+from model.pages import Markdown, Page
+
+FORMS = ["table", "json", "markdown", "html"]
+
+
+def counts_of(told, rows):
+    """How many rows of so many old ones were added, removed and changed, and how many not."""
+    count = lambda word: sum(it[0] == word for it in told)
+    added, removed, changed = map(count, ("added", "removed", "changed"))
+    return {"added": added, "removed": removed, "changed": changed, "same": rows - removed - changed}
+
+
+class Reports:
+    """Checks of a round, of reports."""
+
+    def expect_report(self, words, form, report, limit=None, has_colour=False, is_summary=False):
+        """A report of rows that changed, each a word, a key, and the cells before and after."""
+        key, rest, told = report["key"], report["rest"], report["told"]
+        limit = 0 if is_summary else limit
+        rows = told if limit is None else told[:limit]
+        more = [] if is_summary or len(rows) == len(told) else [f"and {len(told) - len(rows)} more"]
+        counts = "{added} added, {removed} removed, {changed} changed, {same} the same".format(**report["counts"])
+        words = [*words, *["--summary"] * is_summary, *([] if is_summary or limit is None else ["--limit", str(limit)])]
+        words += ["--color", "always"] * has_colour + ([] if form == "table" else ["--format", form])
+        answer = self.ask(*words)
+        if answer[0] != report["status"] or answer[2]:
+            self.stop(" ".join(words), f"status {answer[0]}, not {report['status']}, {answer[2]}")
+        text = answer[1].decode()
+        heading = ["", *map(shown, key), *map(shown, rest)]
+        if form == "table":
+            grid = [heading] * bool(rows) + [self.line_of_both(*it, report["is_same"]) for it in rows]
+            want = "".join(f"{it}\n" for it in report["said"]) + lined_up(grid, has_colour) + "".join(f"{it}\n" for it in [*more, counts])
+            return self.same(" ".join(words), text, want)
+        if form == "json":
+            found, want = self.objects_of(text), self.objects(report, rows, is_summary)
+            return self.same(" ".join(words), found, want)
+        if form == "markdown":
+            page = Markdown(text)
+            want = report["said"], [heading] * bool(rows) + [self.line_of_both(*it, report["is_same"], tuple) for it in rows], [*more, counts]
+            return self.same(" ".join(words), (page.items, page.lines, page.paragraphs), want)
+        page, empty = Page(text), [""] * len(key)
+        sides = [*map(shown, rest)] * 2
+        want = [["", *map(shown, key), *["old", "new"] * bool(rest)], ["", *empty, *sides]] * bool(rows)
+        want = want[:2] + [self.line_side_by_side(*it, report["is_same"]) for it in rows]
+        self.same(" ".join(words), (page.paragraphs, page.lines), ([*report["said"], *more, counts], want))
+
+    @staticmethod
+    def line_of_both(word, under, row, other, is_same, joined=" -> ".join):
+        cells = [shown(b) if is_same(a, b) else joined((named(a), named(b))) for a, b in zip(row, other)]
+        return [word, *map(shown, under), *cells]
+
+    @staticmethod
+    def line_side_by_side(word, under, row, other, is_same):
+        side = lambda tag, cells, others: [shown(a) if is_same(a, b) else (tag, named(a)) for a, b in zip(cells, others)]
+        none = [""] * len(row)
+        return [word, *map(shown, under), *(none if word == "added" else side("del", row, other)), *(none if word == "removed" else side("ins", other, row))]
+
+    @staticmethod
+    def objects(report, rows, is_summary):
+        lone = [("added", report["lone"][0]), ("removed", report["lone"][1])]
+        if is_summary:
+            return [[*report["counts"].items(), ("columns", lone)]]
+        objects = [[("columns", lone)]] if any(report["lone"]) else []
+        for word, under, row, other in rows:
+            sides = [("old", pairs(report["rest"], row))] * (word != "added") + [("new", pairs(report["rest"], other))] * (word != "removed")
+            objects.append([("change", word), ("key", pairs(report["key"], under)), *sides])
+        return objects
+
+    def expect_stopped(self, words, form, said, key, rest, versions, why):
+        """A report of rows that a command has no table for, each a word for the version, a key, and its rows or none."""
+        words = [*words, *([] if form == "table" else ["--format", form])]
+        answer = self.ask(*words)
+        if answer[0] != 1 or answer[2]:
+            self.stop(" ".join(words), f"status {answer[0]}, not 1, {answer[2]}")
+        text, heading = answer[1].decode(), ["", *map(shown, key), *map(shown, rest)]
+        if form == "json":
+            line = lambda word, under, row: [("why", why[word]), ("version", word), ("key", pairs(key, under)), ("row", None if row is None else pairs(rest, row))]
+            want = [line(word, under, row) for word, under, rows in versions for row in (rows or [None])]
+            return self.same(" ".join(words), self.objects_of(text), want)
+        lines = [heading]
+        for word, under, rows in versions:
+            none = [[word, *map(shown, under), "(no row)"]] if form == "table" else [[f"{word}, no row", *map(shown, under)]]
+            lines += none if rows is None else [[word, *map(shown, under), *map(shown, row)] for row in rows]
+        if form == "table":
+            return self.same(" ".join(words), text, "".join(f"{it}\n" for it in said) + lined_up(lines))
+        page = Markdown(text) if form == "markdown" else Page(text)
+        found = page.items if form == "markdown" else page.paragraphs
+        self.same(" ".join(words), (found, page.lines), (said, lines))
