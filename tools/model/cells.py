@@ -17,7 +17,7 @@ MARKS = "\u061c\u200e\u200f\u2028\u2029\u202a\u202b\u202c\u202d\u202e\u2066\u206
 COLOURS = {"removed": "31", "added": "32", "changed": "33"}
 LINE_END = re.compile("\r\n|\r|\n")
 MARK = "\xef\xbb\xbf"
-QUOTED = '"(?:[^"]|"")*"'
+QUOTED = '"[^"]*(?:""[^"]*)*"'
 
 
 def escaped(c):
@@ -43,6 +43,7 @@ def quoted(cell):
     text = cell.encode("latin-1").decode("utf-8", "surrogateescape")
     is_composed = unicodedata.is_normalized("NFC", text)
 
+    @lru_cache
     def char(c):
         if c in '"\\':
             return "\\" + c
@@ -57,6 +58,8 @@ def shown(cell):
     """A cell as a person reads it: in quotes where it would look like another one."""
     text = cell.encode("latin-1").decode("utf-8", "surrogateescape")
     is_odd = text[:1] in ('"', " ") and text or text[-1:] == " " or text == "(no row)" or "->" in text
+    if not is_odd and text.isascii() and text.isprintable():
+        return text
     if not is_odd and unicodedata.is_normalized("NFC", text) and all(escaped(c) == c and not prints_as_other(c) for c in text):
         return text
     return quoted(cell)
@@ -65,6 +68,8 @@ def shown(cell):
 @lru_cache(1 << 18)
 def as_json(cell):
     """A cell as JSON has it: each byte that is no UTF-8 as a character of its own, and so those of such a character."""
+    if cell.isascii():
+        return cell
     text = cell.encode("latin-1").decode("utf-8", "surrogateescape")
     of_bytes = lambda c: "".join(chr(0x10FF00 + it) for it in c.encode("utf-8", "surrogateescape"))
     return "".join(of_bytes(c) if 0xDC80 <= ord(c) <= 0xDCFF or ord(c) >= 0x10FF00 else c for c in text)
@@ -85,7 +90,10 @@ def in_list(cell):
     return quoted(cell) if "," in cell else named(cell)
 
 
+@lru_cache(1 << 18)
 def width(text):
+    if text.isascii():
+        return len(text)
     wide = sum(unicodedata.east_asian_width(c) in "WF" for c in text)
     # A byte order mark takes no width, and no more does a character that combines.
     return len(text) + wide - sum(unicodedata.combining(c) > 0 or c == "\ufeff" for c in text)

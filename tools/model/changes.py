@@ -10,7 +10,7 @@ from model.tables import Table
 class Changes:
     """Checks of a round, of changes."""
 
-    def check_changes(self):
+    def check_changes(self, forms=FORMS):
         key = self.columns_of(self.base, self.ours)[1]
         # A file with no row has the columns of the other. Rows of a group are in the order of their cells as they are written.
         before, after = self.base.columns or self.ours.columns, self.ours.columns or self.base.columns
@@ -39,14 +39,14 @@ class Changes:
         new = self.arranged(key, rest, new, self.base, *self.signed())
         self.expect("apply", self.ask("apply", "base", "changes"), 0, made, [line(made, it, row) for it in order for row in new[it]], "base")
         if rows and self.columns_of(self.ours)[1] == key:
-            self.check_misfits([*made, *(it for it in columns if it not in made)])
+            self.check_misfits([*made, *(it for it in columns if it not in made)], forms)
 
     def signed(self):
         """The rows of changes that go, and those that come."""
         rows = [[row for row, sign in zip(self.changes.rows, self.signs) if sign == it] for it in "-+"]
         return [Table(self.changes.columns, it) for it in rows]
 
-    def check_misfits(self, columns):
+    def check_misfits(self, columns, forms):
         """Changes made to the table that they led to."""
         key = self.columns_of(self.ours, self.changes)[1]
         rest = [it for it in columns if it not in key]
@@ -56,7 +56,7 @@ class Changes:
         for it in self.in_order(key, {*goes, *comes}, self.ours, self.changes):
             if sorted(has.get(it, [])) != sorted(goes.get(it, [])):
                 versions += [("table", it, has.get(it)), ("change", it, goes.get(it))]
-        for form in self.some_of(FORMS) if versions else []:
+        for form in self.some_of(forms) if versions else []:
             self.expect_stopped(["apply", "ours", "changes"], form, [], key, rest, versions, {"table": "misfit", "change": "misfit"})
 
     def said_of_columns(self):

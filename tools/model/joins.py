@@ -6,7 +6,7 @@ from model.tables import Table, as_record, told_apart, written
 class Joins:
     """Checks of a round, of joins and of reading."""
 
-    def check_join(self, kind):
+    def check_join(self, kind, *names):
         key = self.columns_of(self.base, self.ours)[1]
         # A file with no row has the columns of the other.
         headers = self.base.columns or self.ours.columns, self.ours.columns or self.base.columns
@@ -15,7 +15,7 @@ class Joins:
         keys = {"outer": {*left, *right}, "left": {*left}, "right": {*right}, "anti": {*left} - {*right}}.get(kind, {*left} & {*right})
         order = self.in_order(key, keys, self.base, self.ours)
         left, right = self.arranged(key, sides[0], left, self.base), self.arranged(key, sides[1], right, self.ours)
-        prefix, side = self.rng.choice([None, None, ("l_", "r_"), ("", "r."), ("", "")]), self.rng.choice([None, None, "from", "id"])
+        prefix, side = names or (self.rng.choice([None, None, ("l_", "r_"), ("", "r."), ("", "")]), self.rng.choice([None, None, "from", "id"]))
         words = ["join", "base", "ours", "--kind", kind] + [f"--prefix={','.join(prefix or [])}"] * bool(prefix) + [f"--side={side}"] * bool(side)
         objects, none = [], [None]
         for it in order:
@@ -109,9 +109,9 @@ class Joins:
         free = [it for it in NAMES if it not in table.columns and not it.startswith(("=", "-"))]
         return [self.rng.choice(free or key[:1]), *key[1:]]
 
-    def check_lookup(self):
+    def check_lookup(self, kind=None):
         """Each row of the base in its order, with the row of ours that has its key, which may have another name there."""
-        kind, key = self.rng.choice(["left", "inner", "anti"]), self.columns_of(self.base, self.ours)[1]
+        kind, key = kind or self.rng.choice(["left", "inner", "anti"]), self.columns_of(self.base, self.ours)[1]
         columns, there = self.base.columns or self.ours.columns, self.ours.columns or self.base.columns
         found = {it: rows[0] for it, rows in self.ours.in_place(key, [it for it in there if it not in key]).items()}
         if len(found) < len(self.ours.rows) or not key or not set(key) <= {*columns} & {*there}:
@@ -151,14 +151,14 @@ class Joins:
                 objects.append([("key", pairs(key, under)), *sides])
         self.expect_objects(words, 0, objects, options)
 
-    def check_overlay(self):
+    def check_overlay(self, *files, by_cell=None):
         """Two tables or three, each over those before it, by row or by cell."""
-        files = self.rng.sample(["base", "ours", "theirs"], self.rng.randint(2, 3))
+        files = files or self.rng.sample(["base", "ours", "theirs"], self.rng.randint(2, 3))
         tables = [getattr(self, it) for it in files]
         columns, key, rest = self.columns_of(*tables)
         if not self.has_keys(key, *tables):
             return
-        by_cell, laid = not self.repeats and self.rng.random() < 0.5, {}
+        by_cell, laid = not self.repeats and (self.rng.random() < 0.5 if by_cell is None else by_cell), {}
         for table in tables:
             for under, rows in table.groups(key, rest).items():
                 below = laid.get(under)

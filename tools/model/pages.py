@@ -54,8 +54,8 @@ class Markdown:
         self.items, self.lines, self.paragraphs = [], [], []
         for line in text.split("\n"):
             if line.startswith("|"):
-                self.lines.append([self.read(it) for it in re.findall(r"((?:\\.|[^\\|])*)\|", line[1:], re.S)])
-                if re.sub(r"\\.|[^\\|]", "", line, flags=re.S)[-1:] != "|" or not line.endswith("|"):
+                self.lines.append([self.read(it) for it in re.findall(r"([^\\|]*(?:\\.[^\\|]*)*)\|", line[1:], re.S)])
+                if re.sub(r"[^\\|]+|\\.", "", line, flags=re.S)[-1:] != "|" or not line.endswith("|"):
                     raise ValueError(f"a line with no end: {line!r}")
             elif line.startswith("- "):
                 self.items.append(self.plain(line[2:]))
@@ -65,7 +65,7 @@ class Markdown:
             raise ValueError("no line below the names of the columns")
 
     def read(self, cell):
-        pair = re.fullmatch(r" ~~((?:\\.|[^\\~*])*)~~ \*\*((?:\\.|[^\\~*])*)\*\* ", cell, re.S)
+        pair = re.fullmatch(r" ~~([^\\~*]*(?:\\.[^\\~*]*)*)~~ \*\*([^\\~*]*(?:\\.[^\\~*]*)*)\*\* ", cell, re.S)
         if pair:
             return tuple(map(self.plain, pair.groups()))
         # One space stands on each side of a cell, and none where there is none but its end.

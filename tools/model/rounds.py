@@ -10,15 +10,16 @@ from collections import Counter
 from model.cells import CELLS, MARK, NAMES, NUMBERS, QUOTED, apart
 from model.tables import Table, as_record, line_ends, style_of, written
 
+# A cell may have any length.
+csv.field_size_limit(1 << 30)
+
 
 class Round:
     """One mixture of options, and tables for it."""
 
     def __init__(self, program, rng, folder):
-        self.program, self.rng, self.folder, self.stdin = program, rng, folder, None
-        # On which line of each file its first row begins.
-        self.first_lines = {}
-        self.has_header, self.is_large, self.is_whole = rng.random() < 0.7, rng.random() < 0.03, False
+        self.begin(program, rng, folder)
+        self.has_header, self.is_large = rng.random() < 0.7, rng.random() < 0.03
         most = 4 if self.is_large else len(NAMES)
         columns = rng.sample(NAMES, rng.randint(1, most)) if self.has_header else [str(it + 1) for it in range(rng.randint(1, most))]
         self.delimiter = rng.choice([",", ",", ";", "\t", "|"])
@@ -37,9 +38,14 @@ class Round:
         self.ours, self.theirs = (self.own_columns(self.changed(columns, key, pool), key) for _ in range(2))
         self.write(base=self.base, ours=self.ours, theirs=self.theirs)
 
+    def begin(self, program, rng, folder, style=None):
+        self.program, self.rng, self.folder, self.stdin = program, rng, folder, None
+        # On which line of each file its first row begins, the form of all files, and whether all forms of reports are looked at.
+        self.first_lines, self.style, self.is_whole = {}, style, style is not None
+
     def write(self, **tables):
         for name, table in tables.items():
-            text, starts = written(table.lines(self.has_header), self.delimiter, self.rng)
+            text, starts = written(table.lines(self.has_header), self.delimiter, self.rng, style=self.style)
             self.put(name, text)
             self.first_lines[name] = next(iter(starts), 1)
             if not self.has_header and not table.rows:
@@ -137,10 +143,13 @@ class Round:
         if not self.keeps_order:
             return sorted(keys)
         ours, theirs = ([*dict.fromkeys(tuple(row[name] for name in key) for row in table.rows)] for table in (ours, theirs))
-        placed, there = [*ours], {*ours}
-        for place, it in enumerate(theirs):
-            if it not in there:
-                placed.insert(placed.index(theirs[place - 1]) + 1 if place else 0, it)
+        there, behind, last = {*ours}, {}, None
+        for it in theirs:
+            if it in there:
+                last = it
+            else:
+                behind.setdefault(last, []).append(it)
+        placed = [it for one in [None, *ours] for it in [one, *behind.get(one, [])]][1:]
         return [it for it in placed if it in keys]
 
     def ask(self, *words, options=None):
@@ -230,7 +239,7 @@ class Round:
             self.stop(what, *apart(found, want))
 
     def some_of(self, forms):
-        """Those of the forms that this round looks at: one, or of a table whose size is looked at all."""
+        """Those of the forms that this round looks at: one, or all of tables whose size is what is looked at."""
         return forms if self.is_whole else [self.rng.choice(forms)]
 
     def expect_text(self, what, answer, status, text):

@@ -54,10 +54,16 @@ def told_apart(names):
     return told
 
 
-def written(lines, delimiter, rng, comment=None, skipped=0):
+def some_style(rng):
+    """A form of CSV: whether each cell is in quotes, how lines end, whether blank ones stand between them, and whether a byte order mark
+    stands before all."""
+    return rng.random() < 0.3, rng.choice(["\n", "\n", "\r\n", "\r"]), rng.random() < 0.2, rng.random() < 0.1
+
+
+def written(lines, delimiter, rng, comment=None, skipped=0, style=None):
     """Lines of cells as CSV in one of its forms, perhaps with notes between them and so many lines before them, and on which line of the
     text each begins."""
-    quotes_all, end, blanks = rng.random() < 0.3, rng.choice(["\n", "\n", "\r\n", "\r"]), rng.random() < 0.2
+    quotes_all, end, blanks, has_mark = style or some_style(rng)
     special = {'"', "\r", "\n", delimiter, comment}
 
     def cell(text, is_alone):
@@ -67,7 +73,7 @@ def written(lines, delimiter, rng, comment=None, skipped=0):
         return text
 
     top = "".join(rng.choice(["", "a title", 'a "quote', "a\0b", delimiter * 3]) + end for _ in range(skipped))
-    parts, starts = ["\xef\xbb\xbf" * (rng.random() < 0.1), top], []
+    parts, starts = [MARK * has_mark, top], []
     line = 1 + len(LINE_END.findall(top))
     for cells in lines:
         blank = end * rng.randint(1, 3) if blanks and rng.random() < 0.3 else ""
