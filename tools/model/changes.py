@@ -82,9 +82,14 @@ class Changes:
         self.expect_report(words, "table", report, has_colour=self.rng.random() < 0.3)
         for form in self.some_of(FORMS):
             self.expect_report(words, form, report)
-            self.expect_report(words, form, report, is_summary=True)
+            if form in ("table", "json") or not self.is_whole:
+                self.expect_report(words, form, report, is_summary=True)
             if form != "json":
-                self.expect_report(words, form, report, limit=self.rng.choice([0, 1, 2, 3, max(0, len(told) - 1), len(told), 10**9]))
+                self.expect_report(words, form, report, limit=self.some_limit(len(told)))
+
+    def some_limit(self, count):
+        """How many rows to show of so many."""
+        return count - count // 20 if self.is_whole else self.rng.choice([0, 1, 2, 3, max(0, count - 1), count, 10**9])
 
     def told(self, key, rest, same):
         """The rows that changed: what became of each, its key, and its cells before and after."""

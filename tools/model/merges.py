@@ -51,7 +51,7 @@ class Merges:
             said = [name for name in rest if name in gone and any(dict(zip(rest, row))[name] for it in lost for row in it[2])]
             said = [f"column {named(name)} goes, and has cells in these rows" for name in said]
             why = {"base": "conflict", "ours": "conflict", "theirs": "conflict", "merged": "lost"}
-            for form in self.some_of(FORMS):
+            for form in self.some_of(FORMS[:2] if by_cell and self.is_large else FORMS):
                 self.expect_stopped(words, form, said, key, rest, [*stuck, *lost], why)
             if gone or not stuck:
                 return self.expect_stopped([*words, "--conflicts", "marks"], "table", said, key, rest, [*stuck, *lost], why)

@@ -1,5 +1,6 @@
 """Reports as pages of HTML and as Markdown, read back into the cells that they show."""
 import re
+from html import unescape
 from html.parser import HTMLParser
 
 
@@ -44,6 +45,34 @@ class Page(HTMLParser):
             self.paragraphs[-1] += text
         elif text.strip() and place not in ("title", "style"):
             raise ValueError(f"a text {text!r} in {place}")
+
+
+class QuickPage(Page):
+    """The same of a page of a hundred thousand lines, which the parser of the library would take long for: a tag stands between < and >."""
+
+    TOKEN = re.compile(r"<(/?)([a-z]+)(?: ([^<>]*))?>|([^<>]+)")
+    NAME = re.compile(r'([a-z]+)="[^"]*"')
+
+    def feed(self, text):
+        if not text.startswith("<!DOCTYPE html>\n"):
+            raise ValueError("no page of HTML")
+        end = len("<!DOCTYPE html>\n")
+        for found in self.TOKEN.finditer(text, end):
+            closing, tag, attributes, between = found.groups()
+            if found.start() != end:
+                raise ValueError(f"a mark that is one: {text[end:][:100]!r}")
+            end = found.end()
+            if between:
+                self.handle_data(unescape(between) if "&" in between else between)
+            elif closing:
+                self.handle_endtag(tag)
+            else:
+                self.handle_starttag(tag, [(it, "") for it in self.NAME.findall(attributes or "")])
+        if end != len(text):
+            raise ValueError(f"a mark that is one: {text[end:][:100]!r}")
+
+    def close(self):
+        pass
 
 
 class Markdown:

@@ -1,6 +1,6 @@
 """What a report says in each of its forms."""
 from model.cells import lined_up, named, pairs, shown
-from model.pages import Markdown, Page
+from model.pages import Markdown, Page, QuickPage
 
 FORMS = ["table", "json", "markdown", "html"]
 
@@ -40,11 +40,14 @@ class Reports:
             page = Markdown(text)
             want = report["said"], [heading] * bool(rows) + [self.line_of_both(*it, report["is_same"], tuple) for it in rows], [*more, counts]
             return self.same(" ".join(words), (page.items, page.lines, page.paragraphs), want)
-        page, empty = Page(text), [""] * len(key)
+        page, empty = self.page_of(text), [""] * len(key)
         sides = [*map(shown, rest)] * 2
         want = [["", *map(shown, key), *["old", "new"] * bool(rest)], ["", *empty, *sides]] * bool(rows)
         want = want[:2] + [self.line_side_by_side(*it, report["is_same"]) for it in rows]
         self.same(" ".join(words), (page.paragraphs, page.lines), ([*report["said"], *more, counts], want))
+
+    def page_of(self, text):
+        return QuickPage(text) if self.is_whole else Page(text)
 
     @staticmethod
     def line_of_both(word, under, row, other, is_same, joined=" -> ".join):
@@ -85,6 +88,6 @@ class Reports:
             lines += none if rows is None else [[word, *map(shown, under), *map(shown, row)] for row in rows]
         if form == "table":
             return self.same(" ".join(words), text, "".join(f"{it}\n" for it in said) + lined_up(lines))
-        page = Markdown(text) if form == "markdown" else Page(text)
+        page = Markdown(text) if form == "markdown" else self.page_of(text)
         found = page.items if form == "markdown" else page.paragraphs
         self.same(" ".join(words), (found, page.lines), (said, lines))
