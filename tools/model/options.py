@@ -86,8 +86,9 @@ class Options:
         found = self.ask_again(*words, "--no-heading")
         if whole[0] == 2 or whole[0] == 1 and words[0] == "apply" or whole[0] == 1 and words[0] == "merge" and not self.is_marked(whole):
             return self.alike(words, whole, ["--no-heading"], [], found)
-        wanted = self.rows_of(whole)[self.has_header :]
-        found_rows = self.rows_of((0, found[1].removeprefix(MARK.encode("latin-1"))))
+        # What has lost its names stands behind other CSV, where a mark is a cell's; with no names a mark begins the text of both.
+        texts = [whole[1], b"names\n" + found[1]] if self.has_header else [it[1].removeprefix(MARK.encode("latin-1")) for it in (whole, found)]
+        wanted, found_rows = (self.rows_of((0, it))[self.has_header :] for it in texts)
         if (found[0], found[2]) != (whole[0], whole[2]) or found_rows != wanted:
             self.stop(" ".join(words) + " --no-heading", f"status {found[0]}, not {whole[0]}, {found[2]}", *apart_of(found_rows, wanted))
 
