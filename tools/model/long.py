@@ -65,7 +65,19 @@ class Long:
         looked_up = lambda n: both(n) if n != 2 else "@002,2,\n"
         self.expect(["lookup", "base", "ours"], 0, sides("id,left.v,right.v\n", looked_up))
         self.expect(["overlay", "theirs", "risen", "--keep-order"], 0, self.overlaid(text, ours, head, blocks))
+        self.expect(["merge", "base", "ours", "theirs", "--keep-order"], 0, text(merged, {2}, True))
+        self.check_json(ours, blocks)
         self.check_cut(base, ours, head, blocks)
+
+    def check_json(self, ours, blocks):
+        """The same joins as JSON, a line each, and the changes."""
+        right = lambda n: f',"right":{{"v":"{ours(n).split(",")[1].split()[0]}"}}' if n != 2 else ""
+        line = lambda n: f'{{"key":{{"id":"@{n:03}"}},"left":{{"v":"{n % 7}"}}{right(n)}}}\n'
+        self.expect(["join", "base", "ours", "--kind", "inner", "--format", "json"], 0, of_blocks("", piece(line, {2}), blocks))
+        self.expect(["lookup", "base", "ours", "--format", "json"], 0, of_blocks("", piece(line), blocks))
+        changes = '{"change":"changed","key":{"id":"@001"},"old":{"v":"1"},"new":{"v":"x"}}\n'
+        changes += '{"change":"removed","key":{"id":"@002"},"old":{"v":"2"}}\n{"change":"added","key":{"id":"@998+"},"new":{"v":"new"}}\n'
+        self.expect(["diff", "base", "ours", "--format", "json"], 1, of_blocks("", changes, blocks))
 
     @staticmethod
     def overlaid(text, ours, head, blocks):
@@ -75,12 +87,16 @@ class Long:
 
     def check_cut(self, base, ours, head, blocks):
         """Parts of both tables, which are the tables, one after the other."""
-        self.expect(["cut", "base", "ours", "--into", "parts", "--parts", "5"], 0, b"")
-        for side, line, left_out in (("left", base, ()), ("right", ours, {2})):
-            parts = [it.read_bytes() for it in sorted((self.folder / "parts").glob(f"{side}.*.csv"))]
-            rows = sorted(b"".join(it.removeprefix(head.encode()) for it in parts).splitlines())
-            if len(parts) != 5 or rows != sorted(of_blocks("", piece(line, left_out), blocks).splitlines()):
-                sys.exit(f"cut of long tables: {len(parts)} parts of {side} with {len(rows)} rows in all")
+        # A row is reckoned with 240 bytes, its key and an end of nine, and twice its other cell and an end.
+        memory = 2 * blocks * BLOCK * (240 + 9 + 2 * 2) // 3
+        for into, where, count in (("parts", ["--parts", "5"], 5), ("by memory", ["--memory", str(memory)], 4)):
+            self.expect(["cut", "base", "ours", "--into", into, *where], 0, b"")
+            for side, line, left_out in (("left", base, ()), ("right", ours, {2})):
+                parts = [it.read_bytes() for it in sorted((self.folder / into).glob(f"{side}.*.csv"))]
+                rows = sorted(b"".join(it.removeprefix(head.encode()) for it in parts).splitlines())
+                if len(parts) != count or rows != sorted(of_blocks("", piece(line, left_out), blocks).splitlines()):
+                    sys.exit(f"cut of long tables: {len(parts)} parts of {side} with {len(rows)} rows in all")
+            shutil.rmtree(self.folder / into)
 
 
 def check_long(program, place, count):
