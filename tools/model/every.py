@@ -34,5 +34,6 @@ class EveryCheck(Round, Reports, Changes, Merges, Joins, Options, Faults):
         self.check_lines_above()
         self.check_heading()
         self.check_quiet()
+        self.check_lenient()
         self.check_marks_of_git()
         self.check_fault()

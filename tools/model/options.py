@@ -1,4 +1,5 @@
 """What options are to do that change nothing of what a command says: how files are written, and where the answer goes."""
+import re
 import subprocess
 
 from model.cells import MARK
@@ -102,6 +103,28 @@ class Options:
         if words[0] in ("diff", "apply", "merge"):
             whole = self.ask(*words)
             self.alike(words, (whole[0], b"", whole[2]), ["-q"], [], self.ask_again(*words, "-q"))
+
+    def check_lenient(self):
+        """A quote that quotes no cell of its line is a byte: cells are what an expression finds from one delimiter to the next."""
+        other = re.escape(self.delimiter)
+        cell = re.compile(f'"((?:[^"]|"")*)"(?={other}|$)|([^{other}]*)')
+        pieces = ["a", "", '"', 'a"b', '"open', '"a"b', '"q""q"', f'"x{self.delimiter}y"', '" "', '"a" ', '""', '"""', '"a""', f'"{self.delimiter}', 'a""']
+        lines, rows, end = [self.delimiter.join("knm")], [], self.rng.choice(["\n", "\r\n", "\r"])
+        for number in range(self.rng.randint(0, 8)):
+            line, cells, place = self.delimiter.join([str(number), self.rng.choice(pieces), self.rng.choice(pieces)]), [], 0
+            while place <= len(line):
+                found = cell.match(line, place)
+                cells.append(found[2] if found[1] is None else found[1].replace('""', '"'))
+                place = found.end() + 1
+            if len(cells) == 3:
+                lines.append(line)
+                rows.append(cells)
+        self.put("lenient", MARK * (self.rng.random() < 0.2) + end.join(lines) + end * (self.rng.random() < 0.8))
+        self.put("nothing", "")
+        self.stdin = None
+        found = self.ask_again("join", "lenient", "nothing", "--kind", "anti", options=["--delimiter", self.delimiter, "--lenient"])
+        if (found[0], found[2]) != (0, b"") or self.rows_of(found) != [[*"knm"], *rows]:
+            self.stop("--lenient", f"status {found[0]}, {found[2]}", *apart_of(self.rows_of(found), [[*"knm"], *rows]))
 
     def check_marks_of_git(self):
         """Rows in conflict stand between marks where git has them, whose merge of lines knows no tables: those that changed are apart."""
