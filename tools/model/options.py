@@ -3,7 +3,7 @@ import re
 import subprocess
 
 from model.cells import MARK
-from model.tables import line_ends, written
+from model.tables import line_ends, style_of, written
 
 DELIMITERS = [",", ";", "\t", "|", ":", "\x01"]
 MANY_LINES = 9
@@ -32,7 +32,9 @@ class Options:
     def check_delimiters(self):
         """The second file with a delimiter of its own, by an option or by its name, gives what it gives with that of the first."""
         words = self.some_command()
-        if words[0] in ("merge", "overlay") or not self.has_keys(self.columns_of(self.base, self.ours)[1], self.base, self.ours):
+        if words[0] in ("merge", "overlay"):
+            return self.check_delimiter_by_name(words)
+        if not self.has_keys(self.columns_of(self.base, self.ours)[1], self.base, self.ours):
             return
         whole = self.ask(*words)
         if whole[0] == 2:
@@ -51,6 +53,27 @@ class Options:
         self.stdin = None
         self.alike(words, whole, [name], options, self.ask_again(*words, options=options))
         (self.folder / name).unlink()
+
+    def check_delimiter_by_name(self, words):
+        """One of several files with tabs, as its name says, among others with commas."""
+        whole = self.ask(*words)
+        if self.delimiter != "," or whole[0] == 2:
+            return
+        name = self.rng.choice([it for it in words[2:] if it in ("ours", "theirs")])
+        ending = self.rng.choice([".tsv", ".tab"])
+        self.put(name + ending, written(getattr(self, name).lines(self.has_header), "\t", self.rng, style=self.style_like(name))[0])
+        self.stdin = None
+        words = self.with_files(words, {name: name + ending})
+        # What is written has the commas of the first file, and the style of the one that it had it from.
+        found = self.ask_again(*words, options=self.options[2:])
+        if (found[0], found[2]) != (whole[0], whole[2]) or self.rows_of(found) != self.rows_of(whole):
+            self.alike(words, whole, [name + ending], self.options[2:], found)
+        (self.folder / (name + ending)).unlink()
+
+    def style_like(self, name):
+        """The form of a file, as far as what is written has it: where ours is the file, its rows are written so."""
+        has_mark, end, has_quotes = style_of((self.folder / name).read_bytes().decode("latin-1"), self.delimiter)
+        return has_quotes, end, False, has_mark
 
     def check_lines_above(self):
         """Files with lines at their top, each with an end of its own, and with notes give what they give without them."""
@@ -87,9 +110,10 @@ class Options:
         found = self.ask_again(*words, "--no-heading")
         if whole[0] == 2 or whole[0] == 1 and words[0] == "apply" or whole[0] == 1 and words[0] == "merge" and not self.is_marked(whole):
             return self.alike(words, whole, ["--no-heading"], [], found)
-        # What has lost its names stands behind other CSV, where a mark is a cell's; with no names a mark begins the text of both.
-        texts = [whole[1], b"names\n" + found[1]] if self.has_header else [it[1].removeprefix(MARK.encode("latin-1")) for it in (whole, found)]
-        wanted, found_rows = (self.rows_of((0, it))[self.has_header :] for it in texts)
+        # A mark stands before the first row: it goes with the names, and the cells of a row behind them may begin as it does.
+        mark = MARK.encode("latin-1")
+        bare = lambda answer: self.rows_of((0, answer[1].removeprefix(mark)))
+        wanted, found_rows = bare(whole)[self.has_header :], self.rows_of(found) if self.has_header else bare(found)
         if (found[0], found[2]) != (whole[0], whole[2]) or found_rows != wanted:
             self.stop(" ".join(words) + " --no-heading", f"status {found[0]}, not {whole[0]}, {found[2]}", *apart_of(found_rows, wanted))
 
