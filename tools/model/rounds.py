@@ -32,8 +32,8 @@ class Round:
                 self.options += ["--key", as_record(named)]
         self.options += ["--group"] * self.repeats + ["--keep-order"] * self.keeps_order + ["--no-header"] * (not self.has_header)
         key, pool = self.named or columns[:1], rng.sample(CELLS, rng.randint(1, 8))
-        # What cells are that stand beside a key.
-        self.cells = NUMBERS if rng.random() < 0.2 else CELLS
+        # What cells are that stand beside a key: of all shapes, numbers, or few numbers in many ways, so that versions differ and are the same.
+        self.cells = rng.choice([NUMBERS, NUMBERS[1:8], NUMBERS[1:14]]) if rng.random() < 0.3 else CELLS
         self.base = self.table(columns, key, pool)
         self.ours, self.theirs = (self.own_columns(self.changed(columns, key, pool), key) for _ in range(2))
         self.write(base=self.base, ours=self.ours, theirs=self.theirs)
