@@ -13,7 +13,7 @@ class Faults:
     def expect_fault(self, words, file, why, options=None, may_print=False):
         """One line that names the file, and status 2."""
         status, printed, said = self.ask(*words, options=options)
-        file = "-" if file and file == self.stdin else str(self.folder / file) if (self.folder / file).is_file() else file
+        file = "-" if file and file == self.stdin else str(self.folder / file) if self.is_file(file) else file
         want = f"keyed: {file}: {why}\n".encode() if file else f"keyed: {why}\n".encode()
         if status != 2 or said != want or printed and not may_print:
             self.stop(" ".join(words), f"status {status}, printed {printed[:80]}", f"said {said}", f"want {want}")

@@ -154,17 +154,21 @@ class Round:
 
     def ask(self, *words, options=None):
         """The status of a run, what it printed and what it said, perhaps with the standard input in the place of a file."""
-        files = [it for it in words if (self.folder / it).is_file()]
+        files = [it for it in words if self.is_file(it)]
         self.stdin = self.rng.choice(files) if files and self.rng.random() < 0.3 else None
         if words.count(self.stdin) > 1:
             self.stdin = None
         return self.ask_again(*words, options=options)
 
+    def is_file(self, word):
+        """Whether a word is a file of this round. No name of one is as long as that of a column may be."""
+        return len(word) < 100 and (self.folder / word).is_file()
+
     def ask_again(self, *words, options=None):
         """The same, with the standard input in the place of the file that it had last, or of none. Now and then the answer goes into a file."""
         options = self.options if options is None else options
         target = self.some_target(words) if self.rng.random() < 0.1 else None
-        files = [it for it in words if (self.folder / it).is_file()]
+        files = [it for it in words if self.is_file(it)]
         said = ["-" if it == self.stdin else str(self.folder / it) if it in files else it for it in words]
         given = (self.folder / self.stdin).read_bytes() if self.stdin else b""
         if not target:
@@ -191,7 +195,7 @@ class Round:
         """A file that the answer of a command goes into: a new one, one that is there, or one that it reads."""
         if words[:1] not in {(it,) for it in ("diff", "apply", "merge", "join", "lookup", "overlay")} or {"-q", "--quiet", "--no-heading"} & {*words}:
             return None
-        read = [self.folder / it for it in words[1:] if (self.folder / it).is_file() and it != self.stdin]
+        read = [self.folder / it for it in words[1:] if self.is_file(it) and it != self.stdin]
         target = self.rng.choice([self.folder / "out", *read])
         if target.name == "out" and self.rng.random() < 0.5:
             target.write_bytes(b"as it was")
@@ -247,7 +251,8 @@ class Round:
             self.stop(what, f"status {answer[0]}, not {status}, {answer[2]}", *apart(answer[1].decode(), text))
 
     def stop(self, what, *lines):
-        print(f"{what} with {self.options}, - for {self.stdin}, of {self.folder}", *lines, sep="\n    ")
+        lines = [it if len(it) < 5000 else it[:5000] + " .." for it in map(str, lines)]
+        print(f"{what[:1000]} with {self.options}, - for {self.stdin}, of {self.folder}", *lines, sep="\n    ")
         sys.exit(1)
 
     @staticmethod
