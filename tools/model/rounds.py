@@ -63,6 +63,9 @@ class Round:
             if self.repeats or under not in seen:
                 seen.add(under)
                 rows.append({**{name: self.rng.choice(self.cells) for name in columns}, **dict(zip(key, under))})
+            if self.repeats and rows and self.rng.random() < 0.2:
+                # The same row again, which has a place of its own.
+                rows.append(dict(self.rng.choice(rows)))
         return Table(columns, rows)
 
     def changed(self, columns, key, pool):
@@ -222,8 +225,10 @@ class Round:
         quoted = re.fullmatch(f"(?:(?:{QUOTED}(?:{re.escape(self.delimiter)}{QUOTED})*{bare}){end})*", body)
         if text.startswith(MARK) != has_mark or {*line_ends(body)} - {end} or has_quotes and not quoted:
             self.stop(what, f"not written as {like}: {text[:200]!r}")
-        if answer[0] != status or found != want or answer[2]:
-            self.stop(what, f"status {answer[0]}, not {status}, {answer[2]}", *apart(found, want))
+        # A mark is a line of its own, in no quotes, whatever the style is.
+        bare_marks = [it for it in marks if len(re.findall(f"(?m)^{re.escape(it)}\r?$", body)) != rows.count(it)]
+        if answer[0] != status or found != want or answer[2] or bare_marks:
+            self.stop(what, f"status {answer[0]}, not {status}, {answer[2]}, {bare_marks}", *apart(found, want))
 
     def expect_objects(self, words, status, objects, options=None):
         """An object of JSON a line."""
