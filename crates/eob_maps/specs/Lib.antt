@@ -1,0 +1,2 @@
+-- The words of maps that are merged.
+pub mod Merges

@@ -1,0 +1,2 @@
+-- The words of counts and sums.
+pub mod Sums
