@@ -10,6 +10,7 @@ pub mod copies;
 pub mod ends;
 pub mod items;
 pub mod joins;
+pub mod maps;
 pub mod missing_facts;
 pub mod order_and_text;
 pub mod rows;
