@@ -1,7 +1,9 @@
 //! Two ordered maps as one: the inner, the left and the full join, and a map laid over another.
 ghost use Rattle.std.specs.Prelude.{◌≡◌, IfOk, option_map};
 ghost use Rattle.std.specs.BTreeMap.{get};
+ghost use Rattle.std.specs.Map.{update_all};
 ghost use Rattle.std.specs.Option.{option_or, option_zip};
+ghost use Rattle.std.specs.Ordering.{eq_by_cmp};
 ghost use Rattle.eob_lists.specs.Places.{from_places};
 
 use crate::entries::{into_map, into_rows};
@@ -103,7 +105,7 @@ pub fn full_join_maps<K: Ord + Drop, A: Drop, B: Drop, M: Allocator + Copy>(
 
 /// Returns a map laid over another, such as the user's settings over the site's: under each key the value of `over`, and where it has
 /// none that of `base`. Layers of any number are laid one over the other by as many calls; where the layer of each value is wanted too,
-/// `eob_joins::overlay_maps` has it. Takes an insert into `base` for each entry of `over`, and memory from the allocator of `base`.
+/// `eob_joins::overlay_maps` has it. Takes an insert into `base` for each entry of `over`.
 ///
 /// # Errors
 ///
@@ -114,18 +116,34 @@ pub fn full_join_maps<K: Ord + Drop, A: Drop, B: Drop, M: Allocator + Copy>(
 /// ```
 /// let site = BTreeMap::from_array(alloc, [("depth", 3), ("port", 80)])?;
 /// let user = BTreeMap::from_array(alloc, [("port", 8080)])?;
-/// let settings = overlay_maps(site, user)?;
+/// let settings = overlay_maps(alloc, site, user)?;
 /// assert_eq!(rt; (settings.get(&"depth"), settings.get(&"port")), (Some(&3), Some(&8080)));
 /// ```
 pub fn overlay_maps<K: Ord + Drop, V: Drop, M: Allocator + Copy>(
+    alloc: M,
     base: BTreeMap<K, V, M>,
     over: BTreeMap<K, V, M>,
 ) -> Result<BTreeMap<K, V, M>, AllocError>
     ensures { IfOk result (λ map. (k : _) → get K.cmp map k
         ≡ option_or (get K.cmp over k) (get K.cmp base k)) }
 {
+    let rows = into_rows(alloc, over)?;
+    let map = put_rows(base, rows)?;
+    Ok(map)
+}
+
+// Puts rows into a map one by one: where `append` goes on when a request for memory is refused, this stops.
+fn put_rows<K: Ord + Drop, V: Drop, M: Allocator + Copy>(
+    base: BTreeMap<K, V, M>,
+    rows: Vec<(K, V), M>,
+) -> Result<BTreeMap<K, V, M>, AllocError>
+    ensures { IfOk result (λ map. (k : _) → get K.cmp map k
+        ≡ update_all (eq_by_cmp K.cmp) (get K.cmp base) rows.items k) }
+{
     let mut map = base;
-    let mut over = over;
-    map.append(&mut over)?;
+    for row in rows {
+        let (key, value) = row;
+        map.insert(key, value)?;
+    }
     Ok(map)
 }

@@ -5,11 +5,12 @@ ghost use Rattle.std.specs.BTreeMap.{get};
 ghost use Rattle.either_or_both.specs.Prelude.{IfOk, option_or};
 
 use eob_maps::overlay_maps;
-use std::alloc::AllocError;
+use std::alloc::{AllocError, Global};
 use std::collections::BTreeMap;
 
 /// The values that hold.
 pub fn profile<K: Ord + Drop, V: Drop>(
+    alloc: Global,
     defaults: BTreeMap<K, V>,
     team: BTreeMap<K, V>,
     user: BTreeMap<K, V>,
@@ -17,7 +18,7 @@ pub fn profile<K: Ord + Drop, V: Drop>(
     ensures { IfOk result (λ all. (k : _) → get K.cmp all k
         ≡ option_or (get K.cmp user k) (option_or (get K.cmp team k) (get K.cmp defaults k))) }
 {
-    let shared = overlay_maps(defaults, team)?;
-    let all = overlay_maps(shared, user)?;
+    let shared = overlay_maps(alloc, defaults, team)?;
+    let all = overlay_maps(alloc, shared, user)?;
     Ok(all)
 }

@@ -1,15 +1,18 @@
-use Rattle.std.proofs.Common.{◌∙◌, refl}
+use Rattle.std.proofs.Common.{◌≡◌, ◌∙◌, ap, refl}
 use Rattle.std.specs.BTreeMap.{get}
-use Rattle.std.specs.Map.{keys_of}
+use Rattle.std.specs.Option.{option_or}
 use Rattle.std.specs.Ordering.{eq_by_cmp}
 use Rattle.std.proofs.lemmas.Cmp.{eq_by_cmp_equiv}
-use Rattle.std.proofs.lemmas.Map.Keys.{IsDistinct-from_sorted}
 use Rattle.std.proofs.lemmas.Map.Made.{update_all_distinct}
+use Rattle.eob_lists.specs.Join.{value_under}
+use Rattle.eob_lists.proofs.RisingLemmas.{rising_keys}
 use Rattle.eob_maps.proofs.joins.overlay_maps.Goals as goal
 
 pub returns : goal.returns
 returns g c k =
     let cmp = g.K.Ord.cmp in
-    let es = c.args.over.entries in
-    let done = c.in_ok-append.ensures in
-    done.inserts_all.0 k ∙ update_all_distinct (eq_by_cmp_equiv g.met.K.Ord.total) (eq_by_cmp cmp) (λ x y. refl) (get cmp c.args.base) es k (IsDistinct-from_sorted cmp (keys_of es) done.other_was_ordered)
+    let total = g.met.K.Ord.total in
+    let rows = c.in_ok-rows.rows.items in
+    c.in_ok-map.ensures k
+    ∙ update_all_distinct (eq_by_cmp_equiv total) (eq_by_cmp cmp) (λ x y. refl) (get cmp c.args.base) rows k (rising_keys cmp total g.row.V.Denot rows c.in_ok-rows.ensures.rises).1
+    ∙ ap (λ l. option_or (value_under cmp l k) (get cmp c.args.base k)) c.in_ok-rows.ensures.entries
