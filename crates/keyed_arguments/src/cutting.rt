@@ -1,8 +1,9 @@
 //! What the words of a command line ask for where tables are cut.
 
 use crate::form::form_of;
+use crate::help::example_of;
 use crate::progress::put_progress;
-use crate::{FLAGS, ParseError, TEXTS, TEXTS_OF_TWO, file_of, flag, put, text};
+use crate::{FLAGS, KEY, ParseError, TEXTS, TEXTS_OF_TWO, file_of, flag, put, put_texts, text};
 use clap::{Arg, ArgMatches, Command};
 use keyed_cut::{Cut, CutTables, Divided, LEAST_PARTS, MOST_PARTS, Second};
 use keyed_files::{Layout, key_names};
@@ -20,15 +21,12 @@ pub fn put_cut<'a>(alloc: Global, commands: &mut Vec<Command<'a>>) -> Result<(),
 fn cut_command<'a>(alloc: Global) -> Result<Command<'a>, AllocError> {
     let mut args = Vec::new(alloc);
     put_files(alloc, &mut args)?;
+    put_texts(alloc, &mut args, &KEY)?;
     put_parts(alloc, &mut args)?;
     let changes = "The second table has changes, as diff --format csv prints them";
     put(&mut args, flag(alloc, "changes", changes))?;
-    for (name, value, help) in &TEXTS {
-        put(&mut args, text(alloc, name, value, help))?;
-    }
-    for (name, value, help) in &TEXTS_OF_TWO {
-        put(&mut args, text(alloc, name, value, help))?;
-    }
+    put_texts(alloc, &mut args, &TEXTS)?;
+    put_texts(alloc, &mut args, &TEXTS_OF_TWO)?;
     for (name, help) in &FLAGS {
         if has_flag(name) {
             put(&mut args, flag(alloc, name, help))?;
@@ -37,7 +35,10 @@ fn cut_command<'a>(alloc: Global) -> Result<Command<'a>, AllocError> {
     put_progress(alloc, &mut args)?;
     let about = "Cuts tables into parts by ranges of their keys. \
          Status 0: cut, 1: a part takes more memory than asked for, 2: trouble.";
-    Command::new(alloc, "cut").about(about).args(args)
+    Command::new(alloc, "cut")
+        .about(about)
+        .after_help(example_of("cut"))
+        .args(args)
 }
 
 // Whether a cut has a flag of the other commands: rows of parts stand as in their file, and keys may repeat in any case.

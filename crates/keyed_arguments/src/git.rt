@@ -1,8 +1,11 @@
 //! The commands that git calls, and the one that prints how it is told of them.
 
 use crate::form::files_of;
+use crate::help::example_of;
 use crate::view::colours_of;
-use crate::{COLOR, FLAGS, ParseError, TEXTS, choice, file_of, flag, put, settings_of, text};
+use crate::{
+    COLOR, FLAGS, KEY, ParseError, TEXTS, choice, file_of, flag, put, put_texts, settings_of,
+};
 use clap::{Arg, ArgMatches, Command};
 use keyed_files::{
     Asked, Colours, Comparing, Format, GitDiff, GitMerge, Look, Merging, Request, Settings,
@@ -81,15 +84,17 @@ fn git_command<'a>(alloc: Global, command: &GitCommand) -> Result<Command<'a>, A
     if name == "git-diff" {
         put(&mut args, choice(alloc, COLOR))?;
     }
-    for (name, value, help) in &TEXTS {
-        put(&mut args, text(alloc, name, value, help))?;
-    }
+    put_texts(alloc, &mut args, &KEY)?;
+    put_texts(alloc, &mut args, &TEXTS)?;
     for (name, help) in &FLAGS {
         if *name != "keep-order" {
             put(&mut args, flag(alloc, name, help))?;
         }
     }
-    Command::new(alloc, name).about(about).args(args)
+    Command::new(alloc, name)
+        .about(about)
+        .after_help(example_of(name))
+        .args(args)
 }
 
 /// What a command for git asks for, if it is one. The words are all of the command line.

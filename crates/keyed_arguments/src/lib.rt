@@ -4,6 +4,7 @@
 mod cutting;
 mod form;
 mod git;
+mod help;
 mod merging;
 mod more;
 mod numbers;
@@ -16,6 +17,7 @@ use clap::{Arg, ArgAction, ArgMatches};
 use cutting::{cut_of, put_cut};
 use form::{files_of, form_of};
 use git::{git_asked, put_git_commands};
+use help::{example_of, group_of};
 use keyed_cut::Cut;
 use keyed_files::{
     Asked, Colours, Command, Comparing, Format, JoinNames, Joining, Kind, Look, Reason, Request,
@@ -454,18 +456,23 @@ static COMMANDS: [Below<'static>; 6] = [
 // What stands for the files of which there may be several.
 const OVERS: &str = "OVER";
 
-// The options of all commands that take a text: the name of each, what stands for the text in the help, and its help.
-static TEXTS: [(&str, &str, &str); 4] = [
-    (
-        "key",
-        "COLUMN[,COLUMN..]",
-        "The columns that are the key, as a record of CSV; the first column else; \
-         LEFT=RIGHT where a column has two names",
-    ),
+// An option that takes a text: its name, what stands for the text in the help, and its help.
+type Text = (&'static str, &'static str, &'static str);
+
+// The option of all commands that comes first.
+static KEY: [Text; 1] = [(
+    "key",
+    "COLUMN[,COLUMN..]",
+    "The columns of the key, comma-separated [default: the first column]; \
+     LEFT=RIGHT where a column has two names",
+)];
+
+// The other options of all commands that take a text.
+static TEXTS: [Text; 3] = [
     (
         "delimiter",
         "BYTE",
-        "The byte between cells, or tab; a tab else in files named .tsv or .tab, and a comma in others",
+        "The byte between cells, as \";\", or tab [default: a tab in .tsv and .tab files, else a comma]",
     ),
     (
         "comment",
@@ -480,7 +487,7 @@ static TEXTS: [(&str, &str, &str); 4] = [
 ];
 
 // Those of commands that take two files.
-static TEXTS_OF_TWO: [(&str, &str, &str); 2] = [
+static TEXTS_OF_TWO: [Text; 2] = [
     (
         "left-delimiter",
         "BYTE",
@@ -539,7 +546,10 @@ fn subcommands<'a>(alloc: Global) -> Result<Vec<clap::Command<'a>>, AllocError> 
 fn subcommand<'a>(alloc: Global, below: &Below<'a>) -> Result<clap::Command<'a>, AllocError> {
     let (name, about, files) = *below;
     let args = args_of(alloc, name, files)?;
-    clap::Command::new(alloc, name).about(about).args(args)
+    clap::Command::new(alloc, name)
+        .about(about)
+        .after_help(example_of(name))
+        .args(args)
 }
 
 // What a command takes: its files, its own options, and the settings of all.
@@ -552,6 +562,7 @@ fn args_of<'a>(
     for file in files {
         put(&mut args, file_arg(alloc, file.0, file.1))?;
     }
+    put_texts(alloc, &mut args, &KEY)?;
     put_options(alloc, &mut args, name)?;
     put_settings(alloc, &mut args, name)?;
     Ok(args)
@@ -664,7 +675,7 @@ const REPORT: OneOf = OneOf {
     name: "format",
     shown: "FORM",
     words: &["table", "json", "markdown", "html"],
-    help: "How rows are told for which there is no table, as rows in conflict",
+    help: "Format of the report where there is no table, as of rows in conflict",
 };
 
 const ROWS: OneOf = OneOf {
@@ -697,8 +708,7 @@ const LOOKUP_KIND: OneOf = OneOf {
 };
 
 fn choice<'a>(alloc: Global, of: OneOf) -> Arg<'a> {
-    Arg::new(alloc, of.name)
-        .long(of.name)
+    grouped(Arg::new(alloc, of.name).long(of.name), of.name)
         .value_name(of.shown)
         .value_parser(of.words)
         .default_value(of.words.first().copied().unwrap_or(""))
@@ -709,7 +719,7 @@ fn sorted<'a>(alloc: Global) -> Result<Arg<'a>, AllocError> {
     let sorted = flag(
         alloc,
         "sorted",
-        "The keys of both tables rise: they are joined as they are read, in memory that does not grow",
+        "Both files are sorted by key: rows are joined as they are read, in memory that does not grow",
     );
     sorted.conflicts_with("group")?.conflicts_with("keep-order")
 }
@@ -720,13 +730,9 @@ fn put_settings<'a>(
     args: &mut Vec<Arg<'a>>,
     command: &str,
 ) -> Result<(), AllocError> {
-    for (name, value, help) in &TEXTS {
-        put(args, text(alloc, name, value, help))?;
-    }
+    put_texts(alloc, args, &TEXTS)?;
     if command != "merge" && command != "overlay" {
-        for (name, value, help) in &TEXTS_OF_TWO {
-            put(args, text(alloc, name, value, help))?;
-        }
+        put_texts(alloc, args, &TEXTS_OF_TWO)?;
     }
     for (name, help) in &FLAGS {
         if has_flag(command, name) {
@@ -735,6 +741,18 @@ fn put_settings<'a>(
     }
     put_output(alloc, args)?;
     put_progress(alloc, args)
+}
+
+// Puts options that take a text.
+fn put_texts(
+    alloc: Global,
+    args: &mut Vec<Arg<'_>>,
+    texts: &'static [Text],
+) -> Result<(), AllocError> {
+    for (name, value, help) in texts {
+        put(args, text(alloc, name, value, help))?;
+    }
+    Ok(())
 }
 
 // Whether a command has a flag. The rows of a look-up stand as in the left table, whose keys may repeat.
@@ -762,9 +780,17 @@ fn flag<'a>(alloc: Global, name: &'a str, help: &'a str) -> Arg<'a> {
 
 // An option by its name, and by its letter if it has one.
 fn option<'a>(alloc: Global, name: &'a str) -> Arg<'a> {
-    let option = Arg::new(alloc, name).long(name);
+    let option = grouped(Arg::new(alloc, name).long(name), name);
     match letter_of(name) {
         Some(letter) => option.short(letter),
+        None => option,
+    }
+}
+
+// An option in its group, if it stands in one.
+fn grouped<'a>(option: Arg<'a>, name: &str) -> Arg<'a> {
+    match group_of(name) {
+        Some(group) => option.help_heading(group),
         None => option,
     }
 }

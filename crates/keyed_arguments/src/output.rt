@@ -1,6 +1,6 @@
 //! The options for the file that an answer goes into, and for an answer that stands behind another.
 
-use crate::{Heading, ParseError, flag, put};
+use crate::{Heading, ParseError, flag, option, put};
 use clap::{Arg, ArgMatches};
 use std::alloc::{AllocError, Global};
 
@@ -38,13 +38,9 @@ pub fn heading_of(matches: &ArgMatches<'_>) -> Heading {
 ///
 /// Returns `AllocError` if a request for memory was refused.
 pub fn put_output(alloc: Global, args: &mut Vec<Arg<'_>>) -> Result<(), AllocError> {
-    let output = Arg::new(alloc, "output")
-        .short('o')
-        .long("output")
-        .value_name("FILE")
-        .help(
-            "The file that the answer goes into, once it is whole; it may be one of those that are read",
-        );
+    let output = option(alloc, "output").short('o').value_name("FILE").help(
+        "The file that the answer goes into, once it is whole; it may be one of those that are read",
+    );
     put(args, output)?;
     let no_heading = "CSV has no names of columns, so that it can stand behind other CSV";
     let no_heading = flag(alloc, "no-heading", no_heading).conflicts_with("output")?;

@@ -21,7 +21,7 @@ static PARTS: [(&str, &str, &str); 3] = [
     (
         "limit",
         "N",
-        "So many rows at most, and how many more there are; counts are of all",
+        "Show at most N rows, and how many more there are; counts are of all",
     ),
 ];
 
