@@ -133,7 +133,7 @@ fn maps_end_where_memory_is_refused(rt: HostRuntime) -> Result<(), Fail> {
                 None => refused = number,
             }
         }
-        assert!(rt; refused > 0 && refused + 1 < RUNS);
+        assert!(rt; refused > 0 && refused < RUNS - 1);
     }
     Ok(())
 }
