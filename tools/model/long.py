@@ -4,6 +4,7 @@ import shutil
 import subprocess
 import sys
 import time
+from pathlib import Path
 
 BLOCK = 1000
 
@@ -102,5 +103,5 @@ class Long:
 def check_long(program, place, count):
     folder = place / "long"
     folder.mkdir()
-    Long(shutil.which(program) if "/" not in program else str(place.joinpath(program).resolve()), folder).check(count)
+    Long(shutil.which(program) if "/" not in program else str(Path(program).resolve()), folder).check(count)
     shutil.rmtree(folder)
