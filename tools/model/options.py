@@ -85,6 +85,9 @@ class Options:
         for name in {*words} & {"base", "ours", "theirs", "changes"}:
             text = (self.folder / name).read_bytes().decode("latin-1")
             body = text.removeprefix(MARK)
+            if not body.strip("\r\n"):
+                # With no row, the end of the lines at the top would be that of the last line.
+                return
             # The first line of a file says how its lines end, also where it is passed over.
             ends = [self.rng.choice(["\n", "\r\n", "\r"]) for _ in range(skipped)]
             ends[0] = "\r\n" if line_ends(body)[:1] == ["\r\n"] else self.rng.choice(["\n", "\r"])
