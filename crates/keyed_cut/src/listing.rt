@@ -4,7 +4,9 @@ use crate::fault::{CutFault, CutReason};
 use crate::request::MOST_PARTS;
 use crate::sinks::Counts;
 use crate::tables::columns_under;
-use keyed_files::{Content, Delimiter, Form, Opened, Places, Reading, Reason, Source, Stream, at};
+use keyed_files::{
+    Content, Delimiter, Form, Opened, Places, Reading, Reason, Source, Stream, Writing, at,
+};
 use keyed_parts::Boundaries;
 use keyed_rows::{Cells, Key};
 use keyed_text::{Marks, RowWriter};
@@ -25,6 +27,7 @@ const FORM: Form = Form {
     delimiter: Delimiter::COMMA,
     has_header: true,
     reading: Reading::STRICT,
+    writing: Writing::PLAIN,
 };
 
 /// The text of the file: a row for each part, with its number, the rows and bytes of each table, and the key that it begins at.

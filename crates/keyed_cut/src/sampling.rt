@@ -24,7 +24,7 @@ const MOST_BYTES: u64 = 16_000_000;
 // What a row takes in memory beside its cells, in the commands and here.
 const ROW: u64 = 240;
 
-const SAMPLED: u64 = 80;
+const SAMPLED: u64 = 88;
 
 /// How many bytes of memory a command takes for a row, about: what its key takes once, and what its other cells take twice. All its cells
 /// take so many bytes, of which the key has its own.
