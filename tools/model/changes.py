@@ -82,14 +82,16 @@ class Changes:
         self.expect_report(words, "table", report, has_colour=self.rng.random() < 0.3)
         for form in self.some_of(FORMS):
             self.expect_report(words, form, report)
-            if form in ("table", "json") or not self.is_whole:
+            if form in ("table", "json"):
                 self.expect_report(words, form, report, is_summary=True)
             if form != "json":
-                self.expect_report(words, form, report, limit=self.some_limit(len(told)))
+                self.expect_report(words, form, report, limit=self.some_limit(len(told), form))
 
-    def some_limit(self, count):
-        """How many rows to show of so many."""
-        return count - count // 20 if self.is_whole else self.rng.choice([0, 1, 2, 3, max(0, count - 1), count, 10**9])
+    def some_limit(self, count, form):
+        """How many rows to show of so many. Of many rows a table has most, as text, and a page some more than a thousand, as it is read long."""
+        if self.is_whole:
+            return count - count // 100 if form == "table" else min(count - count // 20, 1100)
+        return self.rng.choice([0, 1, 2, 3, max(0, count - 1), count, 10**9])
 
     def told(self, key, rest, same):
         """The rows that changed: what became of each, its key, and its cells before and after."""

@@ -6,6 +6,8 @@ import sys
 import time
 from pathlib import Path
 
+from model.cells import lined_up
+
 BLOCK = 1000
 
 
@@ -18,6 +20,12 @@ def of_blocks(head, piece, blocks, falls=False):
 def piece(line, left_out=()):
     """The rows of a block, by number."""
     return "".join(line(n) for n in range(BLOCK) if n not in left_out)
+
+
+def amount(text):
+    """How many rows a text has, and a number that is that of no others in whatever order: the sum of what Python makes of each."""
+    rows = text.splitlines()
+    return len(rows), sum(map(hash, rows))
 
 
 class Long:
@@ -55,7 +63,8 @@ class Long:
         outer = lambda n: (f"both,{both(n)}" if n != 2 else "left,@002,2,\n") + "right,@998+,,new\n" * (n == 998)
         sides = lambda head, line: of_blocks(head, piece(line), blocks)
         self.expect(["diff", "base", "ours", "--format", "csv"], 1, changed)
-        self.expect(["diff", "base", "ours", "--summary"], 1, counts)
+        columns = lined_up([["column", "rows", "times", "change"], ["v", str(blocks), str(blocks), "1 -> x"]])
+        self.expect(["diff", "base", "ours", "--summary"], 1, columns.encode() + counts)
         self.expect(["diff", "base", "risen", "--sorted", "--format", "csv"], 1, changed, counts)
         self.expect(["apply", "base", "changes"], 0, text(ours, {2}))
         self.expect(["merge", "base", "ours", "theirs"], 0, text(merged, {2}))
@@ -76,7 +85,7 @@ class Long:
         line = lambda n: f'{{"key":{{"id":"@{n:03}"}},"left":{{"v":"{n % 7}"}}{right(n)}}}\n'
         self.expect(["join", "base", "ours", "--kind", "inner", "--format", "json"], 0, of_blocks("", piece(line, {2}), blocks))
         self.expect(["lookup", "base", "ours", "--format", "json"], 0, of_blocks("", piece(line), blocks))
-        changes = '{"change":"changed","key":{"id":"@001"},"old":{"v":"1"},"new":{"v":"x"}}\n'
+        changes = '{"change":"changed","key":{"id":"@001"},"changed":["v"],"old":{"v":"1"},"new":{"v":"x"}}\n'
         changes += '{"change":"removed","key":{"id":"@002"},"old":{"v":"2"}}\n{"change":"added","key":{"id":"@998+"},"new":{"v":"new"}}\n'
         self.expect(["diff", "base", "ours", "--format", "json"], 1, of_blocks("", changes, blocks))
 
@@ -90,13 +99,14 @@ class Long:
         """Parts of both tables, which are the tables, one after the other."""
         # A row is reckoned with 240 bytes, its key and an end of nine, and twice its other cell and an end.
         memory = 2 * blocks * BLOCK * (240 + 9 + 2 * 2) // 3
+        sides = {side: amount(of_blocks("", piece(line, left_out), blocks)) for side, line, left_out in (("left", base, ()), ("right", ours, {2}))}
         for into, where, count in (("parts", ["--parts", "5"], 5), ("by memory", ["--memory", str(memory)], 4)):
             self.expect(["cut", "base", "ours", "--into", into, *where], 0, b"")
-            for side, line, left_out in (("left", base, ()), ("right", ours, {2})):
+            for side, (rows, told) in sides.items():
                 parts = [it.read_bytes() for it in sorted((self.folder / into).glob(f"{side}.*.csv"))]
-                rows = sorted(b"".join(it.removeprefix(head.encode()) for it in parts).splitlines())
-                if len(parts) != count or rows != sorted(of_blocks("", piece(line, left_out), blocks).splitlines()):
-                    sys.exit(f"cut of long tables: {len(parts)} parts of {side} with {len(rows)} rows in all")
+                found = amount(b"".join(it.removeprefix(head.encode()) for it in parts))
+                if len(parts) != count or found != (rows, told):
+                    sys.exit(f"cut of long tables: {len(parts)} parts of {side} with {found[0]} rows in all")
             shutil.rmtree(self.folder / into)
 
 

@@ -92,7 +92,7 @@ class Options:
             ends = [self.rng.choice(["\n", "\r\n", "\r"]) for _ in range(skipped)]
             ends[0] = "\r\n" if line_ends(body)[:1] == ["\r\n"] else self.rng.choice(["\n", "\r"])
             top = "".join(self.rng.choice(["a title", '"', 'a "quote', "a\0b", '""', self.delimiter]) + it for it in ends)
-            note = self.rng.choice(["", '%% a "note\n', "%\r\n"])
+            note = self.rng.choice(["", '%% a "note\n', "%\r\n", "%\r"])
             # A line feed behind a return is one end with it.
             body = body.lstrip("\r\n") if ends[-1] == "\r" or note else body
             mark = MARK * text.startswith(MARK)

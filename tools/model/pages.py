@@ -48,16 +48,29 @@ class Page(HTMLParser):
 
 
 class QuickPage(Page):
-    """The same of a page of a hundred thousand lines, which the parser of the library would take long for: a tag stands between < and >."""
+    """The same of a page of a hundred thousand lines, which the parser of the library would take long for: a tag stands between < and >, and
+    most lines are a row of the table."""
 
     TOKEN = re.compile(r"<(/?)([a-z]+)(?: ([^<>]*))?>|([^<>]+)")
     NAME = re.compile(r'([a-z]+)="[^"]*"')
+    ROW = re.compile(r'<tr(?: class="[a-z]+")?>(?:<(t[dh])>(?:<(del|ins)>[^<>]+</\2>|[^<>]*)</\1>)+</tr>')
+    CELL = re.compile(r"<t[dh]>(?:<(del|ins)>([^<>]*)</(?:del|ins)>|([^<>]*))</t[dh]>")
 
     def feed(self, text):
         if not text.startswith("<!DOCTYPE html>\n"):
             raise ValueError("no page of HTML")
-        end = len("<!DOCTYPE html>\n")
-        for found in self.TOKEN.finditer(text, end):
+        lines = text.split("\n")
+        for line in lines[1:-1]:
+            if self.within[-1:] == ["tbody"] and self.ROW.fullmatch(line):
+                plain = unescape if "&" in line else str
+                self.lines.append([(mark, plain(marked)) if mark else plain(bare) for mark, marked, bare in self.CELL.findall(line)])
+            else:
+                self.feed_tags(line + "\n")
+        self.feed_tags(lines[-1])
+
+    def feed_tags(self, text):
+        end = 0
+        for found in self.TOKEN.finditer(text):
             closing, tag, attributes, between = found.groups()
             if found.start() != end:
                 raise ValueError(f"a mark that is one: {text[end:][:100]!r}")
@@ -79,12 +92,18 @@ class Markdown:
     """The items of the list of a page of Markdown, the lines of its table, each with its cells as text, and the lines behind it. A cell of
     two versions, the old one struck through and the new one in bold, is a pair. A mark that stands there bare is a fault."""
 
+    CELLS = re.compile(r"([^\\|]*(?:\\.[^\\|]*)*)\|", re.S)
+    BESIDE = re.compile(r"[^\\|]+|\\.", re.S)
+    PAIR = re.compile(r" ~~([^\\~*]*(?:\\.[^\\~*]*)*)~~ \*\*([^\\~*]*(?:\\.[^\\~*]*)*)\*\* ", re.S)
+    ESCAPED = re.compile(r"\\([!-/:-@\[-`{-~])")
+    MARK = re.compile(r"[\\`*_~|<>&\[\]()#!@]")
+
     def __init__(self, text):
         self.items, self.lines, self.paragraphs = [], [], []
         for line in text.split("\n"):
             if line.startswith("|"):
-                self.lines.append([self.read(it) for it in re.findall(r"([^\\|]*(?:\\.[^\\|]*)*)\|", line[1:], re.S)])
-                if re.sub(r"[^\\|]+|\\.", "", line, flags=re.S)[-1:] != "|" or not line.endswith("|"):
+                self.lines.append([self.read(it) for it in self.CELLS.findall(line, 1)])
+                if not line.endswith("|") or "\\" in line and self.BESIDE.sub("", line)[-1:] != "|":
                     raise ValueError(f"a line with no end: {line!r}")
             elif line.startswith("- "):
                 self.items.append(self.plain(line[2:]))
@@ -94,16 +113,18 @@ class Markdown:
             raise ValueError("no line below the names of the columns")
 
     def read(self, cell):
-        pair = re.fullmatch(r" ~~([^\\~*]*(?:\\.[^\\~*]*)*)~~ \*\*([^\\~*]*(?:\\.[^\\~*]*)*)\*\* ", cell, re.S)
+        pair = self.PAIR.fullmatch(cell) if cell.startswith(" ~~") else None
         if pair:
             return tuple(map(self.plain, pair.groups()))
         # One space stands on each side of a cell, and none where there is none but its end.
         return self.plain(cell[1:-1] if cell.startswith(" ") and len(cell) > 1 else cell.strip())
 
-    @staticmethod
-    def plain(text):
+    @classmethod
+    def plain(cls, text):
         """A text without the backslashes before its marks, of which each has one."""
-        bare = re.sub(r"\\[!-/:-@\[-`{-~]", "", text)
-        if re.search(r"[\\`*_~|<>&\[\]()#!@]", bare):
+        if not cls.MARK.search(text):
+            return text
+        bare = cls.ESCAPED.sub("", text)
+        if cls.MARK.search(bare):
             raise ValueError(f"a mark that is one: {text!r}")
-        return re.sub(r"\\([!-/:-@\[-`{-~])", r"\1", text)
+        return cls.ESCAPED.sub(r"\1", text)

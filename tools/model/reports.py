@@ -1,5 +1,7 @@
 """What a report says in each of its forms."""
-from model.cells import lined_up, named, pairs, shown
+from collections import Counter
+
+from model.cells import as_json, lined_up, named, pairs, shown
 from model.pages import Markdown, Page, QuickPage
 
 FORMS = ["table", "json", "markdown", "html"]
@@ -29,6 +31,10 @@ class Reports:
             self.stop(" ".join(words), f"status {answer[0]}, not {report['status']}, {answer[2]}")
         text = answer[1].decode()
         heading = ["", *map(shown, key), *map(shown, rest)]
+        if form == "table" and is_summary:
+            grid = self.lines_of_columns(report)
+            want = "".join(f"{it}\n" for it in report["said"]) + lined_up(grid) + f"{counts}\n"
+            return self.same(" ".join(words), text, want)
         if form == "table":
             grid = [heading] * bool(rows) + [self.line_of_both(*it, report["is_same"]) for it in rows]
             want = "".join(f"{it}\n" for it in report["said"]) + lined_up(grid, has_colour) + "".join(f"{it}\n" for it in [*more, counts])
@@ -61,14 +67,37 @@ class Reports:
         return [word, *map(shown, under), *(none if word == "added" else side("del", row, other)), *(none if word == "removed" else side("ins", other, row))]
 
     @staticmethod
+    def lines_of_columns(report):
+        """The lines of a summary: one for each change that is told of a column, of which the first has its name."""
+        lines = []
+        for name, count, changes in Reports.columns_that_changed(report):
+            told = [[str(times), f"{named(a)} -> {named(b)}"] for (a, b), times in changes]
+            lines += [[named(name), str(count), *told[0]], *(["", "", *it] for it in told[1:])]
+        return [["column", "rows", "times", "change"]] * bool(lines) + lines
+
+    @staticmethod
+    def columns_that_changed(report):
+        """The columns in which rows changed: the name of each, how many rows did, and its three commonest changes, with how often each is there."""
+        rows = [it[2:] for it in report["told"] if it[0] == "changed"]
+        found = []
+        for place, name in enumerate(report["rest"]):
+            changes = Counter((row[place], other[place]) for row, other in rows if not report["is_same"](row[place], other[place]))
+            if changes:
+                found.append((name, sum(changes.values()), sorted(changes.items(), key=lambda it: (-it[1], it[0]))[:3]))
+        return found
+
+    @staticmethod
     def objects(report, rows, is_summary):
         lone = [("added", report["lone"][0]), ("removed", report["lone"][1])]
         if is_summary:
-            return [[*report["counts"].items(), ("columns", lone)]]
+            change = lambda a, b, times: [("old", as_json(a)), ("new", as_json(b)), ("rows", times)]
+            column = lambda name, count, changes: [("column", as_json(name)), ("rows", count), ("changes", [change(*it, times) for it, times in changes])]
+            return [*(column(*it) for it in Reports.columns_that_changed(report)), [*report["counts"].items(), ("columns", lone)]]
         objects = [[("columns", lone)]] if any(report["lone"]) else []
         for word, under, row, other in rows:
             sides = [("old", pairs(report["rest"], row))] * (word != "added") + [("new", pairs(report["rest"], other))] * (word != "removed")
-            objects.append([("change", word), ("key", pairs(report["key"], under)), *sides])
+            names = [as_json(name) for name, a, b in zip(report["rest"], row, other) if not report["is_same"](a, b)]
+            objects.append([("change", word), ("key", pairs(report["key"], under)), *[("changed", names)] * (word == "changed"), *sides])
         return objects
 
     def expect_stopped(self, words, form, said, key, rest, versions, why):

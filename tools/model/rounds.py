@@ -12,6 +12,8 @@ from model.tables import Table, as_record, line_ends, style_of, written
 
 # A cell may have any length.
 csv.field_size_limit(1 << 30)
+# One for all lines, of which there are millions.
+OBJECTS = json.JSONDecoder(object_pairs_hook=list)
 
 
 class Round:
@@ -241,7 +243,7 @@ class Round:
     def objects_of(text):
         """The objects of JSON on the lines of a text."""
         lines = text.split("\n")
-        return [json.loads(line, object_pairs_hook=list) for line in lines[:-1]] + ["no line end"] * bool(lines[-1])
+        return [*map(OBJECTS.decode, lines[:-1])] + ["no line end"] * bool(lines[-1])
 
     def same(self, what, found, want):
         if found != want:

@@ -7,6 +7,9 @@ from functools import lru_cache
 
 from model.cells import LINE_END, MARK, QUOTED
 
+# From so many rows on a table keeps what was found of it.
+MANY = 10_000
+
 
 def as_record(names, others=None):
     """The names as one record of CSV, as --key takes them, with those that they have in the other tables."""
@@ -23,6 +26,8 @@ class Table:
 
     def __init__(self, columns, rows):
         self.columns, self.rows = columns, rows
+        # What was found of many rows, which stay as they are once they are asked for.
+        self.found = {}
 
     def under(self, columns):
         return Table(columns, [{name: row.get(name, "") for name in columns} for row in self.rows])
@@ -32,14 +37,28 @@ class Table:
 
     def in_place(self, key, rest):
         """The rows by key, as they stand in the table; a cell of a column that is not there is empty."""
+        if len(self.rows) < MANY:
+            return self.read_in_place(key, rest)
+        asked = "in place", *key, None, *rest
+        if asked not in self.found:
+            self.found[asked] = self.read_in_place(key, rest)
+        return self.found[asked]
+
+    def read_in_place(self, key, rest):
         found = {}
         for row in self.rows:
-            found.setdefault(tuple(row[name] for name in key), []).append(tuple(row.get(name, "") for name in rest))
+            found.setdefault(tuple([row[name] for name in key]), []).append(tuple([row.get(name, "") for name in rest]))
         return found
 
     def groups(self, key, rest):
         """The same, those under a key in the order of their cells."""
-        return {it: sorted(rows) for it, rows in self.in_place(key, rest).items()}
+        made = lambda: {it: sorted(rows) for it, rows in self.in_place(key, rest).items()}
+        if len(self.rows) < MANY:
+            return made()
+        asked = "groups", *key, None, *rest
+        if asked not in self.found:
+            self.found[asked] = made()
+        return self.found[asked]
 
 
 def told_apart(names):

@@ -10,6 +10,7 @@ use Rattle.eob_lists.specs.Join.{IsJoin, Rising, value_under}
 use Rattle.eob_lists.proofs.MergeLemmas.{IsJoin-merge, Up, merge}
 use Rattle.eob_joins.specs.Changes.{applied}
 use Rattle.eob_joins.specs.Tables.{IsKeptOfJoin, kept}
+use Rattle.keyed_files.specs.AnswerForm.{in_style}
 use Rattle.keyed_files.specs.ChangedColumns.{AreChangedColumns, changed_names}
 use Rattle.keyed_files.specs.ColumnNames.{column_names, is_beside, place_under_key}
 use Rattle.keyed_files.specs.Going.{names_going}
@@ -37,9 +38,9 @@ use Rattle.keyed_commands.specs.AppliedTexts.{AppliesTexts}
 use Rattle.keyed_commands.specs.ChangesRead.{SaysChanges, come_by, come_rows, gone_by, gone_rows, signed_parts, signed_under}
 use Rattle.keyed_commands.specs.declared.answers.Answer.{Answer}
 use Rattle.keyed_commands.proofs.AnswerLemmas.{key_exact, key_total}
-use Rattle.command_callers.specs.Answered.{IsTableInStyle}
+use Rattle.command_callers.specs.Answered.{IsInStyle}
 use Rattle.command_callers.proofs.KnownJoins.{joined, kept_joined, value_has}
-use Rattle.command_callers.proofs.KnownMerge.{loses_by, styled_loss, styled_report, styled_table}
+use Rattle.command_callers.proofs.KnownMerge.{loses_by, styled_loss, styled_table}
 use Rattle.command_callers.proofs.KnownRows.{alone_rise, gathered}
 use Rattle.command_callers.proofs.KnownTables.{IsKnown, IsPlain, KeyedRows, header_is, names_are, plain_key, rows_by, table_is, table_text}
 
@@ -223,9 +224,7 @@ module _ {settings : Settings} {old_form changes_form : Form} {old_text changes_
     -- where changes do not fit, the answer is a report
     pub apply_stops : (AllFit key_cmp (map alone old) (merge key_cmp (map alone gone) (map alone come)) → ⊥) → Stops answer
     apply_stops misfit =
-        styled_report a.applied.made answer
-        (a.applied.applied.misfits (λ all. misfit (subst (λ t. AllFit key_cmp t changes) old_table (subst (λ c. AllFit key_cmp a.old c) changes_table all))))
-        a.applied.styled
+        a.applied.applied.misfits (λ all. misfit (subst (λ t. AllFit key_cmp t changes) old_table (subst (λ c. AllFit key_cmp a.old c) changes_table all)))
 
     -- each change is from the rows that the table has under its key
     module _ (fit : AllByRecursion (λ z. left_place z.1 ≡ value_under key_cmp (map alone old) z.0) (merge key_cmp (map alone gone) (map alone come))) where
@@ -235,7 +234,7 @@ module _ {settings : Settings} {old_form changes_form : Form} {old_text changes_
           (subst (λ t. AllFit key_cmp t changes) (sym old_table)
           (value_has key_cmp key_total key_exact (λ k change. left_place change ≡ value_under key_cmp (map alone old) k) changes fit))
 
-      told : AnswersTable settings.form a.columns a.applied.keys a.applied.by_cells applied_rows a.applied.made
+      told : AnswersTable (in_style a.applied.style settings.form) a.columns a.applied.keys a.applied.by_cells applied_rows answer
       told =
           let patched = a.applied.applied.fits all_fit in
           let rises : Rising key_cmp changes =
@@ -243,16 +242,16 @@ module _ {settings : Settings} {old_form changes_form : Form} {old_text changes_
           let are : patched.0 ≡ applied_rows =
           kept_joined key_cmp key_total key_exact (map alone old) changes (alone_rise key_cmp key_total old old_up) rises applied patched.0
           (subst (λ t. IsKeptOfJoin key_cmp applied t changes patched.0) old_table (subst (λ c. IsKeptOfJoin key_cmp applied a.old c patched.0) changes_table patched.1)) in
-          subst (λ r. AnswersTable settings.form a.columns a.applied.keys a.applied.by_cells r a.applied.made) are patched.2
+          subst (λ r. AnswersTable (in_style a.applied.style settings.form) a.columns a.applied.keys a.applied.by_cells r answer) are patched.2
 
       -- where they fit, it is the table that they make
-      pub apply_whole : loses_by order rest applied_rows ≡ false → IsTableInStyle (table_text settings.form order key rest applied_rows) answer
+      pub apply_whole : loses_by order rest applied_rows ≡ false → IsInStyle (λ s. table_text (in_style s settings.form) order key rest applied_rows) answer
       apply_whole none =
-          styled_table settings.form a.columns a.applied.keys a.applied.by_cells applied_rows a.applied.made answer order key rest
-          columns_known.order columns_known.key columns_known.rest (a.applied.order plain.order) none told a.applied.styled
+          styled_table a.applied.style settings.form a.columns a.applied.keys a.applied.by_cells applied_rows answer order key rest
+          columns_known.order columns_known.key columns_known.rest (a.applied.order plain.order) none told
 
       -- unless a cell would be lost with a column that goes: then it is a report
       pub apply_loses : loses_by order rest applied_rows ≡ true → Stops answer
       apply_loses some =
-          styled_loss settings.form a.columns a.applied.keys a.applied.by_cells applied_rows a.applied.made answer order rest
-          columns_known.order columns_known.rest some told a.applied.styled
+          styled_loss (in_style a.applied.style settings.form) a.columns a.applied.keys a.applied.by_cells applied_rows answer order rest
+          columns_known.order columns_known.rest some told

@@ -9,6 +9,7 @@ use Rattle.eob_lists.specs.Join.{Rising, value_under}
 use Rattle.eob_lists.proofs.MergeLemmas.{IsJoin-merge, Up, merge}
 use Rattle.eob_joins.specs.Tables.{kept}
 use Rattle.eob_joins.proofs.TableLemmas.{kept_law, retabled, same_table}
+use Rattle.keyed_files.specs.AnswerForm.{in_style}
 use Rattle.keyed_files.specs.ColumnNames.{HaveNames, column_names, is_beside, place_under_key}
 use Rattle.keyed_files.specs.Keys.{AreColumnsBy, first_name}
 use Rattle.keyed_files.specs.Opening.{form_of, text_of_stream}
@@ -26,7 +27,7 @@ use Rattle.keyed_commands.specs.OverlayAnswers.{AreLaidOver, AreNamed, OverlaidI
 use Rattle.keyed_commands.specs.TablesRead.{AreNames, SaysTable}
 use Rattle.keyed_commands.specs.declared.answers.Answer.{Answer}
 use Rattle.keyed_commands.proofs.AnswerLemmas.{key_exact, key_total}
-use Rattle.command_callers.specs.Answered.{IsTableInStyle}
+use Rattle.command_callers.specs.Answered.{IsInStyle}
 use Rattle.command_callers.proofs.KnownRows.{alone_rise}
 use Rattle.command_callers.proofs.KnownTables.{IsKnown, IsPlain, KeyedRows, columns_are, header_is, plain_names, rows_by, table_is, table_text, table_text_is}
 
@@ -162,16 +163,16 @@ module _ {settings : Settings} {layer : Layer} {below_form above_form : Form} {b
       (subst (λ t. AreLaidOver layer [] (o.below.rows ∷ t ∷ []) o.overlaid.rows) above_table o.overlaid.laid))
 
   -- the answer is the table of the rows of both, one over the other
-  pub overlay_whole : IsTableInStyle (table_text settings.form (overlay_order below_fields above_fields) key rest (laid_table layer (map alone below) (map alone above))) answer
+  pub overlay_whole : IsInStyle (λ s. table_text (in_style s settings.form) (overlay_order below_fields above_fields) key rest (laid_table layer (map alone below) (map alone above))) answer
   overlay_whole =
       let told = o.overlaid.answers in
+      let form = in_style told.style settings.form in
       record {
-        made = told.made;
+        style = told.style;
         bytes =
-            table_text_is settings.form o.columns o.overlaid.keys o.overlaid.by_cells o.overlaid.rows told.made.bytes.items
+            table_text_is form o.columns o.overlaid.keys o.overlaid.by_cells o.overlaid.rows answer.bytes.items
             (overlay_order below_fields above_fields) key rest columns_known.order columns_known.key columns_known.rest (o.overlaid.order plain.order) told.text
-            ∙ ap (table_text settings.form (overlay_order below_fields above_fields) key rest) rows_known;
-        styled = told.styled;
+            ∙ ap (table_text form (overlay_order below_fields above_fields) key rest) rows_known;
         status = told.status;
         outcome = told.outcome;
       }

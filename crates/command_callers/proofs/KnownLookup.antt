@@ -1,14 +1,17 @@
 -- What `lookup` writes of two texts that are known.
-use Rattle.std.proofs.Common.{◌≡◌, ◌∙◌, ◌++◌, ℕ, List, [], ◌∷◌, true, flat_map, map, Option, None, Some, ap, refl, subst}
+use Rattle.std.proofs.Common.{◌≡◌, ◌∙◌, ◌++◌, ℕ, List, [], ◌∷◌, true, flat_map, map, Option, None, Some, ap, refl, subst, sym}
 use Rattle.std.specs.Prelude.{if◌then◌else◌, unwrap_or}
 use Rattle.std.specs.List.{AllByRecursion}
 use Rattle.std.specs.Map.{lookup}
+use Rattle.keyed_text.specs.Texts.{text_by, writer_in}
+use Rattle.keyed_text.specs.declared.style.Style.{Style}
+use Rattle.keyed_files.specs.AnswerForm.{writes_heading}
 use Rattle.keyed_files.specs.ColumnNames.{HaveNames, place_under_key}
 use Rattle.keyed_files.specs.JoinedNames.{found_names, told_apart}
 use Rattle.keyed_files.specs.JoinedRows.{join_heading}
 use Rattle.keyed_files.specs.Reading.{parts_of}
 use Rattle.keyed_files.specs.Rows.{placed}
-use Rattle.keyed_files.specs.Writing.{comment_of, delimiter_of, quoted_text}
+use Rattle.keyed_files.specs.Writing.{comment_of, delimiter_of, quoted_first, quoted_text}
 use Rattle.keyed_files.specs.declared.columns.JoinColumns.{JoinColumns}
 use Rattle.keyed_files.specs.declared.columns.Place.{Place}
 use Rattle.keyed_files.specs.declared.lookups.Finding.{Finding}
@@ -19,6 +22,7 @@ use Rattle.keyed_files.specs.declared.request.JoinNames.{JoinNames}
 use Rattle.keyed_files.specs.declared.request.Layout.{Layout}
 use Rattle.keyed_commands.specs.JoinAnswers.{heading_of_join}
 use Rattle.keyed_commands.specs.LookupAnswers.{AppendsRows, LooksUpTexts, key_eq, lookup_rows, rows_of}
+use Rattle.command_callers.specs.Answered.{plainly}
 use Rattle.command_callers.proofs.KnownJoinText.{left_columns, left_rest, right_columns, right_rest, side_key, side_names}
 use Rattle.command_callers.proofs.KnownTables.{IsKnown, KeyedRows, read_header, read_rows, rows_by}
 use Rattle.command_callers.proofs.WrittenParts.{IsUnmarked, written_parts}
@@ -141,10 +145,15 @@ module _ {layout : Layout} {how : Finding} {left_form right_form : Form} {left_t
       subst (λ n. AppendsRows layout.form (heading_of_join layout.form n ++ known_rows) (Some old) (Some new)) names_known
       (subst (λ r. AppendsRows layout.form (heading_of_join layout.form (found_names how.kind how.names l.columns) ++ r) (Some old) (Some new)) rows_known l.written)
 
-  -- and as one text, where none of them begins as a byte order mark
-  pub adds_text : layout.form.has_header ≡ true → AllByRecursion (IsUnmarked (delimiter_of layout.form) (comment_of layout.form)) known_rows
+  -- and as one text, where they are written plainly and none of them begins as a byte order mark
+  pub adds_text : writes_heading layout.form ≡ true → layout.form.writing.style ≡ plainly
+      → AllByRecursion (IsUnmarked (delimiter_of layout.form) (comment_of layout.form)) known_rows
       → new ≡ old ++ quoted_text layout.form (join_heading known_names ++ known_rows)
-  adds_text has unmarked =
+  adds_text has styled unmarked =
       let parts : AppendsRows layout.form (join_heading known_names ++ known_rows) (Some old) (Some new) =
       subst (λ b. AppendsRows layout.form ((if b then join_heading known_names else []) ++ known_rows) (Some old) (Some new)) has adds_rows in
-      parts.2 ∙ ap (λ t. old ++ t) (written_parts (delimiter_of layout.form) (comment_of layout.form) known_names known_rows parts.0 parts.1 unmarked)
+      let d = delimiter_of layout.form in
+      let given : Style → List (List (List ℕ)) → List ℕ = λ style rows. quoted_first d (text_by (writer_in style d (comment_of layout.form)) rows) in
+      let P : Style → Type 0 = λ style. new ≡ old ++ flat_map (given style) parts.0 → new ≡ old ++ given style (join_heading known_names ++ known_rows) in
+      let plain : P plainly = λ appended. appended ∙ ap (λ t. old ++ t) (written_parts d (comment_of layout.form) known_names known_rows parts.0 parts.1 unmarked) in
+      subst P (sym styled) plain parts.2

@@ -7,6 +7,8 @@ use Rattle.eob_lists.proofs.MergeLemmas.{Up}
 use Rattle.eob_joins.specs.Settled.{Became, BecameOf, stuck_row}
 use Rattle.eob_joins.specs.Tables.{Tabulates, kept}
 use Rattle.eob_joins.specs.Versions.{clashes, merged, merged_place}
+use Rattle.keyed_text.specs.declared.style.Style.{Style}
+use Rattle.keyed_files.specs.AnswerForm.{in_style}
 use Rattle.keyed_files.specs.ChangedColumns.{AreMergedColumns, names_merged}
 use Rattle.keyed_files.specs.ColumnNames.{column_names, is_beside, or_header, place_under_key}
 use Rattle.keyed_files.specs.Keys.{AreMergedColumnsBy, first_name}
@@ -20,13 +22,12 @@ use Rattle.keyed_files.specs.declared.request.Settings.{Settings}
 use Rattle.keyed_tables.specs.Gathered.{alone}
 use Rattle.keyed_tables.specs.RowsByCell.{GivesRow, can_by_row}
 use Rattle.keyed_commands.specs.Answers.{AnswersTable, HasConflict, HasNoConflict, HasNoneStuck, HasStuck, IsTableText, Stops, TableRows, clashes_at, key_cmp, rows_eq, sticks_at}
-use Rattle.keyed_commands.specs.AppliedTexts.{IsInStyle}
 use Rattle.keyed_commands.specs.Lost.{loses}
 use Rattle.keyed_commands.specs.MergedTexts.{AnswersBy, AnswersByCell, AnswersByRow, MergesTexts}
 use Rattle.keyed_commands.specs.declared.answers.Answer.{Answer}
 use Rattle.keyed_commands.specs.declared.answers.Outcome.TheVariants.{Made}
 use Rattle.keyed_commands.proofs.AnswerLemmas.{key_exact, key_total}
-use Rattle.command_callers.specs.Answered.{IsTableInStyle}
+use Rattle.command_callers.specs.Answered.{IsInStyle}
 use Rattle.command_callers.proofs.KnownCells.{gives_once, merged_by_cell, none_stuck, settled_rows}
 use Rattle.command_callers.proofs.KnownJoins.{merged_rows, no_conflict, three}
 use Rattle.command_callers.proofs.KnownRows.{alone_rise}
@@ -37,34 +38,26 @@ abbrev pub loses_by : List Place → (rest : List (List ℕ)) → TableRows → 
 loses_by order rest rows = ltb (length (filter is_rest order)) (length rest) && list_any (λ row. loses_cells (length (filter is_rest order)) row.1) rows
 
 -- an answer with a table of which no cell is lost
-pub styled_table : (form : Form) (columns : Columns) (keys : Option (List (List (List ℕ)))) (by_cells : Bool) (rows : TableRows) (made answer : Answer) (order : List Place) (key rest : List (List ℕ))
+pub styled_table : (style : Style) (form : Form) (columns : Columns) (keys : Option (List (List (List ℕ)))) (by_cells : Bool) (rows : TableRows) (answer : Answer) (order : List Place) (key rest : List (List ℕ))
     → columns.order.items ≡ order → columns.key ≡ key → columns.rest ≡ rest → (keys ≡ None) × (by_cells ≡ true) → loses_by order rest rows ≡ false
-    → AnswersTable form columns keys by_cells rows made → IsInStyle made answer → IsTableInStyle (table_text form order key rest rows) answer
-styled_table form columns keys by_cells rows made answer order key rest eo ek er plainly none h styled =
+    → AnswersTable (in_style style form) columns keys by_cells rows answer → IsInStyle (λ s. table_text (in_style s form) order key rest rows) answer
+styled_table style form columns keys by_cells rows answer order key rest eo ek er plainly none h =
     let keeps : loses columns rows ≡ false = ap (λ o. loses_by o columns.rest rows) eo ∙ ap (λ r. loses_by order r rows) er ∙ none in
-    let told : (made.status ≡ 0) × (made.outcome ≡ Made) × IsTableText form columns keys by_cells rows made.bytes.items =
-    subst (λ b. MatchBool b (Stops made) ((made.status ≡ 0) × (made.outcome ≡ Made) × IsTableText form columns keys by_cells rows made.bytes.items)) keeps h in
+    let told : (answer.status ≡ 0) × (answer.outcome ≡ Made) × IsTableText (in_style style form) columns keys by_cells rows answer.bytes.items =
+    subst (λ b. MatchBool b (Stops answer) ((answer.status ≡ 0) × (answer.outcome ≡ Made) × IsTableText (in_style style form) columns keys by_cells rows answer.bytes.items)) keeps h in
     record {
-      made = made;
-      bytes = table_text_is form columns keys by_cells rows made.bytes.items order key rest eo ek er plainly told.2;
-      styled = styled;
-      status = styled.1.status ∙ told.0;
-      outcome = styled.1.outcome ∙ told.1;
+      style = style;
+      bytes = table_text_is (in_style style form) columns keys by_cells rows answer.bytes.items order key rest eo ek er plainly told.2;
+      status = told.0;
+      outcome = told.1;
     }
 
--- a report is as it was in any style
-pub styled_report : (made answer : Answer) → Stops made → IsInStyle made answer → Stops answer
-styled_report made answer stops styled = subst Stops (sym (styled.1.stopped stops.1)) stops
-
--- and where cells are lost, the answer is one
-pub styled_loss : (form : Form) (columns : Columns) (keys : Option (List (List (List ℕ)))) (by_cells : Bool) (rows : TableRows) (made answer : Answer) (order : List Place) (rest : List (List ℕ))
-    → columns.order.items ≡ order → columns.rest ≡ rest → loses_by order rest rows ≡ true
-    → AnswersTable form columns keys by_cells rows made → IsInStyle made answer → Stops answer
-styled_loss form columns keys by_cells rows made answer order rest eo er some h styled =
+-- and where cells are lost, the answer is a report
+pub styled_loss : (form : Form) (columns : Columns) (keys : Option (List (List (List ℕ)))) (by_cells : Bool) (rows : TableRows) (answer : Answer) (order : List Place) (rest : List (List ℕ))
+    → columns.order.items ≡ order → columns.rest ≡ rest → loses_by order rest rows ≡ true → AnswersTable form columns keys by_cells rows answer → Stops answer
+styled_loss form columns keys by_cells rows answer order rest eo er some h =
     let lost : loses columns rows ≡ true = ap (λ o. loses_by o columns.rest rows) eo ∙ ap (λ r. loses_by order r rows) er ∙ some in
-    styled_report made answer
-    (subst (λ b. MatchBool b (Stops made) ((made.status ≡ 0) × (made.outcome ≡ Made) × IsTableText form columns keys by_cells rows made.bytes.items)) lost h)
-    styled
+    subst (λ b. MatchBool b (Stops answer) ((answer.status ≡ 0) × (answer.outcome ≡ Made) × IsTableText form columns keys by_cells rows answer.bytes.items)) lost h
 
 -- the names of the columns of three versions
 abbrev pub merge_key : (base ours theirs : List (List ℕ)) → List (List ℕ)
@@ -148,8 +141,12 @@ module _ {settings : Settings} {by : Unit} {base_form ours_form theirs_form : Fo
   from_tables P h =
       subst (λ t. P t m.ours m.theirs) (sym base_table) (subst (λ t. P (map alone base) t m.theirs) (sym ours_table) (subst (λ t. P (map alone base) (map alone ours) t) (sym theirs_table) h))
 
-  by_row : by ≡ unit.Row → AnswersByRow settings.form m.columns m.merged.keys m.merged.by_cells m.base m.ours m.theirs m.merged.made
-  by_row is = subst (AnswersBy settings.form m.columns m.merged.keys m.merged.by_cells m.base m.ours m.theirs m.merged.made) is m.merged.merged
+  -- the form that the answer is written in
+  abbrev made_in : Form
+  made_in = in_style m.merged.style settings.form
+
+  by_row : by ≡ unit.Row → AnswersByRow made_in m.columns m.merged.keys m.merged.by_cells m.base m.ours m.theirs answer
+  by_row is = subst (AnswersBy made_in m.columns m.merged.keys m.merged.by_cells m.base m.ours m.theirs answer) is m.merged.merged
 
   base_rises : Rising key_cmp (map alone base)
   base_rises = alone_rise key_cmp key_total base base_up
@@ -165,7 +162,7 @@ module _ {settings : Settings} {by : Unit} {base_form ours_form theirs_form : Fo
 
   -- where no row of the three is in conflict, the answer is the table of the merged rows
   pub merge_whole : by ≡ unit.Row → AllByRecursion (λ z. clashes rows_eq z.1 ≡ false) (three key_cmp (map alone base) (map alone ours) (map alone theirs))
-      → loses_by order rest merged_three ≡ false → IsTableInStyle (table_text settings.form order key rest merged_three) answer
+      → loses_by order rest merged_three ≡ false → IsInStyle (λ s. table_text (in_style s settings.form) order key rest merged_three) answer
   merge_whole is settled none =
       let free : HasNoConflict m.base m.ours m.theirs =
       from_tables HasNoConflict (no_conflict key_cmp key_total key_exact rows_eq (map alone base) (map alone ours) (map alone theirs) base_rises ours_rise theirs_rise settled) in
@@ -173,16 +170,16 @@ module _ {settings : Settings} {by : Unit} {base_form ours_form theirs_form : Fo
       let are : told.0 ≡ merged_three =
       merged_rows key_cmp key_total key_exact rows_eq (map alone base) (map alone ours) (map alone theirs) base_rises ours_rise theirs_rise told.0
       (of_tables (λ b o t. Tabulates key_cmp told.0 (λ k. merged_place rows_eq (value_under key_cmp b k) (value_under key_cmp o k) (value_under key_cmp t k))) told.1) in
-      styled_table settings.form m.columns m.merged.keys m.merged.by_cells merged_three m.merged.made answer order key rest
+      styled_table m.merged.style settings.form m.columns m.merged.keys m.merged.by_cells merged_three answer order key rest
       columns_known.order columns_known.key columns_known.rest (m.merged.order plain.order) none
-      (subst (λ r. AnswersTable settings.form m.columns m.merged.keys m.merged.by_cells r m.merged.made) are told.2) m.merged.styled
+      (subst (λ r. AnswersTable made_in m.columns m.merged.keys m.merged.by_cells r answer) are told.2)
 
   -- and where one is, a report
   pub merge_stops : by ≡ unit.Row → (k : List (List ℕ)) → clashes_at (map alone base) (map alone ours) (map alone theirs) k ≡ true → Stops answer
-  merge_stops is k clash = styled_report m.merged.made answer ((by_row is).conflict (from_tables HasConflict (k, clash))) m.merged.styled
+  merge_stops is k clash = (by_row is).conflict (from_tables HasConflict (k, clash))
 
-  by_cell : by ≡ unit.Cell → AnswersByCell settings.form m.columns m.merged.keys m.merged.by_cells m.base m.ours m.theirs m.merged.made
-  by_cell is = subst (AnswersBy settings.form m.columns m.merged.keys m.merged.by_cells m.base m.ours m.theirs m.merged.made) is m.merged.merged
+  by_cell : by ≡ unit.Cell → AnswersByCell made_in m.columns m.merged.keys m.merged.by_cells m.base m.ours m.theirs answer
+  by_cell is = subst (AnswersBy made_in m.columns m.merged.keys m.merged.by_cells m.base m.ours m.theirs answer) is m.merged.merged
 
   -- the same of a merge by cell
   abbrev pub merged_cells_of_three : TableRows
@@ -191,7 +188,7 @@ module _ {settings : Settings} {by : Unit} {base_form ours_form theirs_form : Fo
   pub merge_cells : by ≡ unit.Cell
       → AllByRecursion (λ z. stuck_row rows_eq can_by_row z.1 ≡ false) (three key_cmp (map alone base) (map alone ours) (map alone theirs))
       → AllByRecursion (λ z. BecameOf rows_eq GivesRow z.1 (merged_by_cell z.1)) (three key_cmp (map alone base) (map alone ours) (map alone theirs))
-      → loses_by order rest merged_cells_of_three ≡ false → IsTableInStyle (table_text settings.form order key rest merged_cells_of_three) answer
+      → loses_by order rest merged_cells_of_three ≡ false → IsInStyle (λ s. table_text (in_style s settings.form) order key rest merged_cells_of_three) answer
   merge_cells is settled became none =
       let free : HasNoneStuck m.base m.ours m.theirs =
       from_tables HasNoneStuck (none_stuck rows_eq GivesRow gives_once key_cmp key_total key_exact (map alone base) (map alone ours) (map alone theirs)
@@ -201,9 +198,9 @@ module _ {settings : Settings} {by : Unit} {base_form ours_form theirs_form : Fo
       settled_rows rows_eq GivesRow gives_once key_cmp key_total key_exact (map alone base) (map alone ours) (map alone theirs) base_rises ours_rise theirs_rise
       merged_by_cell became told.0 told.1
       (of_tables (λ b o t. (k : List (List ℕ)) → Became rows_eq GivesRow (value_under key_cmp b k) (value_under key_cmp o k) (value_under key_cmp t k) (value_under key_cmp told.0 k)) told.2) in
-      styled_table settings.form m.columns m.merged.keys m.merged.by_cells merged_cells_of_three m.merged.made answer order key rest
+      styled_table m.merged.style settings.form m.columns m.merged.keys m.merged.by_cells merged_cells_of_three answer order key rest
       columns_known.order columns_known.key columns_known.rest (m.merged.order plain.order) none
-      (subst (λ r. AnswersTable settings.form m.columns m.merged.keys m.merged.by_cells r m.merged.made) are told.3) m.merged.styled
+      (subst (λ r. AnswersTable made_in m.columns m.merged.keys m.merged.by_cells r answer) are told.3)
 
   pub merge_sticks : by ≡ unit.Cell → (k : List (List ℕ)) → sticks_at (map alone base) (map alone ours) (map alone theirs) k ≡ true → Stops answer
-  merge_sticks is k stuck = styled_report m.merged.made answer ((by_cell is).conflict (from_tables HasStuck (k, stuck))) m.merged.styled
+  merge_sticks is k stuck = (by_cell is).conflict (from_tables HasStuck (k, stuck))

@@ -3,13 +3,14 @@ use Rattle.std.proofs.Common.{◌≡◌, ◌∙◌, ◌++◌, ℕ, Bool, Bor, tr
 use Rattle.std.specs.Prelude.{◌==◌, ◌&&◌, ◌||◌, ⊤, not, if◌then◌else◌}
 use Rattle.std.specs.Cmp.Lexicographic.{pointwise}
 use Rattle.eob_lists.proofs.MergeLemmas.{Up}
+use Rattle.keyed_files.specs.AnswerForm.{writes_heading}
 use Rattle.keyed_files.specs.ColumnNames.{HaveNames, column_names}
 use Rattle.keyed_files.specs.Headers.{names_counted}
 use Rattle.keyed_files.specs.Keys.{AreColumnsBy, AreKeyNames, first_name}
 use Rattle.keyed_files.specs.Names.{repeats}
 use Rattle.keyed_files.specs.Reading.{HeadedBy, IsTable, behind_header, cell_under, parts_of, row_under}
 use Rattle.keyed_files.specs.Rows.{placed, table_rows}
-use Rattle.keyed_files.specs.Writing.{comment_of, delimiter_of, quoted_text}
+use Rattle.keyed_files.specs.Writing.{comment_of, delimiter_of, file_text}
 use Rattle.keyed_files.specs.declared.columns.Columns.{Columns}
 use Rattle.keyed_files.specs.declared.columns.Place.{Place}
 use Rattle.keyed_files.specs.declared.request.Form.{Form}
@@ -128,10 +129,10 @@ came_out {V} keys by_cells P xs ys order h =
 
 -- the text of a table
 abbrev pub heading_by : Form → List Place → (key rest : List (List ℕ)) → List (List (List ℕ))
-heading_by form order key rest = if form.has_header && (false || not (length order == 0)) then placed order key rest ∷ [] else []
+heading_by form order key rest = if writes_heading form && (false || not (length order == 0)) then placed order key rest ∷ [] else []
 
 abbrev pub table_text : Form → List Place → (key rest : List (List ℕ)) → TableRows → List ℕ
-table_text form order key rest rows = quoted_text form (heading_by form order key rest ++ table_rows order rows)
+table_text form order key rest rows = file_text form (heading_by form order key rest ++ table_rows order rows)
 
 pub table_text_is : (form : Form) (columns : Columns) (keys : Option (List (List (List ℕ)))) (by_cells : Bool) (rows : TableRows) (text : List ℕ)
     (order : List Place) (key rest : List (List ℕ)) → columns.order.items ≡ order → columns.key ≡ key → columns.rest ≡ rest

@@ -48,7 +48,7 @@ or_true false = refl
 
 module _ (d : ℕ) where
   line_ends : ends_cell d 10 ≡ true
-  line_ends = or_true (10 == d)
+  line_ends = or_true ((10 == d) || (10 == 13))
 
   abbrev first_cell : List ℕ → List ℕ
   first_cell u = before (ends_cell d) line_ends u

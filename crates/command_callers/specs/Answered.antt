@@ -1,13 +1,34 @@
--- What a caller knows of an answer whose text is not known to the last byte.
-use Rattle.std.specs.Prelude.{◌≡◌, ℕ, List}
-use Rattle.keyed_commands.specs.AppliedTexts.{IsInStyle}
+-- What a caller knows of an answer that is written in the style of a table that is read.
+use Rattle.std.specs.Prelude.{◌≡◌, ℕ, List, None, false, true}
+use Rattle.keyed_text.specs.Texts.{finished, text_by, writer_in}
+use Rattle.keyed_text.specs.declared.style.CellQuotes.TheVariants.{Everywhere, WhereNeeded}
+use Rattle.keyed_text.specs.declared.style.LineEnd.TheVariants.{CrLf, Lf}
+use Rattle.keyed_text.specs.declared.style.Style.{Style}
+use Rattle.keyed_files.specs.Writing.{quoted_first}
 use Rattle.keyed_commands.specs.declared.answers.Answer.{Answer}
 use Rattle.keyed_commands.specs.declared.answers.Outcome.TheVariants.{Made}
 
--- an answer is a table with this text, written in some style
-pub record IsTableInStyle (text : List ℕ) (answer : Answer) : Type 0 where
-  pub made : Answer
-  pub bytes : made.bytes.items ≡ text
-  pub styled : IsInStyle made answer
+-- an answer is a table, with what text is said of some style
+pub record IsInStyle (text : Style → List ℕ) (answer : Answer) : Type 0 where
+  pub style : Style
+  pub bytes : answer.bytes.items ≡ text style
   pub status : answer.status ≡ 0
   pub outcome : answer.outcome ≡ Made
+
+-- the file of rows in a style, with commas between cells
+abbrev pub file_in : List (List (List ℕ)) → Style → List ℕ
+file_in rows style = finished style (quoted_first 44 (text_by (writer_in style 44 None) rows))
+
+-- quotes where they are needed, and LF behind each row
+abbrev pub plainly : Style
+plainly = record { has_mark = false; quotes = WhereNeeded; line_end = Lf; has_end = true }
+
+-- a byte order mark, quotes everywhere, CR LF between rows, and none behind the last
+abbrev pub fully : Style
+fully = record { has_mark = true; quotes = Everywhere; line_end = CrLf; has_end = false }
+
+-- an answer is the file of these rows in some style; it would be this text in the plain style, and that one in the other
+pub record IsTableInStyle (rows : List (List (List ℕ))) (plain full : List ℕ) (answer : Answer) : Type 0 where
+  pub file : IsInStyle (file_in rows) answer
+  pub plain_text : file_in rows plainly ≡ plain
+  pub full_text : file_in rows fully ≡ full

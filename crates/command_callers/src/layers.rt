@@ -14,7 +14,10 @@ use std::io::Read;
 ///
 /// Returns the errors of `overlay`; also want of memory.
 pub fn rows_over(alloc: Global) -> Result<Answer, Fault<'static>>
-    ensures { IfOk result (IsTableInStyle (codes "id,a\n1,y\n2,z\n")) }
+    ensures { IfOk result (IsTableInStyle
+        ((codes "id" ∷ codes "a" ∷ []) ∷ (codes "1" ∷ codes "y" ∷ []) ∷ (codes "2" ∷ codes "z" ∷ []) ∷ [])
+        (codes "id,a\n1,y\n2,z\n")
+        (239 ∷ 187 ∷ 191 ∷ codes "\"id\",\"a\"\r\n\"1\",\"y\"\r\n\"2\",\"z\"")) }
 {
     let below = file!("below.csv", b"id,a\n1,x\n");
     let above = file!("above.csv", b"id,a\n1,y\n2,z\n");
@@ -27,7 +30,10 @@ pub fn rows_over(alloc: Global) -> Result<Answer, Fault<'static>>
 ///
 /// Returns the errors of `overlay`; also want of memory.
 pub fn cells_over(alloc: Global) -> Result<Answer, Fault<'static>>
-    ensures { IfOk result (IsTableInStyle (codes "id,a,b\n1,x,w\n")) }
+    ensures { IfOk result (IsTableInStyle
+        ((codes "id" ∷ codes "a" ∷ codes "b" ∷ []) ∷ (codes "1" ∷ codes "x" ∷ codes "w" ∷ []) ∷ [])
+        (codes "id,a,b\n1,x,w\n")
+        (239 ∷ 187 ∷ 191 ∷ codes "\"id\",\"a\",\"b\"\r\n\"1\",\"x\",\"w\"")) }
 {
     let below = file!("below.csv", b"id,a,b\n1,x,y\n");
     let above = file!("above.csv", b"id,a,b\n1,,w\n");

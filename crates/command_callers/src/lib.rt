@@ -2,7 +2,7 @@
 //! knows when it is written.
 #![tactic(auto)]
 
-ghost use Rattle.std.specs.Prelude.{◌≡◌, IfOk, codes};
+ghost use Rattle.std.specs.Prelude.{◌≡◌, ◌∷◌, [], IfOk, codes};
 ghost use Rattle.keyed_commands.specs.Answers.{Stops};
 ghost use Rattle.command_callers.specs.Answered.{IsTableInStyle};
 
@@ -22,7 +22,7 @@ pub mod lookups;
 
 use keyed_commands::{
     Answer, Comparing, Conflicts, Delimiter, Fault, Form, Format, JoinNames, Joining, Kind, Look,
-    Merging, Reading, RowFormat, Settings, Stream, Unit, View, apply, diff, join, merge,
+    Merging, Reading, RowFormat, Settings, Stream, Unit, View, Writing, apply, diff, join, merge,
 };
 use std::alloc::Global;
 
@@ -32,6 +32,7 @@ const PLAIN: Settings<'static> = Settings {
         delimiter: Delimiter::COMMA,
         has_header: true,
         reading: Reading::STRICT,
+        writing: Writing::PLAIN,
     },
     key: None,
     renames: None,
@@ -46,6 +47,7 @@ const BARE: Settings<'static> = Settings {
         delimiter: Delimiter::COMMA,
         has_header: false,
         reading: Reading::STRICT,
+        writing: Writing::PLAIN,
     },
     key: None,
     renames: None,
@@ -209,7 +211,10 @@ pub fn stale_change(alloc: Global) -> Result<Answer, Fault<'static>>
 ///
 /// Returns the errors of `apply`.
 pub fn applied(alloc: Global) -> Result<Answer, Fault<'static>>
-    ensures { IfOk result (IsTableInStyle (codes "id,a\n1,y\n")) }
+    ensures { IfOk result (IsTableInStyle
+        ((codes "id" ∷ codes "a" ∷ []) ∷ (codes "1" ∷ codes "y" ∷ []) ∷ [])
+        (codes "id,a\n1,y\n")
+        (239 ∷ 187 ∷ 191 ∷ codes "\"id\",\"a\"\r\n\"1\",\"y\"")) }
 {
     let old = file!("old.csv", b"id,a\n1,x\n");
     let changes = file!("changes.csv", b"change,id,a\n-,1,x\n+,1,y\n");
@@ -222,7 +227,10 @@ pub fn applied(alloc: Global) -> Result<Answer, Fault<'static>>
 ///
 /// Returns the errors of `apply`.
 pub fn changed_ids(alloc: Global) -> Result<Answer, Fault<'static>>
-    ensures { IfOk result (IsTableInStyle (codes "id\n1\n3\n")) }
+    ensures { IfOk result (IsTableInStyle
+        ((codes "id" ∷ []) ∷ (codes "1" ∷ []) ∷ (codes "3" ∷ []) ∷ [])
+        (codes "id\n1\n3\n")
+        (239 ∷ 187 ∷ 191 ∷ codes "\"id\"\r\n\"1\"\r\n\"3\"")) }
 {
     let old = file!("old.csv", b"id\n1\n2\n");
     let changes = file!("changes.csv", b"change,id\n-,2\n+,3\n");
@@ -235,7 +243,10 @@ pub fn changed_ids(alloc: Global) -> Result<Answer, Fault<'static>>
 ///
 /// Returns the errors of `apply`.
 pub fn dropped_column(alloc: Global) -> Result<Answer, Fault<'static>>
-    ensures { IfOk result (IsTableInStyle (codes "id\n2\n")) }
+    ensures { IfOk result (IsTableInStyle
+        ((codes "id" ∷ []) ∷ (codes "2" ∷ []) ∷ [])
+        (codes "id\n2\n")
+        (239 ∷ 187 ∷ 191 ∷ codes "\"id\"\r\n\"2\"")) }
 {
     let old = file!("old.csv", b"id,a\n1,x\n2,\n");
     let changes = file!("changes.csv", b"change,id,-a\n-,1,x\n");
@@ -261,7 +272,10 @@ pub fn lost_cell(alloc: Global) -> Result<Answer, Fault<'static>>
 ///
 /// Returns the errors of `merge`.
 pub fn merged(alloc: Global) -> Result<Answer, Fault<'static>>
-    ensures { IfOk result (IsTableInStyle (codes "id,a\n1,y\n2,z\n")) }
+    ensures { IfOk result (IsTableInStyle
+        ((codes "id" ∷ codes "a" ∷ []) ∷ (codes "1" ∷ codes "y" ∷ []) ∷ (codes "2" ∷ codes "z" ∷ []) ∷ [])
+        (codes "id,a\n1,y\n2,z\n")
+        (239 ∷ 187 ∷ 191 ∷ codes "\"id\",\"a\"\r\n\"1\",\"y\"\r\n\"2\",\"z\"")) }
 {
     let base = file!("base.csv", b"id,a\n1,x\n");
     let ours = file!("ours.csv", b"id,a\n1,y\n");
@@ -289,7 +303,10 @@ pub fn conflict(alloc: Global) -> Result<Answer, Fault<'static>>
 ///
 /// Returns the errors of `merge`.
 pub fn merged_by_cell(alloc: Global) -> Result<Answer, Fault<'static>>
-    ensures { IfOk result (IsTableInStyle (codes "id,a,b\n1,z,w\n")) }
+    ensures { IfOk result (IsTableInStyle
+        ((codes "id" ∷ codes "a" ∷ codes "b" ∷ []) ∷ (codes "1" ∷ codes "z" ∷ codes "w" ∷ []) ∷ [])
+        (codes "id,a,b\n1,z,w\n")
+        (239 ∷ 187 ∷ 191 ∷ codes "\"id\",\"a\",\"b\"\r\n\"1\",\"z\",\"w\"")) }
 {
     let base = file!("base.csv", b"id,a,b\n1,x,y\n");
     let ours = file!("ours.csv", b"id,a,b\n1,z,y\n");

@@ -3,7 +3,7 @@ ghost use Rattle.std.specs.Prelude.{◌≡◌, ◌++◌, IfOk, OnOk, codes};
 
 use keyed_commands::{
     Delimiter, Fault, Finding, Form, JoinNames, Layout, LookupKind, Reading, RowFormat, Stream,
-    lookup,
+    Writing, lookup,
 };
 use std::alloc::Global;
 
@@ -12,6 +12,7 @@ const LAYOUT: Layout<'static> = Layout {
         delimiter: Delimiter::COMMA,
         has_header: true,
         reading: Reading::STRICT,
+        writing: Writing::PLAIN,
     },
     key: None,
 };

@@ -1,8 +1,9 @@
 //! The form of tables that a command line asks for: the bytes between the cells of each file, and how files are read.
 
 use crate::ParseError;
+use crate::output::heading_of;
 use clap::ArgMatches;
-use keyed_files::{Comment, Delimiter, Form, Lengths, Quotes, Reading, Request};
+use keyed_files::{Comment, Delimiter, Form, Lengths, Quotes, Reading, Request, Writing};
 
 /// The form of the tables in these files.
 ///
@@ -35,6 +36,10 @@ pub fn form_of(matches: &ArgMatches<'_>, files: [&str; 3]) -> Result<Form, Parse
             },
             comment: comment_of(matches, [delimiter, next, last])?,
             skipped: skipped_of(matches)?,
+        },
+        writing: Writing {
+            heading: heading_of(matches),
+            ..Writing::PLAIN
         },
     })
 }

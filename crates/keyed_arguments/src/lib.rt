@@ -11,6 +11,7 @@ mod numbers;
 mod output;
 mod progress;
 mod renames;
+mod texts;
 mod view;
 
 use clap::{Arg, ArgAction, ArgMatches};
@@ -20,8 +21,8 @@ use git::{git_asked, put_git_commands};
 use help::{example_of, group_of};
 use keyed_cut::Cut;
 use keyed_files::{
-    Asked, Colours, Command, Comparing, Format, JoinNames, Joining, Kind, Look, Reason, Request,
-    RowFormat, RowsShown, Settings, SortedChanges, SortedRequest, Wanted, key_names,
+    Asked, Colours, Command, Comparing, Format, Heading, JoinNames, Joining, Kind, Look, Reason,
+    Request, RowFormat, RowsShown, Settings, SortedChanges, SortedRequest, Wanted, key_names,
 };
 use merging::{merging_of, put_merging};
 use more::{lookup_of, overlay_of};
@@ -32,6 +33,7 @@ use progress::{progress_of, put_progress};
 use renames::{put_renames, renames_of};
 use std::alloc::{AllocError, Global};
 use std::{fmt, io};
+use texts::{KEY, TEXTS, TEXTS_OF_TWO, put_texts};
 use view::{comparing_of, look_of, put_view};
 
 /// Why the words of a command line make no command. Its `Display` is the text for the user.
@@ -57,22 +59,12 @@ pub enum ParseError {
     PartCount(u64),
 }
 
-/// Whether an answer in CSV has the names of its columns.
-#[derive(Clone, Copy, Debug)]
-pub enum Heading {
-    /// It has, unless tables have no header.
-    Written,
-    /// It has none, so that it can stand behind another.
-    LeftOut,
-}
-
 /// What a command line asks for.
 #[derive(Debug, Drop)]
 pub enum Line<'a> {
     /// An answer, or what git does with tables.
     Asked {
         asked: Asked<'a>,
-        heading: Heading,
         progress: Progress,
     },
     /// Tables cut into parts.
@@ -160,7 +152,6 @@ pub fn parse<'a>(
         Some((name, matches)) => match git_asked(alloc, name, matches, words, terminal)? {
             Some(asked) => Ok(Line::Asked {
                 asked,
-                heading: Heading::Written,
                 progress: Progress::LeftOut,
             }),
             None => answer_of(alloc, name, matches, terminal),
@@ -177,17 +168,15 @@ fn answer_of<'a>(
     terminal: Colours,
 ) -> Result<Line<'a>, ParseError> {
     let command = command_of(alloc, name, matches, terminal)?;
-    let heading = heading_of(matches);
-    match heading {
-        Heading::LeftOut if !is_csv(&command) => return Err(ParseError::NoHeading),
-        Heading::LeftOut | Heading::Written => {}
+    match heading_of(matches) {
+        Heading::Omitted if !is_csv(&command) => return Err(ParseError::NoHeading),
+        Heading::Omitted | Heading::Written => {}
     }
     Ok(Line::Asked {
         asked: Asked::Answer {
             command,
             output: output_of(matches)?,
         },
-        heading,
         progress: progress_of(matches),
     })
 }
@@ -456,50 +445,6 @@ static COMMANDS: [Below<'static>; 6] = [
 // What stands for the files of which there may be several.
 const OVERS: &str = "OVER";
 
-// An option that takes a text: its name, what stands for the text in the help, and its help.
-type Text = (&'static str, &'static str, &'static str);
-
-// The option of all commands that comes first.
-static KEY: [Text; 1] = [(
-    "key",
-    "COLUMN[,COLUMN..]",
-    "The columns of the key, comma-separated [default: the first column]; \
-     LEFT=RIGHT where a column has two names",
-)];
-
-// The other options of all commands that take a text.
-static TEXTS: [Text; 3] = [
-    (
-        "delimiter",
-        "BYTE",
-        "The byte between cells, as \";\", or tab [default: a tab in .tsv and .tab files, else a comma]",
-    ),
-    (
-        "comment",
-        "BYTE",
-        "Lines that begin with this byte are passed over",
-    ),
-    (
-        "skip",
-        "N",
-        "So many lines at the top of each file are passed over",
-    ),
-];
-
-// Those of commands that take two files.
-static TEXTS_OF_TWO: [Text; 2] = [
-    (
-        "left-delimiter",
-        "BYTE",
-        "The byte between the cells of the first file, and of what is written",
-    ),
-    (
-        "right-delimiter",
-        "BYTE",
-        "The byte between the cells of the second file",
-    ),
-];
-
 // The options that are set or not: the name of each, and its help.
 static FLAGS: [(&str, &str); 5] = [
     (
@@ -741,18 +686,6 @@ fn put_settings<'a>(
     }
     put_output(alloc, args)?;
     put_progress(alloc, args)
-}
-
-// Puts options that take a text.
-fn put_texts(
-    alloc: Global,
-    args: &mut Vec<Arg<'_>>,
-    texts: &'static [Text],
-) -> Result<(), AllocError> {
-    for (name, value, help) in texts {
-        put(args, text(alloc, name, value, help))?;
-    }
-    Ok(())
 }
 
 // Whether a command has a flag. The rows of a look-up stand as in the left table, whose keys may repeat.

@@ -1,7 +1,8 @@
 //! The options for the file that an answer goes into, and for an answer that stands behind another.
 
-use crate::{Heading, ParseError, flag, option, put};
+use crate::{ParseError, flag, option, put};
 use clap::{Arg, ArgMatches};
+use keyed_files::Heading;
 use std::alloc::{AllocError, Global};
 
 /// The file that the answer goes into, if that is not the standard output.
@@ -23,10 +24,10 @@ pub fn output_of<'a>(matches: &ArgMatches<'a>) -> Result<Option<&'a str>, ParseE
     }
 }
 
-/// Whether the answer has the names of its columns.
+/// Whether the names of the columns stand before the rows of the answer.
 pub fn heading_of(matches: &ArgMatches<'_>) -> Heading {
     if matches.get_flag("no-heading") {
-        Heading::LeftOut
+        Heading::Omitted
     } else {
         Heading::Written
     }
@@ -43,6 +44,5 @@ pub fn put_output(alloc: Global, args: &mut Vec<Arg<'_>>) -> Result<(), AllocErr
     );
     put(args, output)?;
     let no_heading = "CSV has no names of columns, so that it can stand behind other CSV";
-    let no_heading = flag(alloc, "no-heading", no_heading).conflicts_with("output")?;
-    put(args, no_heading)
+    put(args, flag(alloc, "no-heading", no_heading))
 }

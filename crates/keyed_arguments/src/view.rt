@@ -38,7 +38,8 @@ pub fn put_view(alloc: Global, args: &mut Vec<Arg<'_>>) -> Result<(), AllocError
             _ => put(args, part)?,
         }
     }
-    let help = "The counts alone, and what became of columns";
+    let help =
+        "No rows: how many changed in each column, its three commonest changes, and the counts";
     put(args, flag(alloc, "summary", help).conflicts_with("limit")?)
 }
 
@@ -53,6 +54,7 @@ pub fn comparing_of<'a>(
     matches: &ArgMatches<'a>,
     terminal: Colours,
 ) -> Result<Comparing<'a>, ParseError> {
+    check_counted(matches)?;
     if matches.get_str("format") == Some("csv") {
         check_whole(matches)?;
     }
@@ -79,22 +81,34 @@ fn check_whole(matches: &ArgMatches<'_>) -> Result<(), ParseError> {
             wrong: "not with --format csv: the changes that apply takes are of cells as they stand",
         });
     }
-    if matches.get_flag("summary") {
-        return Err(not_whole("summary"));
-    }
     for (option, _, _) in &PARTS {
         if matches.get_str(option).is_some() {
-            return Err(not_whole(option));
+            return Err(ParseError::Value {
+                option,
+                wrong: "not with --format csv: a part of the changes is no patch that apply takes",
+            });
         }
     }
     Ok(())
 }
 
-fn not_whole(option: &'static str) -> ParseError {
-    ParseError::Value {
-        option,
-        wrong: "not with --format csv: a part of the changes is no patch that apply takes",
+// Tells that changes are counted in a form that has a place for their counts.
+fn check_counted(matches: &ArgMatches<'_>) -> Result<(), ParseError> {
+    if !matches.get_flag("summary") {
+        return Ok(());
     }
+    let wrong = match matches.get_str("format") {
+        Some("csv") =>
+            "not with --format csv, whose changes are a patch: give --format table or json",
+        Some("markdown") | Some("html") => {
+            "not with --format markdown or html, which show rows: give --format table or json"
+        }
+        _ => return Ok(()),
+    };
+    Err(ParseError::Value {
+        option: "summary",
+        wrong,
+    })
 }
 
 // Tells that all rows are to come out, or none.

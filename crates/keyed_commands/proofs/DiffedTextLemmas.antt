@@ -5,6 +5,7 @@ use Rattle.std.specs.List.{flat_map}
 use Rattle.std.proofs.lemmas.List.{append-nil}
 use Rattle.eob_joins.specs.Changes.{changed}
 use Rattle.eob_joins.specs.Tables.{IsKeptOfJoin}
+use Rattle.keyed_files.specs.AnswerForm.{in_style, writes_heading}
 use Rattle.keyed_files.specs.ChangedColumns.{changed_names}
 use Rattle.keyed_files.specs.ColumnNames.{WriteNames, column_names, distinct, has_name, or_header}
 use Rattle.keyed_files.specs.Going.{going}
@@ -30,7 +31,7 @@ use Rattle.keyed_commands.specs.TextLaws.{AnswersTableOf, AreReadAs, DiffedTextB
 use Rattle.keyed_commands.specs.declared.answers.Answer.{Answer}
 use Rattle.keyed_commands.proofs.ColumnsBackLemmas.{WritesOf, gone-apart, gone_between, header-within, marked-gone, writes-alike, written-once}
 use Rattle.keyed_commands.proofs.LossLemmas.{loses-none}
-use Rattle.keyed_commands.proofs.LawLemmas.{diff_apply}
+use Rattle.keyed_commands.proofs.LawLemmas.{diff_apply, has-header}
 use Rattle.keyed_commands.proofs.TableBackLemmas.{says-only}
 use Rattle.keyed_commands.proofs.TextLawLemmas.{all_of, changes-header, diff-says, groups-are, one-table-law, read_back, table-rises}
 
@@ -93,7 +94,7 @@ says_alike form groups text header header2 names names2 columns others table e f
 )
 
 module _ (settings : Settings) (old_form new_form : Form) (old_text new_text : List ℕ) (difference answer : Answer)
-    (has : settings.form.has_header ≡ true) (has_old : old_form.has_header ≡ true) (has_new : new_form.has_header ≡ true)
+    (has : writes_heading settings.form ≡ true) (has_old : old_form.has_header ≡ true) (has_new : new_form.has_header ≡ true)
     (parts : PartsCells (delimiter_of settings.form)) (begins : BeginsComments (delimiter_of settings.form) (comment_of settings.form))
     (plain : settings.keeps_order ≡ false) (once_old : NamesOnce old_form old_text) (once_new : NamesOnce new_form new_text)
     (diffs : DiffsTexts settings old_form new_form old_text new_text difference)
@@ -125,7 +126,7 @@ module _ (settings : Settings) (old_form new_form : Form) (old_text new_text : L
         let read = read_back settings old_form new_form old_text new_text difference has parts begins plain diffs in
         let same = rows-once (delimiter_of settings.form) (comment_of settings.form) difference.bytes.items applies.gone_said.0 _ applies.gone_said.1 read.2 in
         let said : GoneBy true ((change_name ∷ diffs.changes.marked) ∷ changes_rows diffs.columns.order.items read.0) applies.gone =
-        subst₂ (λ b records. GoneBy b records applies.gone) has same applies.gone_said.2 in
+        subst₂ (λ b records. GoneBy b records applies.gone) (has-header settings.form has) same applies.gone_said.2 in
         said ∙ ap (flat_map going) diffs.marks ∙ marked-gone diffs.names diffs.next_header old_once new_once
 
     abbrev Writes : List (List ℕ) → List (List ℕ) → List (List ℕ) → Type 0
@@ -154,14 +155,18 @@ module _ (settings : Settings) (old_form new_form : Form) (old_text new_text : L
         subst (λ old. IsKeptOfJoin key_cmp (changed rows_eq) old diffs.new applies.changes) same_old
         (diff-says settings old_form new_form old_text new_text difference has parts begins plain diffs applies.changes_header applies.columns applies.changes applies.changes_say alike)
 
-    applied : AnswersApplied settings.form applies.columns None true applies.old applies.changes applies.applied.made
+    -- the form that the answer is written in
+    abbrev made_in : Form
+    made_in = in_style applies.applied.style settings.form
+
+    applied : AnswersApplied made_in applies.columns None true applies.old applies.changes answer
     applied =
         let ordered = applies.applied.order plain in
-        subst₂ (λ keys by_cells. AnswersApplied settings.form applies.columns keys by_cells applies.old applies.changes applies.applied.made) ordered.0 ordered.1 applies.applied.applied
+        subst₂ (λ keys by_cells. AnswersApplied made_in applies.columns keys by_cells applies.old applies.changes answer) ordered.0 ordered.1 applies.applied.applied
 
-    answers : AnswersTable settings.form applies.columns None true diffs.new applies.applied.made
+    answers : AnswersTable made_in applies.columns None true diffs.new answer
     answers =
-        diff_apply settings.form applies.columns None true applies.old diffs.new applies.changes applies.applied.made
+        diff_apply made_in applies.columns None true applies.old diffs.new applies.changes answer
         (table-rises old_form settings.groups old_text applies.header applies.names applies.columns applies.old applies.old_says)
         (table-rises new_form settings.groups new_text diffs.next_header diffs.next_header diffs.columns diffs.new diffs.new_says)
         changes_are applied.fits
@@ -181,8 +186,8 @@ module _ (settings : Settings) (old_form new_form : Form) (old_text new_text : L
     new_says =
         says_alike new_form settings.groups new_text diffs.next_header diffs.next_header diffs.next_header diffs.next_header diffs.columns applies.columns diffs.new refl refl alike diffs.new_says
 
-    made_is : MakesTable settings.form applies.columns diffs.new applies.applied.made
-    made_is = subst (λ b. MatchBool b (Stops applies.applied.made) (MakesTable settings.form applies.columns diffs.new applies.applied.made)) keeps_cells answers
+    made_is : MakesTable made_in applies.columns diffs.new answer
+    made_is = subst (λ b. MatchBool b (Stops answer) (MakesTable made_in applies.columns diffs.new answer)) keeps_cells answers
 
     written_once : repeats [] (or_header diffs.next_header diffs.names) ≡ false
     written_once = written-once diffs.names diffs.next_header old_once new_once
@@ -192,14 +197,13 @@ module _ (settings : Settings) (old_form new_form : Form) (old_text new_text : L
       header = diffs.next_header;
       columns = applies.columns;
       table = diffs.new;
-      made = applies.applied.made;
+      style = applies.applied.style;
       names = (writes-names diffs.columned.others (or_header diffs.next_header diffs.names) (all ∷ diffs.names ∷ applies.gone ∷ []) applies.columns writes_names written_once).0;
       says = new_says;
       answers = made_is;
       reads = λ some unmarked. says-only diffs.next_header diffs.columned.others (or_header diffs.next_header diffs.names) (all ∷ diffs.names ∷ applies.gone ∷ []) applies.columns
-          (header-within diffs.next_header diffs.names) writes_names written_once settings.form new_form settings.groups applies.applied.made.bytes.items new_text diffs.next_header diffs.new
+          (header-within diffs.next_header diffs.names) writes_names written_once made_in new_form settings.groups answer.bytes.items new_text diffs.next_header diffs.new
           has parts begins new_says made_is.2 some unmarked;
-      styled = applies.applied.styled;
     }
 
   -- where no key is set and no column has another name

@@ -1,6 +1,7 @@
 -- Rows of a join as they are put, and from the tables that are joined to their texts.
 use Rattle.std.proofs.Common.{◌≡◌, ◌∙◌, ℕ, Bool, true, false, List, [], ◌∷◌, ◌++◌, Option, refl, sym, ap, subst}
-use Rattle.std.specs.Prelude.{IfSome, option_map, if◌then◌else◌}
+use Rattle.std.specs.Prelude.{◌&&◌, IfSome, option_map, if◌then◌else◌}
+use Rattle.keyed_files.specs.AnswerForm.{is_written}
 use Rattle.keyed_files.specs.JoinedNames.{joined_names}
 use Rattle.keyed_files.specs.JoinedRows.{join_heading, joined_rows, left_of, right_of}
 use Rattle.keyed_files.specs.Keys.{AreJoinColumns}
@@ -77,11 +78,12 @@ unfolding repeats
 none-twice = refl
 
 -- the header that is written of names is that of the names that are asked for
-same_heading : (has : Bool) (made : RowFormat) (header names : List (List ℕ)) → made ≡ format.Csv → header ≡ (if has then names_as made names else [])
-    → (if has then join_heading header else []) ≡ (if has then join_heading names else [])
-same_heading true format.Csv header names csv is = ap join_heading is
-same_heading true format.Json header names csv is = absurd (cc csv)
-same_heading false made header names csv is = refl
+same_heading : (has shows : Bool) (made : RowFormat) (header names : List (List ℕ)) → made ≡ format.Csv → header ≡ (if has then names_as made names else [])
+    → (if has && shows then join_heading header else []) ≡ (if has && shows then join_heading names else [])
+same_heading true true format.Csv header names csv is = ap join_heading is
+same_heading true true format.Json header names csv is = absurd (cc csv)
+same_heading true false made header names csv is = refl
+same_heading false shows made header names csv is = refl
 
 once_asked : (has : Bool) (made : RowFormat) (header names : List (List ℕ)) → made ≡ format.Csv → header ≡ (if has then names_as made names else [])
     → repeats [] header ≡ false → has ≡ true → repeats [] names ≡ false
@@ -133,7 +135,7 @@ module _ {R : Type 0} (rem : R → Option (List ℕ)) (settings : Settings) (how
           keys = read.join.keys;
           by_cells = read.join.by_cells;
           join = join_headed settings.form job.columns.now header names read.join.keys read.join.by_cells
-              (same_heading settings.form.has_header how.format header names csv written) how.kind read.left read.right answer.bytes.items
+              (same_heading settings.form.has_header (is_written settings.form.writing.heading) how.format header names csv written) how.kind read.left read.right answer.bytes.items
               (subst (λ f. IsJoinText f job.columns.now header read.join.keys read.join.by_cells how.kind read.left read.right answer.bytes.items) form read.join.join);
           order = λ by_key. read.join.order (unordered by_key);
         };

@@ -1,6 +1,6 @@
 -- Changes made to the table that they are from, and the text of changes read.
 use Rattle.std.proofs.Common.{◌≡◌, ◌≢◌, ◌∙◌, ℕ, Bool, true, false, List, [], ◌∷◌, ◌++◌, All, Option, Some, None, refl, sym, ap, subst}
-use Rattle.std.specs.Prelude.{IfSome}
+use Rattle.std.specs.Prelude.{◌&&◌, IfSome}
 use Rattle.std.specs.List.{flat_map}
 use Rattle.std.specs.Option.{option_and_then}
 use Rattle.std.proofs.lemmas.List.Elements.{All-cons, All-nil, All-append}
@@ -12,6 +12,7 @@ use Rattle.eob_lists.specs.Join.{value_under}
 use Rattle.eob_joins.specs.Changes.{applied, changed}
 use Rattle.eob_joins.specs.Tables.{IsKeptOfJoin}
 use Rattle.eob_joins.proofs.TableLemmas.{apply_diff, by_test, kept_join}
+use Rattle.keyed_files.specs.AnswerForm.{writes_heading}
 use Rattle.keyed_files.specs.Rows.{change_name, placed, rows_under, shown_sign}
 use Rattle.keyed_files.specs.Writing.{comment_of, delimiter_of, text_of}
 use Rattle.keyed_files.specs.declared.columns.Place.{Place}
@@ -20,6 +21,7 @@ use Rattle.keyed_files.specs.declared.sign.Sign.{Sign}
 use Rattle.keyed_files.specs.declared.sign.Sign.TheVariants.{Minus, Plus}
 use Rattle.keyed_text.specs.Laws.{HasCells, HasNoMark}
 use Rattle.keyed_text.specs.Texts.{ReadsAs}
+use Rattle.keyed_text.specs.declared.style.Style.{Style}
 use Rattle.keyed_text.proofs.TextLemmas.{sheet-back}
 use Rattle.keyed_commands.specs.Answers.{AllFit, AnswersPatched, AnswersTable, TableChanges, TableRows, key_cmp, rows_eq}
 use Rattle.keyed_commands.specs.ChangeRows.{change_rows, changes_heading, changes_rows, version_rows}
@@ -71,7 +73,15 @@ no_mark : (marked : List (List ℕ)) → HasNoMark (change_name ∷ marked)
 unfolding strip_bom
 no_mark marked = refl
 
-heading_is : (form : Form) (marked : List (List ℕ)) → form.has_header ≡ true → changes_heading form marked ≡ (change_name ∷ marked) ∷ []
+first-true : (a b : Bool) → (a && b) ≡ true → a ≡ true
+first-true true b e = refl
+first-true false b e = e
+
+-- where an answer has a heading tables have a header
+pub has-header : (form : Form) → writes_heading form ≡ true → form.has_header ≡ true
+has-header form e = first-true form.has_header _ e
+
+heading_is : (form : Form) (marked : List (List ℕ)) → writes_heading form ≡ true → changes_heading form marked ≡ (change_name ∷ marked) ∷ []
 heading_is form marked e = rw e refl
 
 pub diff_reads : DiffReadsLaw
@@ -81,5 +91,6 @@ diff_reads form columns noted by_cells marked old new text has parts begins h =
     let header = change_name ∷ marked in
     let rows = changes_rows columns.order.items h.0 in
     let is : text ≡ text_of form (header ∷ rows) = h.2 ∙ ap (λ l. text_of form (l ++ rows)) (heading_is form marked has) in
-    let read = sheet-back d c parts begins header rows (no_mark marked) (All-cons HasCells header rows (full change_name marked) (changes_full columns.order.items h.0)) in
+    let rows_alone : Style = record form.writing.style { has_mark = false; has_end = true } in
+    let read = sheet-back rows_alone d c parts begins header rows (no_mark marked) (All-cons HasCells header rows (full change_name marked) (changes_full columns.order.items h.0)) in
     (h.0, h.1, subst (λ t. ReadsAs d c t header rows) (sym is) read.0, λ names found r. read.1 names found (subst (λ t. ReadsAs d c t names found) is r))

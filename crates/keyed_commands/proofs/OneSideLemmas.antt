@@ -4,6 +4,7 @@ use Rattle.std.specs.Prelude.{MatchBool}
 use Rattle.std.specs.Option.{option_eq}
 use Rattle.eob_joins.specs.Versions.{merged_place}
 use Rattle.eob_joins.proofs.TableLemmas.{by_test}
+use Rattle.keyed_files.specs.AnswerForm.{in_style}
 use Rattle.keyed_files.specs.declared.request.Form.{Form}
 use Rattle.keyed_files.specs.declared.request.Settings.{Settings}
 use Rattle.keyed_files.specs.declared.merging.Unit.TheVariants as unit
@@ -40,24 +41,28 @@ stopped_made e = absurd (cc)
 
 module _ (settings : Settings) (base_form ours_form theirs_form : Form) (base_text ours_text theirs_text : List ℕ) (answer : Answer)
     (merges : MergesTexts unit.Row settings base_form ours_form theirs_form base_text ours_text theirs_text answer) (made : answer.outcome ≡ Made) where
-  not_stopped : Stops merges.merged.made → ⊥
-  not_stopped stops = stopped_made (sym stops.1 ∙ (sym merges.merged.styled.1.outcome ∙ made))
+  -- the form that the answer is written in
+  abbrev made_in : Form
+  made_in = in_style merges.merged.style settings.form
 
-  by_row : AnswersByRow settings.form merges.columns merges.merged.keys merges.merged.by_cells merges.base merges.ours merges.theirs merges.merged.made
+  not_stopped : Stops answer → ⊥
+  not_stopped stops = stopped_made (sym stops.1 ∙ made)
+
+  by_row : AnswersByRow made_in merges.columns merges.merged.keys merges.merged.by_cells merges.base merges.ours merges.theirs answer
   by_row = merges.merged.merged
 
   free : HasNoConflict merges.base merges.ours merges.theirs
   free key = by_test (clashes_at merges.base merges.ours merges.theirs key) (λ t. absurd (not_stopped (by_row.conflict (key, t)))) (λ f. f)
 
-  told : AnswersMerged settings.form merges.columns merges.merged.keys merges.merged.by_cells merges.base merges.ours merges.theirs merges.merged.made
+  told : AnswersMerged made_in merges.columns merges.merged.keys merges.merged.by_cells merges.base merges.ours merges.theirs answer
   told = by_row.whole free
 
-  text : IsTableText settings.form merges.columns merges.merged.keys merges.merged.by_cells told.0 merges.merged.made.bytes.items
+  text : IsTableText made_in merges.columns merges.merged.keys merges.merged.by_cells told.0 answer.bytes.items
   text = by_test (loses merges.columns told.0)
-      (λ t. absurd (not_stopped (subst (λ b. MatchBool b (Stops merges.merged.made) ((merges.merged.made.status ≡ 0) × (merges.merged.made.outcome ≡ Made)
-      × IsTableText settings.form merges.columns merges.merged.keys merges.merged.by_cells told.0 merges.merged.made.bytes.items)) t told.2)))
-      (λ f. (subst (λ b. MatchBool b (Stops merges.merged.made) ((merges.merged.made.status ≡ 0) × (merges.merged.made.outcome ≡ Made)
-      × IsTableText settings.form merges.columns merges.merged.keys merges.merged.by_cells told.0 merges.merged.made.bytes.items)) f told.2).2)
+      (λ t. absurd (not_stopped (subst (λ b. MatchBool b (Stops answer) ((answer.status ≡ 0) × (answer.outcome ≡ Made)
+      × IsTableText made_in merges.columns merges.merged.keys merges.merged.by_cells told.0 answer.bytes.items)) t told.2)))
+      (λ f. (subst (λ b. MatchBool b (Stops answer) ((answer.status ≡ 0) × (answer.outcome ≡ Made)
+      × IsTableText made_in merges.columns merges.merged.keys merges.merged.by_cells told.0 answer.bytes.items)) f told.2).2)
 
 pub one-side-law : OneSideLaw
 one-side-law settings base_form ours_form theirs_form base_text ours_text theirs_text answer merges made =

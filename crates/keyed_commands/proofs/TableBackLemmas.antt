@@ -6,13 +6,14 @@ use Rattle.std.proofs.lemmas.List.{get_or-map, map-append}
 use Rattle.std.proofs.lemmas.List.Elements.{All-append, All-cons, All-head, All-nil, All-tail}
 use Rattle.std.proofs.lemmas.List.Quantifiers.{position-Some}
 use Rattle.csv.specs.Reading.{is_bom, strip_bom}
+use Rattle.keyed_files.specs.AnswerForm.{writes_heading}
 use Rattle.keyed_files.specs.ColumnNames.{WriteNames}
 use Rattle.keyed_files.specs.Encodings.{begins, is_marked}
 use Rattle.keyed_files.specs.Names.{place_in, repeats}
 use Rattle.keyed_files.specs.Picked.{cell_at}
 use Rattle.keyed_files.specs.Reading.{behind_header, cell_under, parts_of, row_under}
 use Rattle.keyed_files.specs.Rows.{heading, names_row, placed, rows_under, table_rows}
-use Rattle.keyed_files.specs.Writing.{comment_of, delimiter_of, quoted, quoted_text, text_of}
+use Rattle.keyed_files.specs.Writing.{comment_of, delimiter_of, file_text, quoted, text_of}
 use Rattle.keyed_files.specs.declared.columns.Columns.{Columns}
 use Rattle.keyed_files.specs.declared.columns.Place.{Place}
 use Rattle.keyed_files.specs.declared.request.Form.{Form}
@@ -20,14 +21,16 @@ use Rattle.keyed_files.specs.declared.source.Content.TheVariants.{Rows}
 use Rattle.keyed_files.proofs.LawLemmas.{writes-names}
 use Rattle.keyed_tables.specs.Gathered.{HoldsRows}
 use Rattle.keyed_text.specs.Laws.{HasCells}
-use Rattle.keyed_text.specs.Texts.{AreRows, BeginsComments, PartsCells}
-use Rattle.keyed_text.proofs.TextLemmas.{rows-back, rows-once}
+use Rattle.keyed_text.specs.Texts.{AreRows, BeginsComments, PartsCells, finished}
+use Rattle.keyed_text.specs.declared.style.Style.{Style}
+use Rattle.keyed_text.proofs.TextLemmas.{file-back, rows-once}
 use Rattle.keyed_commands.specs.Answers.{IsTableText, TableRows, key_cmp}
 use Rattle.keyed_commands.specs.TablesRead.{SaysTable}
 use Rattle.keyed_commands.specs.TextLaws.{SaysOnly, table_text_rows}
 use Rattle.keyed_commands.proofs.AnswerLemmas.{key_exact, key_total}
 use Rattle.keyed_commands.proofs.ColumnsBackLemmas.{Within, field_is, lacks, map_agree, same_name}
 use Rattle.keyed_commands.proofs.GatheredLemmas.{climbing, flat, holds-flat, one-table}
+use Rattle.keyed_commands.proofs.LawLemmas.{has-header}
 use Rattle.keyed_commands.proofs.TextLawLemmas.{IsRow, groups-are, groups-climb, groups-full, table-rises}
 
 -- a text that begins with no mark begins with no byte order mark
@@ -124,7 +127,7 @@ module _ (names key written : List (List ℕ)) (headers : List (List (List ℕ))
       (table_again table (All-tail (λ g. (g.1 ≢ []) × All (IsRow names columns g.0) g.1) g table h))
 
   -- what is written of a table that a text says is read as this table
-  module _ (form from : Form) (groups : Bool) (text from_text : List ℕ) (header : List (List ℕ)) (table : TableRows) (has : form.has_header ≡ true)
+  module _ (form from : Form) (groups : Bool) (text from_text : List ℕ) (header : List (List ℕ)) (table : TableRows) (has : writes_heading form ≡ true)
       (parts : PartsCells (delimiter_of form)) (begins_comments : BeginsComments (delimiter_of form) (comment_of form))
       (says : SaysTable from Rows groups from_text header names columns table) (is : IsTableText form columns None true table text) (some : written ≢ [])
       (unmarked : is_marked (text_of form (table_text_rows form columns table)) ≡ false) where
@@ -142,24 +145,28 @@ module _ (names key written : List (List ℕ)) (headers : List (List (List ℕ))
     rows_are : table_text_rows form columns table ≡ written ∷ table_rows order table
     rows_are = ap (λ l. l ++ table_rows order table) heading_is
 
-    text_is : text ≡ text_of form (written ∷ table_rows order table)
+    abbrev style : Style
+    style = form.writing.style
+
+    text_is : text ≡ finished style (text_of form (written ∷ table_rows order table))
     text_is =
-        is.2 ∙ ap (λ shown. quoted_text form (heading form None columns ++ table_rows order shown)) (is.1.3 ∙ is.1.2)
-        ∙ ap (λ b. if b then quoted (delimiter_of form) (text_of form (table_text_rows form columns table)) else text_of form (table_text_rows form columns table)) unmarked
-        ∙ ap (text_of form) rows_are
+        let all = table_text_rows form columns table in
+        is.2 ∙ ap (λ shown. file_text form (heading form None columns ++ table_rows order shown)) (is.1.3 ∙ is.1.2)
+        ∙ ap (λ b. finished style (if b then quoted (delimiter_of form) (text_of form all) else text_of form all)) unmarked
+        ∙ ap (λ rows. finished style (text_of form rows)) rows_are
 
     are_rows : AreRows (delimiter_of form) (comment_of form) text (written ∷ table_rows order table)
     are_rows =
         subst (λ t. AreRows (delimiter_of form) (comment_of form) t (written ∷ table_rows order table)) (sym text_is)
-        (rows-back (delimiter_of form) (comment_of form) parts begins_comments (written ∷ table_rows order table)
-        (plain_text (text_of form (written ∷ table_rows order table)) (ap (λ rows. is_marked (text_of form rows)) (sym rows_are) ∙ unmarked))
-        (All-cons HasCells written (table_rows order table) some (table_full order table order_some)))
+        (file-back style (delimiter_of form) (comment_of form) parts begins_comments written (table_rows order table)
+        (All-cons HasCells written (table_rows order table) some (table_full order table order_some))
+        (plain_text (text_of form (written ∷ table_rows order table)) (ap (λ rows. is_marked (text_of form rows)) (sym rows_are) ∙ unmarked)))
 
     pub says-only : SaysOnly form groups text written columns table
     says-only other h =
         let same : h.1.0 ≡ written ∷ table_rows order table = rows-once (delimiter_of form) (comment_of form) text h.1.0 (written ∷ table_rows order table) h.1.1 are_rows in
         let rows : map parts_of h.0 ≡ flat table =
-        h.1.3 ∙ ap₂ (λ b records. map (row_under Rows written columns) (behind_header b records)) has same ∙ table_again table (groups-are from groups from_text header names columns table says) in
+        h.1.3 ∙ ap₂ (λ b records. map (row_under Rows written columns) (behind_header b records)) (has-header form has) same ∙ table_again table (groups-are from groups from_text header names columns table says) in
         one-table key_cmp key_total key_exact key_cmp key_total key_exact (flat table) other table
         (subst (λ ps. HoldsRows key_cmp ps other) rows h.2.0)
         (holds-flat key_cmp key_total table (table-rises from groups from_text header names columns table says) (groups-full from groups from_text header names columns table says))

@@ -1,6 +1,7 @@
 -- From what `apply` and `merge` answer of sources to what they answer of texts.
 use Rattle.std.proofs.Common.{◌≡◌, ℕ, Bool, false, List, Option, None, Some, refl, subst, sym}
 use Rattle.std.specs.Prelude.{IfSome}
+use Rattle.keyed_files.specs.AnswerForm.{in_style}
 use Rattle.keyed_files.specs.Gone.{GoneOf, IsGoneRead}
 use Rattle.keyed_files.specs.Keys.{AreChangedColumnsBy, AreMergedColumnsBy}
 use Rattle.keyed_files.specs.Opening.{IsNamedAnew, IsOpened, form_of, text_of_stream}
@@ -81,11 +82,10 @@ module _ {R : Type 0} (rem : R → Option (List ℕ)) (settings : Settings) (old
         gone_said = subst (λ two. GoneOf (form_of settings.form changes) u two.source.value.header.gone) (sym same)
             (gone-of rem (form_of settings.form changes) u inputs.next.source.value (read.changes_read _ u _ (subst (λ two. IsOpen (form_of settings.form changes) Changes rem u two.source.value.header.names two.source.value) (sym same) beside.0)).1.0 (read.changes_read _ u _ (subst (λ two. IsOpen (form_of settings.form changes) Changes rem u two.source.value.header.names two.source.value) (sym same) beside.0)).1.1 beside.1);
         applied = record {
+          style = read.applied.style;
           keys = read.applied.keys;
           by_cells = read.applied.by_cells;
-          made = read.applied.made;
-          applied = subst (λ f. AnswersApplied f job.columns.now read.applied.keys read.applied.by_cells read.old read.changes read.applied.made) form read.applied.applied;
-          styled = read.applied.styled;
+          applied = subst (λ f. AnswersApplied (in_style read.applied.style f) job.columns.now read.applied.keys read.applied.by_cells read.old read.changes answer) form read.applied.applied;
           order = λ by_key. read.applied.order (unordered by_key);
         };
       })
@@ -115,11 +115,10 @@ module _ {R : Type 0} (rem : R → Option (List ℕ)) (by : Unit) (settings : Se
         ours_say = says rem settings job _ u _ sides.first read.ours groups read.ours_read two;
         theirs_say = says rem settings job _ v _ sides.next read.theirs groups read.theirs_read three;
         merged = record {
+          style = read.merged.style;
           keys = read.merged.keys;
           by_cells = read.merged.by_cells;
-          made = read.merged.made;
-          merged = subst (λ f. AnswersBy f job.columns.now read.merged.keys read.merged.by_cells read.base read.ours read.theirs read.merged.made by) form read.merged.merged;
-          styled = read.merged.styled;
+          merged = subst (λ f. AnswersBy (in_style read.merged.style f) job.columns.now read.merged.keys read.merged.by_cells read.base read.ours read.theirs answer by) form read.merged.merged;
           order = λ by_key. read.merged.order (unordered by_key);
         };
       })

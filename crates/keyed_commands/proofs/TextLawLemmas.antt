@@ -10,6 +10,7 @@ use Rattle.eob_lists.specs.Join.{IsJoin, Rising, value_under}
 use Rattle.eob_joins.specs.Changes.{changed}
 use Rattle.eob_joins.specs.Tables.{IsKeptOfJoin, kept}
 use Rattle.eob_joins.proofs.TableLemmas.{same_table}
+use Rattle.keyed_files.specs.AnswerForm.{writes_heading}
 use Rattle.keyed_files.specs.ColumnNames.{column_names}
 use Rattle.keyed_files.specs.Headers.{unmarked}
 use Rattle.keyed_files.specs.Names.{repeats}
@@ -36,7 +37,7 @@ use Rattle.keyed_commands.proofs.AnswerLemmas.{key_exact, key_total}
 use Rattle.keyed_commands.proofs.ChangesBackLemmas.{AllBack, ReadsBack, all-lefts, all-rights, changes-rise, come-back, come-parts, come_of, gone-back, gone-parts, gone_of, joined-again, lefts-hold, lefts-rise, rights-hold, rights-rise}
 use Rattle.keyed_commands.proofs.ColumnsBackLemmas.{Within, columns-once, columns-within, names-unmarked, row-back}
 use Rattle.keyed_commands.proofs.GatheredLemmas.{Climbing, HasRow, climbing, flat, groups-hold, holds-flat, one-table}
-use Rattle.keyed_commands.proofs.LawLemmas.{diff_reads}
+use Rattle.keyed_commands.proofs.LawLemmas.{diff_reads, has-header}
 
 -- of the same rows there is one table
 table_once : (groups : Bool) (rows others : List ReadRow) (table other : TableRows) → map parts_of rows ≡ map parts_of others
@@ -166,7 +167,7 @@ module _ (form : Form) (columns under : Columns) (marked all : List (List ℕ)) 
         (all-rights (Climbing key_cmp key_total key_exact key_cmp key_total key_exact) shown right_climbs))
 
 -- what `diff` wrote of two texts
-module _ (settings : Settings) (old_form new_form : Form) (old_text new_text : List ℕ) (answer : Answer) (has : settings.form.has_header ≡ true)
+module _ (settings : Settings) (old_form new_form : Form) (old_text new_text : List ℕ) (answer : Answer) (has : writes_heading settings.form ≡ true)
     (parts : PartsCells (delimiter_of settings.form)) (begins : BeginsComments (delimiter_of settings.form) (comment_of settings.form))
     (plain : settings.keeps_order ≡ false) (diffs : DiffsTexts settings old_form new_form old_text new_text answer) where
   -- the names of all columns
@@ -194,7 +195,7 @@ module _ (settings : Settings) (old_form new_form : Form) (old_text new_text : L
       (says : SaysChanges settings.form settings.groups answer.bytes.items header header columns changes) where
     -- has their names in its header
     pub changes-header : header ≡ all_of
-    changes-header = header-is settings.form diffs.columns columns diffs.changes.marked all_of read_back.0 answer.bytes.items settings.groups header changes has read_back.2 names_are once_all says
+    changes-header = header-is settings.form diffs.columns columns diffs.changes.marked all_of read_back.0 answer.bytes.items settings.groups header changes (has-header settings.form has) read_back.2 names_are once_all says
 
     -- and says the changes between the two tables
     pub diff-says : AreReadAs diffs.columns columns → IsKeptOfJoin key_cmp (changed rows_eq) diffs.old diffs.new changes
@@ -210,7 +211,7 @@ module _ (settings : Settings) (old_form new_form : Form) (old_text new_text : L
         let new_climb = groups-climb new_form settings.groups new_text diffs.next_header diffs.next_header diffs.columns diffs.new diffs.new_says in
         let old_full = groups-full old_form settings.groups old_text diffs.header diffs.names diffs.columns diffs.old diffs.old_says in
         let new_full = groups-full new_form settings.groups new_text diffs.next_header diffs.next_header diffs.columns diffs.new diffs.new_says in
-        let same = changes-are settings.form diffs.columns columns diffs.changes.marked all_of shown answer.bytes.items settings.groups header changes has read_back.2 names_are once_all says
+        let same = changes-are settings.form diffs.columns columns diffs.changes.marked all_of shown answer.bytes.items settings.groups header changes (has-header settings.form has) read_back.2 names_are once_all says
         (lefts-hold key_cmp key_total key_exact rows_eq (AllBack all_of columns order) diffs.old diffs.new shown d old_back)
         (rights-hold key_cmp key_total key_exact rows_eq (AllBack all_of columns order) diffs.old diffs.new shown d new_back)
         (changes-rise key_cmp key_total key_exact rows_eq diffs.old diffs.new shown d)

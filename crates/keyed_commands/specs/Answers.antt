@@ -17,12 +17,11 @@ use Rattle.keyed_tables.specs.RowsByCell.{GivesRow, can_by_row}
 use Rattle.keyed_commands.specs.Lost.{loses}
 use Rattle.keyed_files.specs.Names.{has_lone}
 use Rattle.keyed_files.specs.Rows.{heading, table_rows}
-use Rattle.keyed_files.specs.Writing.{quoted_text, text_of}
+use Rattle.keyed_files.specs.Writing.{file_text, text_of}
 use Rattle.keyed_files.specs.declared.column_changes.ColumnChanges.{ColumnChanges}
 use Rattle.keyed_files.specs.declared.columns.Columns.{Columns}
 use Rattle.keyed_files.specs.declared.request.Form.{Form}
 use Rattle.keyed_commands.specs.declared.answers.Answer.{Answer}
-use Rattle.keyed_commands.specs.declared.as_written.Style.{Style}
 use Rattle.keyed_commands.specs.declared.answers.Outcome.TheVariants.{Made, Stopped}
 use Rattle.keyed_commands.specs.ChangeRows.{changes_heading, changes_rows}
 use Rattle.keyed_commands.specs.ComeOut.{AlikePlaces, AlikeRows, ComesOut}
@@ -48,11 +47,6 @@ status_of holds = if holds then 0 else 1
 -- an answer that is no table
 abbrev pub Stops : Answer → Type 0
 Stops answer = (answer.status ≡ 1) × (answer.outcome ≡ Stopped)
-
--- whether rows are written as this table is where they are written plainly: with no byte order mark, LF, quotes where they are needed, and
--- an end of the last line
-abbrev pub is_plain : Style → Bool
-is_plain style = not style.has_mark && not style.has_cr && not style.has_quotes && style.has_end
 
 -- whether a column comes or goes
 abbrev pub columns_differ : ColumnChanges → Bool
@@ -83,10 +77,10 @@ module _ (form : Form) (columns : Columns) (noted : Option (List (List (List ℕ
   IsDiffText marked old new text = (shown : TableChanges) × ChangesComeOut noted by_cells old new shown
       × (text ≡ text_of form (changes_heading form marked ++ changes_rows columns.order.items shown))
 
-  -- a text has the rows of a table, behind its header
+  -- a text is the file of the rows of a table, behind its heading
   abbrev pub IsTableText : TableRows → List ℕ → Type 0
   IsTableText rows text = (shown : TableRows) × ComesOut noted by_cells AlikeRows rows shown
-      × (text ≡ quoted_text form (heading form None columns ++ table_rows columns.order.items shown))
+      × (text ≡ file_text form (heading form None columns ++ table_rows columns.order.items shown))
 
   -- an answer to a command that makes a table: its text, unless a cell would be lost
   abbrev pub AnswersTable : TableRows → Answer → Type 0

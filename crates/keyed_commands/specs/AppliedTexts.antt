@@ -1,5 +1,7 @@
 -- What `apply` answers of the texts of a table and of changes.
 use Rattle.std.specs.Prelude.{◌≡◌, ℕ, Bool, false, true, List, Option, None, IfSome, is_none}
+use Rattle.keyed_text.specs.declared.style.Style.{Style}
+use Rattle.keyed_files.specs.AnswerForm.{in_style}
 use Rattle.keyed_files.specs.Gone.{GoneOf}
 use Rattle.keyed_files.specs.Keys.{AreChangedColumnsBy}
 use Rattle.keyed_files.specs.Opening.{form_of, text_of_stream}
@@ -9,12 +11,10 @@ use Rattle.keyed_files.specs.declared.opened.Two.{Two}
 use Rattle.keyed_files.specs.declared.request.Form.{Form}
 use Rattle.keyed_files.specs.declared.request.Settings.{Settings}
 use Rattle.keyed_files.specs.declared.source.Content.TheVariants.{Rows}
-use Rattle.keyed_commands.specs.Answers.{AllFit, AnswersPatched, Stops, TableChanges, TableRows, is_plain, key_cmp}
+use Rattle.keyed_commands.specs.Answers.{AllFit, AnswersPatched, Stops, TableChanges, TableRows, key_cmp}
 use Rattle.keyed_commands.specs.ChangesRead.{ReadsChanges, SaysChanges}
 use Rattle.keyed_commands.specs.TablesRead.{AreNamesBy, IsUnordered, ReadsTable, SaysTable}
 use Rattle.keyed_commands.specs.declared.answers.Answer.{Answer}
-use Rattle.keyed_commands.specs.declared.answers.Outcome.TheVariants.{Stopped}
-use Rattle.keyed_commands.specs.declared.as_written.Style.{Style}
 use Rattle.keyed_commands.specs.declared.job.Job.{Job}
 use Rattle.keyed_commands.specs.declared.watched.Watched.{Watched}
 
@@ -22,30 +22,18 @@ use Rattle.keyed_commands.specs.declared.watched.Watched.{Watched}
 abbrev pub watched_left : {R : Type 0} → (R → Option (List ℕ)) → Watched R → Option (List ℕ)
 watched_left remaining watched = remaining watched.reader
 
--- an answer with its rows written in a style: a plain one changes nothing, a report stays as it is, and so do status and outcome
-pub record IsStyled (style : Style) (made written : Answer) : Type 0 where
-  pub plain : is_plain style ≡ true → written ≡ made
-  pub stopped : made.outcome ≡ Stopped → written ≡ made
-  pub status : written.status ≡ made.status
-  pub outcome : written.outcome ≡ made.outcome
-
--- and in some style
-abbrev pub IsInStyle : Answer → Answer → Type 0
-IsInStyle made written = (style : Style) × IsStyled style made written
-
 -- the table with changes made to it where each of them fits, and else a report with status 1
 pub record AnswersApplied (form : Form) (columns : Columns) (keys : Option (List (List (List ℕ)))) (by_cells : Bool)
     (old : TableRows) (changes : TableChanges) (answer : Answer) : Type 0 where
   pub fits : AllFit key_cmp old changes → AnswersPatched form columns keys by_cells old changes answer
   pub misfits : (AllFit key_cmp old changes → ⊥) → Stops answer
 
--- the same, in a style, with the order in which rows come out
+-- the same, written in a style, with the order in which rows come out
 pub record AppliedIn (form : Form) (columns : Columns) (unordered : Type 0) (old : TableRows) (changes : TableChanges) (answer : Answer) : Type 0 where
+  pub style : Style
   pub keys : Option (List (List (List ℕ)))
   pub by_cells : Bool
-  pub made : Answer
-  pub applied : AnswersApplied form columns keys by_cells old changes made
-  pub styled : IsInStyle made answer
+  pub applied : AnswersApplied (in_style style form) columns keys by_cells old changes answer
   pub order : unordered → (keys ≡ None) × (by_cells ≡ true)
 
 -- what `apply` answers of two texts: the first says a table and the second one changes, under the columns of the table that they make, of

@@ -3,6 +3,7 @@ use Rattle.std.specs.Prelude.{ℕ, List, [], ◌∷◌, ◌++◌, Option, Some, 
 use Rattle.std.specs.List.{flat_map}
 use Rattle.either_or_both.specs.Prelude.{left_place, right_place}
 use Rattle.eob_both.specs.declared.either_or_both.EitherOrBoth.{EitherOrBoth}
+use Rattle.keyed_files.specs.AnswerForm.{writes_heading}
 use Rattle.keyed_files.specs.declared.columns.Place.{Place}
 use Rattle.keyed_files.specs.declared.request.Form.{Form}
 use Rattle.keyed_files.specs.declared.sign.Sign.{Sign}
@@ -22,6 +23,6 @@ change_rows order key change = version_rows Minus order key (left_place change) 
 abbrev pub changes_rows : List Place → List (List (List ℕ) × EitherOrBoth (List (List (List ℕ))) (List (List (List ℕ)))) → List (List (List ℕ))
 changes_rows order changes = flat_map (λ change. change_rows order change.0 change.1) changes
 
--- the header of changes, where tables have one
+-- the header of changes, where answers have a heading
 abbrev pub changes_heading : Form → List (List ℕ) → List (List (List ℕ))
-changes_heading form marked = if form.has_header then (change_name ∷ marked) ∷ [] else []
+changes_heading form marked = if writes_heading form then (change_name ∷ marked) ∷ [] else []

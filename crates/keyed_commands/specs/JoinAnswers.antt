@@ -6,6 +6,7 @@ use Rattle.eob_both.specs.declared.either_or_both.EitherOrBoth.{EitherOrBoth}
 use Rattle.eob_both.specs.declared.either_or_both.EitherOrBoth.TheVariants.{Left, Both, Right}
 use Rattle.either_or_both.specs.Join.{IsJoin}
 use Rattle.eob_joins.specs.Tables.{IsAntiJoin, IsInnerJoin, IsLeftJoin, IsRightJoin, IsSemiJoin}
+use Rattle.keyed_files.specs.AnswerForm.{writes_heading}
 use Rattle.keyed_files.specs.JoinedNames.{joined_names}
 use Rattle.keyed_files.specs.JoinedRows.{each_before, join_heading, side_count, side_row}
 use Rattle.keyed_files.specs.Keys.{AreJoinColumns}
@@ -101,9 +102,9 @@ names_as format.Json names = []
 abbrev pub header_of_join : Form → Joining → JoinColumns → List (List ℕ)
 header_of_join form how columns = if form.has_header then names_as how.format (joined_names how.kind how.names columns) else []
 
--- the header of a join, where tables have one
+-- the header of a join, where answers have a heading
 abbrev pub heading_of_join : Form → List (List ℕ) → List (List (List ℕ))
-heading_of_join form names = if form.has_header then join_heading names else []
+heading_of_join form names = if writes_heading form then join_heading names else []
 
 module _ (form : Form) (columns : JoinColumns) (names : List (List ℕ)) (noted : Option (List (List (List ℕ)))) (by_cells : Bool) where
   -- a text has the rows of a join as they come out, behind its header

@@ -3,6 +3,7 @@ use Rattle.std.specs.Prelude.{◌≡◌, ◌≢◌, ℕ, Bool, true, List, ◌�
 use Rattle.either_or_both.specs.Join.{Rising}
 use Rattle.eob_joins.specs.Changes.{applied, changed}
 use Rattle.eob_joins.specs.Tables.{IsKeptOfJoin}
+use Rattle.keyed_files.specs.AnswerForm.{writes_heading}
 use Rattle.keyed_files.specs.Rows.{change_name}
 use Rattle.keyed_files.specs.Writing.{comment_of, delimiter_of}
 use Rattle.keyed_files.specs.declared.columns.Columns.{Columns}
@@ -30,7 +31,7 @@ DiffApplyLaw = (form : Form) (columns : Columns) (noted : Option (List (List (Li
 -- a text of changes reads as its heading and the rows of the changes, each behind its sign, and as nothing else
 abbrev pub DiffReadsLaw : Type 0
 DiffReadsLaw = (form : Form) (columns : Columns) (noted : Option (List (List (List ℕ)))) (by_cells : Bool) (marked : List (List ℕ)) (old new : TableRows) (text : List ℕ)
-    → form.has_header ≡ true → PartsCells (delimiter_of form) → BeginsComments (delimiter_of form) (comment_of form)
+    → writes_heading form ≡ true → PartsCells (delimiter_of form) → BeginsComments (delimiter_of form) (comment_of form)
     → IsDiffText form columns noted by_cells marked old new text
     → (shown : TableChanges) × ChangesComeOut noted by_cells old new shown
     × ReadsAs (delimiter_of form) (comment_of form) text (change_name ∷ marked) (changes_rows columns.order.items shown)

@@ -11,6 +11,7 @@ pub mod Laws
 pub mod LookupAnswers
 pub mod Lost
 pub mod MergedTexts
+pub mod NotedStyles
 pub mod OneSide
 pub mod OverlayAnswers
 pub mod PartAnswers

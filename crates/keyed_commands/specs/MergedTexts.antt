@@ -1,5 +1,7 @@
 -- What `merge` answers of the texts of three versions of a table.
 use Rattle.std.specs.Prelude.{◌≡◌, ℕ, Bool, false, true, List, Option, None, IfSome}
+use Rattle.keyed_text.specs.declared.style.Style.{Style}
+use Rattle.keyed_files.specs.AnswerForm.{in_style}
 use Rattle.keyed_files.specs.Keys.{AreMergedColumnsBy}
 use Rattle.keyed_files.specs.Opening.{form_of, text_of_stream}
 use Rattle.keyed_files.specs.declared.columns.Columns.{Columns}
@@ -14,7 +16,6 @@ use Rattle.keyed_files.specs.declared.request.Form.{Form}
 use Rattle.keyed_files.specs.declared.request.Settings.{Settings}
 use Rattle.keyed_files.specs.declared.source.Content.TheVariants.{Rows}
 use Rattle.keyed_commands.specs.Answers.{AnswersMerged, AnswersMergedByCell, HasConflict, HasNoConflict, HasNoneStuck, HasStuck, Stops, TableRows}
-use Rattle.keyed_commands.specs.AppliedTexts.{IsInStyle}
 use Rattle.keyed_commands.specs.TablesRead.{AreNamesBy, IsUnordered, ReadsTable, SaysTable}
 use Rattle.keyed_commands.specs.declared.answers.Answer.{Answer}
 use Rattle.keyed_commands.specs.declared.job.Job.{Job}
@@ -39,13 +40,12 @@ module _ (form : Form) (columns : Columns) (keys : Option (List (List (List ℕ)
   AnswersBy unit.Row = AnswersByRow
   AnswersBy unit.Cell = AnswersByCell
 
--- the same, in a style, with the order in which rows come out
+-- the same, written in a style, with the order in which rows come out
 pub record MergedIn (by : Unit) (form : Form) (columns : Columns) (unordered : Type 0) (base ours theirs : TableRows) (answer : Answer) : Type 0 where
+  pub style : Style
   pub keys : Option (List (List (List ℕ)))
   pub by_cells : Bool
-  pub made : Answer
-  pub merged : AnswersBy form columns keys by_cells base ours theirs made by
-  pub styled : IsInStyle made answer
+  pub merged : AnswersBy (in_style style form) columns keys by_cells base ours theirs answer by
   pub order : unordered → (keys ≡ None) × (by_cells ≡ true)
 
 -- what `merge` answers of three texts, each of which says a table under the columns of the three, merged as rows are

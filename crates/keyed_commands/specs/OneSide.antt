@@ -1,6 +1,7 @@
 -- What a merge keeps of what one side alone changed.
 use Rattle.std.specs.Prelude.{◌≡◌, ℕ, List}
 use Rattle.eob_lists.specs.Join.{value_under}
+use Rattle.keyed_files.specs.AnswerForm.{in_style}
 use Rattle.keyed_files.specs.declared.request.Form.{Form}
 use Rattle.keyed_files.specs.declared.request.Settings.{Settings}
 use Rattle.keyed_files.specs.declared.merging.Unit.TheVariants as unit
@@ -16,9 +17,9 @@ pub record KeepsOneSide (base ours theirs rows : TableRows) : Type 0 where
   pub theirs_alone : (key : List (List ℕ)) → value_under key_cmp ours key ≡ value_under key_cmp base key
       → value_under key_cmp rows key ≡ value_under key_cmp theirs key
 
--- the table that `merge` makes of three texts row by row has what one side alone changed, whatever the texts are
+-- what `merge` makes of three texts row by row is the file of a table that has what one side alone changed, whatever the texts are
 abbrev pub OneSideLaw : Type 0
 OneSideLaw = (settings : Settings) (base_form ours_form theirs_form : Form) (base_text ours_text theirs_text : List ℕ) (answer : Answer)
     → (merges : MergesTexts unit.Row settings base_form ours_form theirs_form base_text ours_text theirs_text answer) → answer.outcome ≡ Made
     → (rows : TableRows) × KeepsOneSide merges.base merges.ours merges.theirs rows
-    × IsTableText settings.form merges.columns merges.merged.keys merges.merged.by_cells rows merges.merged.made.bytes.items
+    × IsTableText (in_style merges.merged.style settings.form) merges.columns merges.merged.keys merges.merged.by_cells rows answer.bytes.items

@@ -7,6 +7,8 @@ use Rattle.either_or_both.specs.Join.{value_under}
 use Rattle.eob_lists.specs.JoinLaws.{overlaid}
 use Rattle.eob_joins.specs.Tables.{Tabulates}
 use Rattle.keyed_tables.specs.Laid.{filled}
+use Rattle.keyed_text.specs.declared.style.Style.{Style}
+use Rattle.keyed_files.specs.AnswerForm.{in_style}
 use Rattle.keyed_files.specs.Keys.{AreColumnsBy}
 use Rattle.keyed_files.specs.Opening.{form_of, text_of_stream}
 use Rattle.keyed_files.specs.Reading.{IsOpen}
@@ -19,7 +21,7 @@ use Rattle.keyed_files.specs.declared.request.Form.{Form}
 use Rattle.keyed_files.specs.declared.request.Settings.{Settings}
 use Rattle.keyed_files.specs.declared.source.Content.TheVariants.{Rows}
 use Rattle.keyed_commands.specs.Answers.{IsTableText, TableRows, key_cmp}
-use Rattle.keyed_commands.specs.AppliedTexts.{IsInStyle, watched_left}
+use Rattle.keyed_commands.specs.AppliedTexts.{watched_left}
 use Rattle.keyed_commands.specs.TablesRead.{AreNames, IsUnordered, ReadsTable, SaysTable}
 use Rattle.keyed_commands.specs.declared.answers.Answer.{Answer}
 use Rattle.keyed_commands.specs.declared.answers.Outcome.TheVariants.{Made}
@@ -41,11 +43,10 @@ laid_under layer below (table ∷ tables) key = laid_under layer (option_map (la
 abbrev pub AreLaidOver : Layer → TableRows → List TableRows → TableRows → Type 0
 AreLaidOver layer below tables rows = Tabulates key_cmp rows (λ key. laid_under layer (value_under key_cmp below key) tables key)
 
--- an answer with the rows of a table, in a style
+-- an answer with the rows of a table, written in a style
 pub record AnswersRows (form : Form) (columns : Columns) (keys : Option (List (List (List ℕ)))) (by_cells : Bool) (rows : TableRows) (answer : Answer) : Type 0 where
-  pub made : Answer
-  pub text : IsTableText form columns keys by_cells rows made.bytes.items
-  pub styled : IsInStyle made answer
+  pub style : Style
+  pub text : IsTableText (in_style style form) columns keys by_cells rows answer.bytes.items
   pub status : answer.status ≡ 0
   pub outcome : answer.outcome ≡ Made
 

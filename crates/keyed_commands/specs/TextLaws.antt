@@ -2,6 +2,8 @@
 use Rattle.std.specs.Prelude.{◌≡◌, ◌≢◌, ◌++◌, ℕ, Bool, true, false, List, [], None}
 use Rattle.eob_joins.specs.Changes.{changed}
 use Rattle.eob_joins.specs.Tables.{IsKeptOfJoin}
+use Rattle.keyed_text.specs.declared.style.Style.{Style}
+use Rattle.keyed_files.specs.AnswerForm.{in_style, writes_heading}
 use Rattle.keyed_files.specs.ColumnNames.{or_header}
 use Rattle.keyed_files.specs.Encodings.{is_marked}
 use Rattle.keyed_files.specs.Names.{repeats}
@@ -14,7 +16,7 @@ use Rattle.keyed_files.specs.declared.source.Content.{Content}
 use Rattle.keyed_files.specs.declared.source.Content.TheVariants.{Rows}
 use Rattle.keyed_text.specs.Texts.{BeginsComments, PartsCells, ReadsAs}
 use Rattle.keyed_commands.specs.Answers.{IsTableText, TableChanges, TableRows, key_cmp, rows_eq}
-use Rattle.keyed_commands.specs.AppliedTexts.{AppliesTexts, IsInStyle}
+use Rattle.keyed_commands.specs.AppliedTexts.{AppliesTexts}
 use Rattle.keyed_commands.specs.ChangesRead.{SaysChanges}
 use Rattle.keyed_commands.specs.TablesRead.{DiffsTexts, SaysTable}
 use Rattle.keyed_commands.specs.declared.answers.Answer.{Answer}
@@ -38,7 +40,7 @@ pub record AreReadAs (columns others : Columns) : Type 0 where
 -- what `diff` writes says, where it is read as changes, exactly the changes between the tables that its texts say
 abbrev pub DiffSaysLaw : Type 0
 DiffSaysLaw = (settings : Settings) (old_form new_form : Form) (old_text new_text : List ℕ) (answer : Answer) (header : List (List ℕ)) (columns : Columns)
-    (changes : TableChanges) → settings.form.has_header ≡ true → PartsCells (delimiter_of settings.form)
+    (changes : TableChanges) → writes_heading settings.form ≡ true → PartsCells (delimiter_of settings.form)
     → BeginsComments (delimiter_of settings.form) (comment_of settings.form) → settings.keeps_order ≡ false
     → (diffs : DiffsTexts settings old_form new_form old_text new_text answer) → AreReadAs diffs.columns columns
     → SaysChanges settings.form settings.groups answer.bytes.items header header columns changes
@@ -61,26 +63,25 @@ table_text_rows form columns table = heading form None columns ++ table_rows col
 abbrev pub SaysOnly : Form → Bool → List ℕ → List (List ℕ) → Columns → TableRows → Type 0
 SaysOnly form groups text names columns table = (other : TableRows) → SaysTable form Rows groups text names names columns other → other ≡ table
 
--- an answer is the text of the table that a text says, under the names of its header, or under others where it has none; read again, it
--- says that table and no other, where it has a column and its text begins with no mark of an encoding
+-- an answer is the file, in a style, of the table that a text says, under the names of its header, or under others where it has none; read
+-- again, it says that table and no other, where it has a column and the text of its rows begins with no mark of an encoding
 pub record AnswersTableOf (settings : Settings) (form : Form) (text : List ℕ) (others : List (List ℕ)) (answer : Answer) : Type 0 where
   pub header : List (List ℕ)
   pub columns : Columns
   pub table : TableRows
-  pub made : Answer
+  pub style : Style
   pub names : placed columns.order.items columns.key columns.rest ≡ or_header header others
   pub says : SaysTable form Rows settings.groups text header header columns table
-  pub answers : MakesTable settings.form columns table made
-  pub reads : or_header header others ≢ [] → is_marked (text_of settings.form (table_text_rows settings.form columns table)) ≡ false
-      → SaysOnly settings.form settings.groups made.bytes.items (or_header header others) columns table
-  pub styled : IsInStyle made answer
+  pub answers : MakesTable (in_style style settings.form) columns table answer
+  pub reads : or_header header others ≢ [] → is_marked (text_of (in_style style settings.form) (table_text_rows settings.form columns table)) ≡ false
+      → SaysOnly settings.form settings.groups answer.bytes.items (or_header header others) columns table
 
 -- what `apply` answers of the first of two texts, and of what `diff` wrote between both, is the text of the table that the second one says:
 -- where both have headers, in which no name stands twice, rows come out by key, and both commands read the first one under the same names,
 -- none twice, and by the same key
 abbrev pub DiffedTextByLaw : Type 0
 DiffedTextByLaw = (settings : Settings) (old_form new_form : Form) (old_text new_text : List ℕ) (difference answer : Answer)
-    → settings.form.has_header ≡ true → old_form.has_header ≡ true → new_form.has_header ≡ true
+    → writes_heading settings.form ≡ true → old_form.has_header ≡ true → new_form.has_header ≡ true
     → PartsCells (delimiter_of settings.form) → BeginsComments (delimiter_of settings.form) (comment_of settings.form)
     → settings.keeps_order ≡ false → NamesOnce old_form old_text → NamesOnce new_form new_text
     → (diffs : DiffsTexts settings old_form new_form old_text new_text difference)
@@ -91,7 +92,7 @@ DiffedTextByLaw = (settings : Settings) (old_form new_form : Form) (old_text new
 -- the same where the key is the first column, and no column has another name
 abbrev pub DiffedTextLaw : Type 0
 DiffedTextLaw = (settings : Settings) (old_form new_form : Form) (old_text new_text : List ℕ) (difference answer : Answer)
-    → settings.form.has_header ≡ true → old_form.has_header ≡ true → new_form.has_header ≡ true
+    → writes_heading settings.form ≡ true → old_form.has_header ≡ true → new_form.has_header ≡ true
     → PartsCells (delimiter_of settings.form) → BeginsComments (delimiter_of settings.form) (comment_of settings.form)
     → settings.keeps_order ≡ false → NamesOnce old_form old_text → NamesOnce new_form new_text
     → settings.key ≡ None → settings.renames ≡ None

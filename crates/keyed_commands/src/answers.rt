@@ -7,7 +7,7 @@ ghost use Rattle.keyed_files.specs.Opening.{first_header, next_header};
 ghost use Rattle.keyed_files.specs.declared.request.Format.TheVariants.{Csv};
 ghost use Rattle.keyed_tables.specs.Arranged.{noted};
 ghost use Rattle.keyed_commands.specs.Answers.{ChangesComeOut, IsDiffStatus};
-ghost use Rattle.keyed_commands.specs.AppliedTexts.{AppliesSources, AppliesStreams, IsInStyle, watched_left};
+ghost use Rattle.keyed_commands.specs.AppliedTexts.{AppliesSources, AppliesStreams, watched_left};
 ghost use Rattle.keyed_commands.specs.MergedTexts.{AnswersBy, IsReported, MergesSources, MergesStreams};
 ghost use Rattle.keyed_commands.specs.TablesRead.{DiffsSources, DiffsStreams, IsUnordered, ReadsTable};
 
@@ -16,7 +16,7 @@ use crate::changed::{changes_shown, diff_as_csv, diff_status};
 use crate::job::{Job, Table};
 use crate::marks::{has_conflict, parted, write_marked};
 use crate::tables::{answer_of_merge, apply_tables, merge_by_cell, merge_by_row};
-use crate::watched::{Watched, watch};
+use crate::watched::{Watched, style_under, watch};
 use eob_joins::Change;
 use keyed_files::{
     ColumnChanges, Columns, Comparing, Conflicts, Content, Decimal, Fault, Format, Look, Merging,
@@ -224,20 +224,10 @@ fn apply_files<'a, R: Read + Drop>(
 {
     let tables = job.read_to_change(inputs)?;
     let (old, changes) = tables;
-    let answer = at(inputs.next.file, apply_tables(&job, old, changes))?;
-    as_written(job.alloc, &inputs.first, answer)
-}
-
-// An answer with its rows written as those of a table that was read.
-fn as_written<'a, R: Read + Drop>(
-    alloc: Global,
-    table: &Opened<'a, Watched<R>>,
-    answer: Answer,
-) -> Result<Answer, Fault<'a>>
-    ensures { IfOk result (IsInStyle answer) }
-{
-    let style = table.source.get_ref().style();
-    at(table.file, style.write_answer(alloc, answer))
+    let noted = inputs.first.source.get_ref().style();
+    let style = style_under(job.form.writing.heading, noted);
+    let job = job.in_style(style);
+    at(inputs.next.file, apply_tables(&job, old, changes))
 }
 
 /// The answer to `merge`, with its rows written as ours are.
@@ -297,8 +287,10 @@ fn merge_files<'a, R: Read + Drop>(
         MergesSources (watched_left R.remaining) how.entry.unit job.entry base.old sides.old answer) }
 {
     let versions = read_versions(&mut job, base, sides)?;
-    let answer = at(sides.next.file, merge_tables(&job, how, versions))?;
-    as_written(job.alloc, &sides.first, answer)
+    let noted = sides.first.source.get_ref().style();
+    let style = style_under(job.form.writing.heading, noted);
+    let job = job.in_style(style);
+    at(sides.next.file, merge_tables(&job, how, versions))
 }
 
 // The rows of three versions of a table.

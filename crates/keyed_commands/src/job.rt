@@ -1,5 +1,6 @@
 //! What the steps of a command share, and how they read tables.
 ghost use Rattle.std.specs.Prelude.{◌≡◌, ◌++◌, ◌∷◌, [], IfOk, None, OnOk, false, is_none, true};
+ghost use Rattle.keyed_files.specs.AnswerForm.{in_style};
 ghost use Rattle.keyed_files.specs.Reading.{ReadsRest, ReadsRows};
 ghost use Rattle.keyed_tables.specs.Arranged.{IsNoted, noted};
 ghost use Rattle.keyed_commands.specs.ChangesRead.{PairsRows, PartsChanges, PartsRest, ReadsChanges};
@@ -14,6 +15,7 @@ use keyed_files::{
 };
 use keyed_rows::{Group, Key, ReadRow, Release};
 use keyed_tables::{Order, Rows, grouped_rows, paired, unique_rows};
+use keyed_text::Style;
 use std::alloc::{AllocError, Global};
 use std::io::Read;
 
@@ -65,6 +67,16 @@ impl<'c, C> Job<'c, C> {
             columns,
             order: Order::by_key(),
             row_order: RowOrder::by_cells(),
+        }
+    }
+
+    /// The same job, with an answer that is written in a style.
+    pub fn in_style(self, style: Style) -> Self
+        ensures { result ≡ record self.entry { form = in_style style self.entry.form } }
+    {
+        Job {
+            form: self.form.in_style(style),
+            ..self
         }
     }
 

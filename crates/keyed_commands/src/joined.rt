@@ -341,13 +341,13 @@ fn write_left(job: &Job<'_, JoinColumns>, rows: Vec<(Key, Group)>) -> Result<Vec
     write_table(job.alloc, job.form, &job.columns.left, rows)
 }
 
-// The header, where tables have one.
+// The header, where answers have a heading.
 fn begin_join(job: &Job<'_, JoinColumns>, header: &Cells) -> Result<Written, Reason>
     ensures { IfOk result (λ written. Wrote job.now.form (heading_of_join job.now.form header.now) written) }
 {
     let mut written = Written::new(job.alloc, job.form);
-    let has_header = job.form.has_header;
-    if has_header {
+    let has_heading = job.form.writes_heading();
+    if has_heading {
         written.put_join_heading(header)?;
         Ok(written)
     } else {

@@ -2,23 +2,24 @@
 ghost use Rattle.std.specs.Prelude.{◌≡◌, ◌∷◌, [], IfOk, OnOk, is_none, map, option_map, unwrap_or};
 ghost use Rattle.keyed_files.specs.Keys.{AreColumnsBy};
 ghost use Rattle.keyed_tables.specs.Arranged.{noted};
-ghost use Rattle.keyed_commands.specs.AppliedTexts.{IsInStyle};
-ghost use Rattle.keyed_commands.specs.OverlayAnswers.{AnswersRows, AreLaidOver, AreLayers, IsLayer};
+ghost use Rattle.keyed_commands.specs.Answers.{IsTableText};
+ghost use Rattle.keyed_commands.specs.OverlayAnswers.{AreLaidOver, AreLayers, IsLayer};
 ghost use Rattle.keyed_commands.specs.OverlayAnswers.{LaysTables};
 ghost use Rattle.keyed_commands.specs.OverlayAnswers.{OverlaysSources, OverlaysStreams, rows_laid};
 ghost use Rattle.keyed_commands.specs.TablesRead.{IsUnordered};
+ghost use Rattle.keyed_commands.specs.declared.answers.Outcome.TheVariants.{Made};
 
 use crate::answers::Answer;
-use crate::as_written::Style;
 use crate::files::put;
 use crate::job::{Job, Table};
 use crate::tables::table_as_csv;
-use crate::watched::{Watched, watch};
+use crate::watched::{Watched, style_under, watch};
 use keyed_files::{
     Columns, Content, Fault, Form, Layer, Opened, Reason, Settings, Stream, at, columns_of,
 };
 use keyed_rows::{Cells, Group, Key};
 use keyed_tables::{filled_over, laid_over};
+use keyed_text::Style;
 use std::alloc::{AllocError, Global};
 use std::io::Read;
 
@@ -52,7 +53,10 @@ fn overlay_files<'a, R: Read + Drop>(
     ensures { IfOk result (OverlaysSources R.remaining layer job.entry tables.entry.items) }
 {
     let laid = lay_all(&mut job, layer, tables)?;
-    at(file, answer_laid(&job, laid))
+    let noted = laid.style.unwrap_or(job.form.writing.style);
+    let style = style_under(job.form.writing.heading, noted);
+    let job = job.in_style(style);
+    at(file, answer_laid(&job, laid.table))
 }
 
 // Reads the headers of all tables. The columns of the key have in the first one the names that they have in the others.
@@ -207,15 +211,16 @@ fn laid_by(alloc: Global, layer: Layer, below: Table, above: Table) -> Result<Ta
     }
 }
 
-// The rows of tables that are laid, written as the first table is.
-fn answer_laid(job: &Job<'_, Columns>, laid: Laid) -> Result<Answer, Reason>
-    ensures { IfOk result (AnswersRows job.now.form job.now.columns.now (noted job.now.order)
-        (is_none job.now.row_order.files) (rows_laid laid)) }
+// The rows of a table, if there is one.
+fn answer_laid(job: &Job<'_, Columns>, table: Option<Table>) -> Result<Answer, Reason>
+    ensures text { IfOk result (λ answer. IsTableText job.now.form job.now.columns.now (noted job.now.order)
+        (is_none job.now.row_order.files)
+        (unwrap_or (option_map (λ table. table.pairs.items) table) []) answer.bytes.items) }
+    ensures status { IfOk result (λ answer. answer.status ≡ 0) }
+    ensures outcome { IfOk result (λ answer. answer.outcome ≡ Made) }
 {
-    let Laid { table, style } = laid;
     let answer = table_as_csv(job, rows_of(job.alloc, table))?;
-    let written = in_style(job.alloc, style, answer)?;
-    Ok(written)
+    Ok(answer)
 }
 
 // The rows of a table, if there is one.
@@ -225,18 +230,5 @@ fn rows_of(alloc: Global, table: Option<Table>) -> Vec<(Key, Group)>
     match table {
         Some(table) => table.pairs,
         None => Vec::new(alloc),
-    }
-}
-
-// An answer with its rows in a style, if there is one.
-fn in_style(alloc: Global, style: Option<Style>, answer: Answer) -> Result<Answer, AllocError>
-    ensures { IfOk result (IsInStyle answer) }
-{
-    match style {
-        Some(style) => {
-            let written = style.write_answer(alloc, answer)?;
-            Ok(written)
-        }
-        None => Ok(answer),
     }
 }

@@ -6,7 +6,6 @@
 #![tactic(auto)]
 
 mod answers;
-mod as_written;
 mod by_number;
 mod changed;
 mod come_out;
@@ -45,12 +44,14 @@ pub use git::{
 pub use joined::join;
 pub use keyed_files::{
     Asked, Colours, Command, Comment, Comparing, Conflicts, Decimal, Delimiter, Encoding, Fault,
-    Finding, Form, Format, GitDiff, GitMerge, JoinNames, Joining, Kind, Layer, Layout, Lengths,
-    Look, Lookup as LookupRequest, LookupKind, Merging, NamedFile, Overlay as OverlayRequest,
-    Picked, Quotes, Reading, Reason, Request, RowFormat, RowsShown, Settings, Shown, ShownCell,
-    ShownName, SortedChanges, SortedRequest, Stream, Unit, View, Wanted, at,
+    Finding, Form, Format, GitDiff, GitMerge, Heading, JoinNames, Joining, Kind, Layer, Layout,
+    Lengths, Look, Lookup as LookupRequest, LookupKind, Merging, NamedFile,
+    Overlay as OverlayRequest, Picked, Quotes, Reading, Reason, Request, RowFormat, RowsShown,
+    Settings, Shown, ShownCell, ShownName, SortedChanges, SortedRequest, Stream, Unit, View,
+    Wanted, Writing, at,
 };
 pub use keyed_reports::Counts;
+pub use keyed_text::{CellQuotes, LineEnd, Style};
 pub use laws::{
     law_diff_apply, law_diff_apply_texts, law_diff_reads, law_diff_says, law_one_side,
     law_text_once,

@@ -264,14 +264,14 @@ fn read_part<R: Read + Drop>(
     })
 }
 
-// The header, where tables have one.
+// The header, where answers have a heading.
 fn begin_lookup(work: &LookupWork<'_>, header: &Cells) -> Result<Written, Reason>
     ensures { IfOk result (λ written.
         Wrote work.now.form (heading_of_join work.now.form header.now) written) }
 {
     let mut written = Written::new(work.alloc, work.form);
-    let has_header = work.form.has_header;
-    if has_header {
+    let has_heading = work.form.writes_heading();
+    if has_heading {
         written.put_join_heading(header)?;
         Ok(written)
     } else {

@@ -78,8 +78,9 @@ pub fn write_marked(
             }
         };
     }
-    let bytes = text.with_line(job, "")?.bytes;
-    Ok(quote_first(job.alloc, bytes, job.form.delimiter)?)
+    let bytes = text.flushed(job)?.bytes;
+    let given = quote_first(job.alloc, bytes, job.form.delimiter)?;
+    Ok(job.form.writing.style.finish(job.alloc, given)?)
 }
 
 // A text in the making: bytes that stay as they are, and rows behind them.
@@ -101,15 +102,23 @@ impl Text {
         Ok(self)
     }
 
-    // The text with a line behind it that is no row.
-    fn with_line(self, job: &Job<'_, Columns>, line: &str) -> Result<Self, Reason> {
+    // The text with all its rows among the bytes that stay as they are.
+    fn flushed(self, job: &Job<'_, Columns>) -> Result<Self, Reason> {
         let Text { mut bytes, written } = self;
         bytes.extend_from_slice(&written.finish()?)?;
-        bytes.extend_from_slice(line.as_bytes())?;
         Ok(Text {
             bytes,
             written: Written::new(job.alloc, job.form),
         })
+    }
+
+    // The text with a line behind it that is no row, and so has no quotes in any style.
+    fn with_line(self, job: &Job<'_, Columns>, line: &str) -> Result<Self, Reason> {
+        let mut text = self.flushed(job)?;
+        text.bytes.extend_from_slice(line.as_bytes())?;
+        text.bytes
+            .extend_from_slice(job.form.writing.style.line_end.bytes())?;
+        Ok(text)
     }
 
     // The text with the versions of a row in conflict behind it, each behind a mark.
@@ -124,13 +133,13 @@ impl Text {
             Some(sides) => sides.as_ref().unzip(),
             None => (None, None),
         };
-        let text = self.with_line(job, "<<<<<<< ours\n")?;
+        let text = self.with_line(job, "<<<<<<< ours")?;
         let text = text.with_version(job, key, ours)?;
-        let text = text.with_line(job, "||||||| base\n")?;
+        let text = text.with_line(job, "||||||| base")?;
         let text = text.with_version(job, key, base)?;
-        let text = text.with_line(job, "=======\n")?;
+        let text = text.with_line(job, "=======")?;
         let text = text.with_version(job, key, theirs)?;
-        text.with_line(job, ">>>>>>> theirs\n")
+        text.with_line(job, ">>>>>>> theirs")
     }
 
     // The text with the rows of one version behind it, if it has any.

@@ -22,8 +22,9 @@ use crate::joined_json::write_join;
 use crate::written::write_changes;
 use eob_joins::Change;
 use keyed_files::{
-    ColumnChanges, Columns, Content, Decimal, Fault, JoinColumns, Joining, Layout, LoneColumns,
-    Parts, Picked, Reason, SortedChanges, Stream, Two, at, names_among, picked_columns,
+    ColumnChanges, Columns, Content, Decimal, Fault, Heading, JoinColumns, Joining, Layout,
+    LoneColumns, Parts, Picked, Reason, SortedChanges, Stream, Two, at, names_among,
+    picked_columns,
 };
 use keyed_reports::{Counts, count, count_rows, json_columns, json_rows, row_changes};
 use keyed_rows::{Cells, Group, Key, Release};
@@ -80,11 +81,11 @@ impl Work<'_> {
         }
     }
 
-    // One header stands before all parts.
+    // One heading stands before all parts.
     fn leave_header(&mut self) {
         match self {
-            Work::Changes(job, _) => job.form.has_header = false,
-            Work::Join(job, _) => job.form.has_header = false,
+            Work::Changes(job, _) => job.form.writing.heading = Heading::Omitted,
+            Work::Join(job, _) => job.form.writing.heading = Heading::Omitted,
         }
     }
 }
@@ -138,7 +139,7 @@ fn json_of_part(
     };
     let rows = row_changes(job.alloc, false, &changes)?;
     Ok(PartAnswer {
-        bytes: json_rows(job.alloc, job.columns, &rows)?,
+        bytes: json_rows(job.alloc, job.columns, tolerance, &rows)?,
         status: changes_status(&changes),
         counts: StreamCounts::Changes(count(old_rows, &changes)),
     })

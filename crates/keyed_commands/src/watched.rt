@@ -1,26 +1,25 @@
 //! How a table is written, as far as it is read: what is noted of its bytes on their way to the reader of CSV.
 ghost use Rattle.std.specs.Prelude.{◌≡◌};
 ghost use Rattle.keyed_commands.specs.AppliedTexts.{watched_left};
+ghost use Rattle.keyed_commands.specs.NotedStyles.{ends_row, noted_line_end, noted_quotes, noted_style};
+ghost use Rattle.keyed_commands.specs.NotedStyles.{style_under};
 ghost use Rattle.keyed_files.specs.Opening.{form_of, text_of_stream};
 
-use crate::as_written::Style;
-use keyed_files::{Comment, Delimiter, Form, Stream};
-use keyed_text::{Marks, Place};
+use keyed_files::{Comment, Delimiter, Form, Heading, Stream};
+use keyed_text::{CellQuotes, LineEnd, Marks, Place, Style};
 use std::io;
 use std::io::Read;
 
 // What is noted of a table, up to the byte that was read last.
 #[derive(Clone, Copy, Debug)]
 struct Noted {
-    // The byte between cells of what is written.
-    delimiter: u8,
     marks: Marks,
     // How many lines are still to be passed over, and whether the last byte of one was a CR, which ends a line with an LF behind it or not.
     skipped: u64,
     follows_cr: bool,
     place: Place,
     has_mark: bool,
-    end: LineEnd,
+    end: FirstEnd,
     // Whether a cell of its first row is in quotes, whether one is in none, and whether the row is over.
     has_quoted: bool,
     has_bare: bool,
@@ -30,7 +29,7 @@ struct Noted {
 
 // How the first line ends: it does not yet, or by CR as far as one knows, by CR LF, or by one of the two alone.
 #[derive(Clone, Copy, Debug, PartialEq, Eq)]
-enum LineEnd {
+enum FirstEnd {
     Open,
     Cr,
     CrLf,
@@ -41,7 +40,6 @@ impl Noted {
     // Nothing yet, of a table in this form, with another byte between its cells if there is one.
     fn new(form: Form, delimiter: Option<Delimiter>) -> Self {
         Noted {
-            delimiter: form.delimiter.byte(),
             marks: Marks {
                 delimiter: delimiter.unwrap_or(form.delimiter).byte(),
                 comment: form.reading.comment.map(Comment::byte),
@@ -50,7 +48,7 @@ impl Noted {
             follows_cr: false,
             place: Place::Top,
             has_mark: false,
-            end: LineEnd::Open,
+            end: FirstEnd::Open,
             has_quoted: false,
             has_bare: false,
             has_row: false,
@@ -59,20 +57,40 @@ impl Noted {
     }
 
     // How the table is written.
-    fn style(&self) -> Style {
+    fn style(&self) -> Style
+        ensures { result ≡ noted_style self.now }
+    {
         Style {
-            delimiter: self.delimiter,
             has_mark: self.has_mark,
-            has_cr: self.end == LineEnd::CrLf,
-            has_quotes: self.has_quoted && !self.has_bare,
-            has_end: matches!(self.last, None | Some(b'\n' | b'\r')),
+            quotes: self.quotes(),
+            line_end: self.line_end(),
+            has_end: ends_row(self.last),
+        }
+    }
+
+    fn quotes(&self) -> CellQuotes
+        ensures { result ≡ noted_quotes self.now }
+    {
+        if self.has_quoted && !self.has_bare {
+            CellQuotes::Everywhere
+        } else {
+            CellQuotes::WhereNeeded
+        }
+    }
+
+    fn line_end(&self) -> LineEnd
+        ensures { result ≡ noted_line_end self.now.end }
+    {
+        match self.end {
+            FirstEnd::CrLf => LineEnd::CrLf,
+            FirstEnd::Open | FirstEnd::Cr | FirstEnd::Lone => LineEnd::Lf,
         }
     }
 
     // Takes the next bytes.
     fn take(&mut self, bytes: &[u8]) {
         for byte in bytes {
-            if self.has_row && self.end != LineEnd::Cr {
+            if self.has_row && self.end != FirstEnd::Cr {
                 break;
             }
             self.take_byte(*byte);
@@ -88,7 +106,7 @@ impl Noted {
             return;
         }
         self.has_mark = self.has_mark || self.place == Place::SecondOfMark && byte == 0xBF;
-        let next = self.marks.after(self.place, byte).unwrap_or(Place::Bare);
+        let next = self.next_place(byte);
         if self.skipped > 0 {
             self.pass_over(byte, next);
         } else {
@@ -97,21 +115,29 @@ impl Noted {
         }
     }
 
+    // The place behind one more byte. A note ends with CR too.
+    fn next_place(&self, byte: u8) -> Place {
+        match self.place {
+            Place::Comment if byte == b'\r' => Place::Row,
+            place => self.marks.after(place, byte).unwrap_or(Place::Bare),
+        }
+    }
+
     // How the first line ends, with one more byte.
-    fn next_end(&self, byte: u8) -> LineEnd {
+    fn next_end(&self, byte: u8) -> FirstEnd {
         match self.end {
-            LineEnd::Open => match byte {
-                _ if self.place == Place::Quoted => LineEnd::Open,
-                b'\r' => LineEnd::Cr,
-                b'\n' => LineEnd::Lone,
-                _ => LineEnd::Open,
+            FirstEnd::Open => match byte {
+                _ if self.place == Place::Quoted => FirstEnd::Open,
+                b'\r' => FirstEnd::Cr,
+                b'\n' => FirstEnd::Lone,
+                _ => FirstEnd::Open,
             },
-            LineEnd::Cr => match byte {
-                b'\n' => LineEnd::CrLf,
-                _ => LineEnd::Lone,
+            FirstEnd::Cr => match byte {
+                b'\n' => FirstEnd::CrLf,
+                _ => FirstEnd::Lone,
             },
-            LineEnd::CrLf => LineEnd::CrLf,
-            LineEnd::Lone => LineEnd::Lone,
+            FirstEnd::CrLf => FirstEnd::CrLf,
+            FirstEnd::Lone => FirstEnd::Lone,
         }
     }
 
@@ -164,7 +190,9 @@ pub struct Watched<R> {
 
 impl<R> Watched<R> {
     /// How the table is written, as far as it is read.
-    pub fn style(&self) -> Style {
+    pub fn style(&self) -> Style
+        ensures { result ≡ noted_style self.now.noted }
+    {
         self.noted.style()
     }
 }
@@ -179,9 +207,32 @@ impl<R: Read> Read for Watched<R> {
     }
 }
 
+// Whether the last byte of a text ends a row. A text of no byte lacks no end.
+fn ends_row(last: Option<u8>) -> bool
+    ensures { result ≡ ends_row last }
+{
+    match last {
+        Some(byte) => byte == b'\n' || byte == b'\r',
+        None => true,
+    }
+}
+
 // So many bytes, or all where there are fewer.
 fn first(bytes: &[u8], count: usize) -> &[u8] {
     bytes.get(..count).unwrap_or(bytes)
+}
+
+/// The style of an answer that is written as a table is: one with no heading stands behind other CSV, and so has no byte order mark.
+pub fn style_under(heading: Heading, style: Style) -> Style
+    ensures { result ≡ style_under heading style }
+{
+    match heading {
+        Heading::Written => style,
+        Heading::Omitted => Style {
+            has_mark: false,
+            ..style
+        },
+    }
 }
 
 /// A table in this form that is read so that one knows how it is written.

@@ -32,13 +32,13 @@ pub fn write_changes(
     Ok(text)
 }
 
-// The header of changes, where tables have one.
+// The header of changes, where answers have a heading.
 fn begin_changes(job: &Job<'_, Columns>, marked: &Cells) -> Result<Written, Reason>
     ensures { IfOk result (λ written. Wrote job.now.form (changes_heading job.now.form marked.now) written) }
 {
     let mut written = Written::new(job.alloc, job.form);
-    let has_header = job.form.has_header;
-    if has_header {
+    let has_heading = job.form.writes_heading();
+    if has_heading {
         written.put_change_heading(marked)?;
         Ok(written)
     } else {

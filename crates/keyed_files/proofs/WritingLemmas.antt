@@ -7,7 +7,7 @@ use Rattle.keyed_files.specs.declared.request.Form.{Form}
 use Rattle.keyed_files.specs.declared.written.Written.{Written}
 use Rattle.keyed_files.specs.JoinedRows.{each_before, join_heading}
 use Rattle.keyed_files.specs.Rows.{cell_placed, placed, rest_behind, rows_under, table_rows}
-use Rattle.keyed_files.specs.Writing.{EndsRow, PutsCells, PutsRows, Wrote, bytes_in, comment_of, delimiter_of}
+use Rattle.keyed_files.specs.Writing.{EndsRow, PutsCells, PutsRows, Wrote, bytes_in, writer_of}
 
 pub no-cells : (a : Written) → PutsCells a a []
 no-cells a = one.cells-none bytes_in a.rows
@@ -88,7 +88,7 @@ places-all f a b n m is g = let P : ℕ → Type 0 = λ k. PutsRows a b (each_be
 
 -- rows that were written, and more
 pub wrote-more : (form : Form) (a b : Written) (rows more : List (List (List ℕ))) → Wrote form rows a → PutsRows a b more → Wrote form (rows ++ more) b
-wrote-more form a b rows more h g = g (delimiter_of form) (comment_of form) (Some []) rows h
+wrote-more form a b rows more h g = g (writer_of form) (Some []) rows h
 
 -- the header of a join
 pub some-heading : (a b : Written) (names : List (List ℕ)) → (length names == 0) ≡ false → PutsRows a b (names ∷ []) → PutsRows a b (join_heading names)

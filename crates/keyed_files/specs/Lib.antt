@@ -1,3 +1,4 @@
+pub mod AnswerForm
 pub mod ChangedColumns
 pub mod ColumnLaws
 pub mod ColumnNames

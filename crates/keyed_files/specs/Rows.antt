@@ -5,6 +5,7 @@ use Rattle.keyed_files.specs.declared.columns.Columns.{Columns}
 use Rattle.keyed_files.specs.declared.columns.Place.{Place}
 use Rattle.keyed_files.specs.declared.columns.Place.TheVariants as at
 use Rattle.keyed_files.specs.declared.request.Form.{Form}
+use Rattle.keyed_files.specs.AnswerForm.{writes_heading}
 use Rattle.keyed_files.specs.declared.sign.Sign.{Sign}
 use Rattle.keyed_files.specs.declared.sign.Sign.TheVariants as sign
 
@@ -49,9 +50,9 @@ table_rows order rows = flat_map (λ group. rows_under None order group.0 group.
 abbrev pub names_row : Option (List ℕ) → Columns → List (List ℕ)
 names_row first columns = first_cells first ++ placed columns.order.items columns.key columns.rest
 
--- whether a table has a header, behind a first cell if there is one: not where tables have none, and not where it would have no cell
+-- whether a table has a heading, behind a first cell if there is one: not where answers have none, and not where it would have no cell
 abbrev pub has_heading : Form → Option (List ℕ) → Columns → Bool
-has_heading form first columns = form.has_header && (is_some first || not (length columns.order.items == 0))
+has_heading form first columns = writes_heading form && (is_some first || not (length columns.order.items == 0))
 
 -- the header of a table, if it has one
 abbrev pub heading : Form → Option (List ℕ) → Columns → List (List (List ℕ))

@@ -2,7 +2,8 @@
 use Rattle.std.specs.Prelude.{◌≡◌, ◌==◌, ◌||◌, ℕ, List, [], ◌∷◌, ◌++◌, Bool, Option, Some, None, drop, take, length, option_map, if◌then◌else◌, unwrap_or, Vec}
 use Rattle.std.specs.List.{position}
 use Rattle.keyed_text.specs.Streams as stream
-use Rattle.keyed_text.specs.Texts.{rows_text}
+use Rattle.csv.specs.declared.writer.WriterBuilder.{WriterBuilder}
+use Rattle.keyed_text.specs.Texts.{finished, text_by, writer_in}
 use Rattle.keyed_files.specs.Encodings.{is_marked}
 use Rattle.keyed_files.specs.declared.request.Form.{Form}
 use Rattle.keyed_files.specs.declared.written.Written.{Written}
@@ -18,9 +19,13 @@ delimiter_of form = form.delimiter.byte
 abbrev pub comment_of : Form → Option ℕ
 comment_of form = option_map (λ comment. comment.byte) form.reading.comment
 
+-- how rows are written in a form
+abbrev pub writer_of : Form → WriterBuilder
+writer_of form = writer_in form.writing.style (delimiter_of form) (comment_of form)
+
 -- what was written are these rows, in this form
 abbrev pub Wrote : Form → List (List (List ℕ)) → Written → Type 0
-Wrote form rows written = stream.HasWritten (delimiter_of form) (comment_of form) bytes_in (Some []) rows [] written.rows
+Wrote form rows written = stream.HasWritten (writer_of form) bytes_in (Some []) rows [] written.rows
 
 module _ (old new : Written) where
   -- whatever was written, these cells are put behind it
@@ -37,7 +42,7 @@ module _ (old new : Written) where
 
 -- the text of rows in a form
 abbrev pub text_of : Form → List (List (List ℕ)) → List ℕ
-text_of form rows = rows_text (delimiter_of form) (comment_of form) rows
+text_of form rows = text_by (writer_of form) rows
 
 -- a text is that of the rows that were written, whatever they are
 abbrev pub IsTextOf : Written → List ℕ → Type 0
@@ -45,7 +50,7 @@ IsTextOf written text = (form : Form) (rows : List (List (List ℕ))) → Wrote 
 
 -- whether a byte ends a cell that has no quote
 abbrev pub ends_cell : ℕ → ℕ → Bool
-ends_cell d b = (b == d) || (b == 10)
+ends_cell d b = (b == d) || (b == 13) || (b == 10)
 
 -- where the first cell of a text ends that has no quote
 abbrev pub end_of_cell : ℕ → List ℕ → ℕ
@@ -62,3 +67,7 @@ quoted_first d text = if is_marked text then quoted d text else text
 -- the text of rows in a form, as it is given out
 abbrev pub quoted_text : Form → List (List (List ℕ)) → List ℕ
 quoted_text form rows = quoted_first (delimiter_of form) (text_of form rows)
+
+-- the file of rows in a form: their text, with the byte order mark of its style and with the end of the last row, or without
+abbrev pub file_text : Form → List (List (List ℕ)) → List ℕ
+file_text form rows = finished form.writing.style (quoted_text form rows)

@@ -74,5 +74,5 @@ fn place_of_end(text: &[u8], delimiter: u8) -> Option<usize>
 fn ends_cell(byte: u8, delimiter: u8) -> bool
     ensures { result ≡ ends_cell delimiter byte }
 {
-    byte == delimiter || byte == b'\n'
+    byte == delimiter || byte == b'\r' || byte == b'\n'
 }

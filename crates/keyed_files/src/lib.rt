@@ -34,6 +34,7 @@ mod request;
 mod shown;
 mod sign;
 mod source;
+mod writing;
 mod written;
 
 pub use asked::{Asked, GitDiff, GitMerge};
@@ -69,4 +70,5 @@ pub use request::{
 pub use shown::{Shown, ShownCell, ShownInList, ShownName};
 pub use sign::{Sign, SignedRow};
 pub use source::{Content, Places, Source};
+pub use writing::{Heading, Writing};
 pub use written::{Written, begin_table, write_table};

@@ -7,6 +7,7 @@ use crate::fault::{Fault, Reason};
 use crate::lookups::Lookup;
 use crate::merging::Merging;
 use crate::overlays::Overlay;
+use crate::writing::Writing;
 use keyed_numbers::Decimal;
 
 /// A byte that may stand between cells: an ASCII character that neither ends rows nor quotes cells.
@@ -117,13 +118,14 @@ impl Reading {
     };
 }
 
-/// How tables are written and read: the byte between cells, of what is written and of the first table, whether the first row is a header
-/// (where it is not, columns are named by number), and how tables are read beside that.
+/// How tables are read and an answer is written: the byte between cells, of the answer and of the first table, whether the first row is a
+/// header (where it is not, columns are named by number), and what there is to say of either alone.
 #[derive(Clone, Copy, Debug)]
 pub struct Form {
     pub delimiter: Delimiter,
     pub has_header: bool,
     pub reading: Reading,
+    pub writing: Writing,
 }
 
 /// How the tables of a command are laid out: their form, and the names of the columns that are the key, as one record of CSV with commas,

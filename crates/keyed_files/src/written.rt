@@ -2,7 +2,7 @@
 ghost use Rattle.std.specs.Prelude.{◌≡◌, ◌∷◌, ◌++◌, [], List, ℕ, IfOk, OnOk, option_map};
 ghost use Rattle.keyed_files.specs.Rows.{first_cells, has_heading, heading, names_row, placed, rows_under};
 ghost use Rattle.keyed_files.specs.Rows.{shown_sign, table_rows};
-ghost use Rattle.keyed_files.specs.Writing.{EndsRow, IsTextOf, PutsCells, PutsRows, Wrote, quoted_text};
+ghost use Rattle.keyed_files.specs.Writing.{EndsRow, IsTextOf, PutsCells, PutsRows, Wrote, file_text};
 
 use crate::checked::marks_of;
 use crate::columns::{Columns, Place};
@@ -27,7 +27,7 @@ impl Written {
         ensures { Wrote form [] result }
     {
         Written {
-            rows: RowWriter::new(Vec::new(alloc), marks_of(form)),
+            rows: RowWriter::in_style(Vec::new(alloc), marks_of(form), form.writing.style),
         }
     }
 
@@ -194,14 +194,15 @@ pub fn begin_table(
     }
 }
 
-// Whether a table has a header. Files with no row make a table of no column, whose header is none.
+// Whether a table has a heading. Files with no row make a table of no column, whose heading is none.
 fn has_heading(form: Form, first: Option<&[u8]>, columns: &Columns) -> bool
     ensures { result ≡ has_heading form (option_map (λ cell. cell.now) first.entry) columns.now }
 {
-    form.has_header && (first.is_some() || !columns.order.is_empty())
+    form.writes_heading() && (first.is_some() || !columns.order.is_empty())
 }
 
-/// A table as CSV: its header, if it has one, and its rows, by key. Each row is dropped once it is written.
+/// A table as a file of CSV in the style of the form: its heading, if it has one, and its rows, by key. Each row is dropped once it is
+/// written.
 ///
 /// # Errors
 ///
@@ -214,13 +215,14 @@ pub fn write_table(
     rows: Vec<(Key, Group)>,
 ) -> Result<Vec<u8>, Reason>
     ensures { IfOk result (λ text. text.items
-        ≡ quoted_text form (heading form None columns.now ++ table_rows columns.now.order.items rows.items)) }
+        ≡ file_text form (heading form None columns.now ++ table_rows columns.now.order.items rows.items)) }
 {
     let mut written = begin_table(alloc, form, None, columns)?;
     put_table(&mut written, columns, rows)?;
     let text = written.finish()?;
     let given = quote_first(alloc, text, form.delimiter)?;
-    Ok(given)
+    let file = form.writing.style.finish(alloc, given)?;
+    Ok(file)
 }
 
 // Puts rows, by key. Each row is dropped once it is written.

@@ -1,2 +1,3 @@
+pub mod ColumnCounts
 pub mod Escapes
 pub mod Shown

@@ -8,13 +8,14 @@ use crate::changed_rows::{RowChange, word_of};
 use crate::report::Report;
 use either_or_both::EitherOrBoth;
 use json::Writer;
-use keyed_files::{Columns, LoneColumns};
+use keyed_files::{Columns, Decimal, LoneColumns, is_same_cell};
 use keyed_rows::{Cells, Iter};
 use std::alloc::{AllocError, Global};
 use std::fmt;
 
-/// The rows under these columns, an object each, on a line each: what became of the row, its key, and its other cells in the old table and in
-/// the new one, as far as it is there. With no row there is no line.
+/// The rows under these columns, an object each, on a line each: what became of the row, its key, the names of the columns in which it
+/// changed, if it did, and its other cells in the old table and in the new one, as far as it is there. With no row there is no line. With a
+/// tolerance, cells that are numbers are compared by value.
 ///
 /// # Errors
 ///
@@ -22,11 +23,12 @@ use std::fmt;
 pub fn json_rows(
     alloc: Global,
     columns: &Columns,
+    tolerance: Option<Decimal<'_>>,
     rows: &[RowChange<'_>],
 ) -> Result<Vec<u8>, AllocError> {
     let mut text = Vec::new(alloc);
     for row in rows {
-        let object = row_object(alloc, columns, row)?;
+        let object = row_object(alloc, columns, tolerance, row)?;
         text.extend_from_slice(&object)?;
         text.push(b'\n')?;
     }
@@ -37,6 +39,7 @@ pub fn json_rows(
 fn row_object(
     alloc: Global,
     columns: &Columns,
+    tolerance: Option<Decimal<'_>>,
     row: &RowChange<'_>,
 ) -> Result<Vec<u8>, AllocError> {
     let (key, change) = *row;
@@ -50,12 +53,32 @@ fn row_object(
         EitherOrBoth::Left(old) => put_side(alloc, &mut writer, "old", columns, old)?,
         EitherOrBoth::Right(new) => put_side(alloc, &mut writer, "new", columns, new)?,
         EitherOrBoth::Both(old, new) => {
+            put_changed(alloc, &mut writer, &columns.rest, tolerance, old, new)?;
             put_side(alloc, &mut writer, "old", columns, old)?;
             put_side(alloc, &mut writer, "new", columns, new)?;
         }
     }
     writer.end_object()?;
     Ok(writer.into_inner())
+}
+
+// Puts the names of the columns in which a row changed.
+fn put_changed(
+    alloc: Global,
+    writer: &mut Writer,
+    names: &Cells,
+    tolerance: Option<Decimal<'_>>,
+    old: &Cells,
+    new: &Cells,
+) -> Result<(), AllocError> {
+    writer.key("changed")?;
+    writer.begin_array()?;
+    for (name, (cell, next)) in names.iter().zip(old.iter().zip(new.iter())) {
+        if !is_same_cell(tolerance, cell, next) {
+            put_text(alloc, writer, name)?;
+        }
+    }
+    writer.end_array()
 }
 
 // Puts the cells of one version of a row under a name.
@@ -85,8 +108,7 @@ pub fn put_cells(
     for (name, cell) in names.iter().zip(cells) {
         let name = format!(in alloc; "{}", JsonText(name))?;
         writer.key(&name)?;
-        let cell = format!(in alloc; "{}", JsonText(cell))?;
-        writer.string(&cell)?;
+        put_text(alloc, writer, cell)?;
     }
     writer.end_object()
 }
@@ -138,10 +160,24 @@ pub fn json_counts(alloc: Global, report: &Report<'_>) -> Result<Vec<u8>, AllocE
     Ok(text)
 }
 
-// Puts a number under a name.
-fn put_count(writer: &mut Writer, name: &str, count: usize) -> Result<(), AllocError> {
+/// Puts a number under a name.
+///
+/// # Errors
+///
+/// Returns `AllocError` if a request for memory was refused.
+pub fn put_count(writer: &mut Writer, name: &str, count: usize) -> Result<(), AllocError> {
     writer.key(name)?;
     writer.u64(count as u64)
+}
+
+/// Puts bytes as a text.
+///
+/// # Errors
+///
+/// Returns `AllocError` if a request for memory was refused.
+pub fn put_text(alloc: Global, writer: &mut Writer, bytes: &[u8]) -> Result<(), AllocError> {
+    let text = format!(in alloc; "{}", JsonText(bytes))?;
+    writer.string(&text)
 }
 
 // Puts names of columns as an array under a name.
@@ -154,8 +190,7 @@ fn put_names(
     writer.key(under)?;
     writer.begin_array()?;
     for name in names {
-        let name = format!(in alloc; "{}", JsonText(name))?;
-        writer.string(&name)?;
+        put_text(alloc, writer, name)?;
     }
     writer.end_array()
 }

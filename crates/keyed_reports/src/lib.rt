@@ -6,6 +6,7 @@
 #![tactic(auto)]
 
 mod changed_rows;
+mod column_counts;
 mod counts;
 mod html;
 mod joined_json;
@@ -14,6 +15,7 @@ mod laws;
 mod markdown;
 mod report;
 mod stopped;
+mod summary;
 mod table;
 
 pub use changed_rows::{RowChange, row_changes};

@@ -3,10 +3,12 @@ ghost use Rattle.std.specs.Prelude.{◌≡◌, ◌-◌, length};
 ghost use Rattle.keyed_reports.specs.Shown.{count_more, shown_rows};
 
 use crate::changed_rows::RowChange;
+use crate::column_counts::column_counts;
 use crate::counts::{Counts, count};
 use crate::html::html;
-use crate::json_lines::{json_columns, json_counts, json_rows};
+use crate::json_lines::{json_columns, json_rows};
 use crate::markdown::markdown;
+use crate::summary::{summary_json, summary_table};
 use crate::table::table;
 use keyed_files::{ColumnChanges, Columns, Decimal, Look, RowsShown};
 use std::alloc::{AllocError, Global};
@@ -20,7 +22,9 @@ pub struct Report<'r> {
     pub column_changes: ColumnChanges<'r>,
     /// Which of the rows are shown.
     pub which: RowsShown,
-    /// These rows.
+    /// All rows that changed.
+    pub all: &'r [RowChange<'r>],
+    /// Those that are shown.
     pub rows: &'r [RowChange<'r>],
     /// How many more rows changed, where that is to be said.
     pub more: usize,
@@ -41,6 +45,7 @@ impl<'r> Report<'r> {
         old_rows: usize,
         rows: &'r [RowChange<'r>],
     ) -> Self
+        ensures all { result.all.now ≡ rows.now }
         ensures rows { result.rows.now ≡ shown_rows which rows.now }
         ensures more { result.more ≡ count_more which (length rows.now) }
     {
@@ -48,6 +53,7 @@ impl<'r> Report<'r> {
             columns,
             column_changes,
             which,
+            all: rows,
             rows: shown_rows(which, rows),
             more: count_more(which, rows.len()),
             counts: count(old_rows, rows),
@@ -78,24 +84,46 @@ fn count_more(which: RowsShown, all: usize) -> usize
 }
 
 /// The report as text of this form: what became of the columns, the rows, and the counts; of JSON an object of columns that came or went, if
-/// there are any, and then the rows, or the counts and the columns where no row is to be shown.
+/// there are any, and then the rows. Where no row is to be shown, a table and JSON have the columns that changed in their place, and JSON
+/// the counts last.
 ///
 /// # Errors
 ///
 /// Returns `AllocError` if a request for memory was refused.
 pub fn write_report(alloc: Global, look: Look, report: &Report<'_>) -> Result<Vec<u8>, AllocError> {
+    match report.which {
+        RowsShown::Nothing => write_summary(alloc, look, report),
+        RowsShown::All | RowsShown::First(_) => write_rows(alloc, look, report),
+    }
+}
+
+// The report with its rows.
+fn write_rows(alloc: Global, look: Look, report: &Report<'_>) -> Result<Vec<u8>, AllocError> {
     match look {
         Look::Table { colours } => Ok(table(alloc, colours, report)?.into_bytes()),
         Look::Markdown => markdown(alloc, report),
         Look::Html => html(alloc, report),
-        Look::Json => match report.which {
-            RowsShown::Nothing => json_counts(alloc, report),
-            RowsShown::All | RowsShown::First(_) => {
-                let mut text = json_columns(alloc, &report.column_changes.lone(alloc)?)?;
-                let rows = json_rows(alloc, report.columns, report.rows)?;
-                text.extend_from_slice(&rows)?;
-                Ok(text)
-            }
-        },
+        Look::Json => {
+            let mut text = json_columns(alloc, &report.column_changes.lone(alloc)?)?;
+            let rows = json_rows(alloc, report.columns, report.tolerance, report.rows)?;
+            text.extend_from_slice(&rows)?;
+            Ok(text)
+        }
+    }
+}
+
+// The report with the columns that changed in the place of the rows.
+fn write_summary(alloc: Global, look: Look, report: &Report<'_>) -> Result<Vec<u8>, AllocError> {
+    match look {
+        Look::Markdown => markdown(alloc, report),
+        Look::Html => html(alloc, report),
+        Look::Table { .. } => {
+            let counts = column_counts(alloc, &report.columns.rest, report.tolerance, report.all)?;
+            Ok(summary_table(alloc, report, &counts)?.into_bytes())
+        }
+        Look::Json => {
+            let counts = column_counts(alloc, &report.columns.rest, report.tolerance, report.all)?;
+            summary_json(alloc, report, &counts)
+        }
     }
 }

@@ -3,14 +3,12 @@
 #![tactic(auto)]
 
 mod counted;
-mod heading;
 mod leavable;
 mod progress;
 mod words;
 
 use counted::{ClearedOutput, CountedRuntime};
-use heading::write_with_no_heading;
-use keyed_arguments::{Heading, Line, ParseError, parse};
+use keyed_arguments::{Line, ParseError, parse};
 use keyed_commands::{
     Asked, Colours, Command, Fault, Finished, GitMerge, Reason, Shown, SortedRequest, at,
     version_name, write_command, write_git_diff, write_git_merge, write_git_setup,
@@ -66,15 +64,9 @@ pub fn run_words<
     E: IsTerminal,
 >(rt: &R, words: &[String], output: &mut W, errors: &E) -> u8 {
     match parse(rt.alloc(), words, colours_of(rt, output)) {
-        Ok(
-            Line::Asked {
-                asked,
-                heading,
-                progress,
-            },
-        ) => {
+        Ok(Line::Asked { asked, progress }) => {
             let line = ProgressLine::new(rt, progress, errors);
-            answer_counted(rt, &line, asked, heading, output)
+            answer_counted(rt, &line, asked, output)
         }
         Ok(Line::Cut { cut, progress }) => {
             let line = ProgressLine::new(rt, progress, errors);
@@ -90,17 +82,14 @@ fn run_shown_words<
     W: Write + IsTerminal,
     E: IsTerminal,
 >(rt: &R, words: &ShownWords, output: &mut W, errors: &E) -> u8 {
-    if let Ok(
-        Line::Asked {
-            asked,
-            heading,
-            progress,
-        },
-    ) = parse(rt.alloc(), &words.words, colours_of(rt, output))
-    {
+    if let Ok(Line::Asked { asked, progress }) = parse(
+        rt.alloc(),
+        &words.words,
+        colours_of(rt, output),
+    ) {
         if let Some(asked) = words.asked_by_git(asked) {
             let line = ProgressLine::new(rt, progress, errors);
-            return answer_counted(rt, &line, asked, heading, output);
+            return answer_counted(rt, &line, asked, output);
         }
     }
     match words.said(rt.alloc()) {
@@ -126,16 +115,10 @@ fn answer_counted<'r, R: Files + Input + Clock + Eprint + AllocGlobal, W: Write 
     rt: &'r R,
     line: &ProgressLine<'r, R>,
     asked: Asked<'_>,
-    heading: Heading,
     output: &mut W,
 ) -> u8 {
     let counted = CountedRuntime { rt, line };
-    let status = answer(
-        &counted,
-        asked,
-        heading,
-        &mut ClearedOutput::new(line, output),
-    );
+    let status = answer(&counted, asked, &mut ClearedOutput::new(line, output));
     line.clear();
     status
 }
@@ -203,12 +186,11 @@ fn shown_error(alloc: Global, words: &[String]) -> Result<ParseError, AllocError
 fn answer<R: Files + Input + Eprint + AllocGlobal, W: Write>(
     rt: &R,
     asked: Asked<'_>,
-    heading: Heading,
     output: &mut W,
 ) -> u8 {
     let merge = merge_of(&asked);
     let mut output = LeavableOutput::new(output, when_left(&asked));
-    match write_asked(rt, asked, heading, &mut output) {
+    match write_asked(rt, asked, &mut output) {
         Ok(finished) => {
             if let Some(counts) = finished.counts {
                 let _ = eprintln!(rt; "{counts}");
@@ -250,7 +232,6 @@ fn when_left(asked: &Asked<'_>) -> WhenLeft {
 fn write_asked<'a, R: Files + Input + AllocGlobal, W: Write>(
     rt: &R,
     asked: Asked<'a>,
-    heading: Heading,
     output: &mut W,
 ) -> Result<Finished, Fault<'a>> {
     let status = match asked {
@@ -260,10 +241,7 @@ fn write_asked<'a, R: Files + Input + AllocGlobal, W: Write>(
         } => {
             return match place {
                 Some(file) => write_into_file(rt, command, file, output),
-                None => match heading {
-                    Heading::Written => write_command(rt, command, output),
-                    Heading::LeftOut => write_with_no_heading(rt, command, output),
-                },
+                None => write_command(rt, command, output),
             };
         }
         Asked::GitDiff {

@@ -1,19 +1,24 @@
 -- A text has one list of rows, each with a cell, and what is written reads back.
 use Rattle.std.proofs.Common.{◌≡◌, ◌≢◌, ◌∙◌, ℕ, List, [], ◌∷◌, ◌++◌, ◌==◌, Some, None, true, false, refl, sym, ap, ap₂, subst, append_assoc, arith, inl, inr}
-use Rattle.std.specs.Prelude.{◌<◌, ◌≤◌, All, Option, length, if◌then◌else◌}
-use Rattle.std.specs.List.{list_any}
+use Rattle.std.specs.Prelude.{◌<◌, ◌≤◌, ◌-◌, All, Bool, Option, length, take, if◌then◌else◌}
 use Rattle.std.proofs.lemmas.Bool.{cases_Bool, eq-eqb, ne_eqb, true≢false}
 use Rattle.std.proofs.lemmas.List.Elements.{All-cons, All-head, All-nil, All-tail}
+use Rattle.std.proofs.Math.Seq.{take-append_seam}
+use Rattle.std.proofs.lemmas.List.{append-nil, length-append}
 use Rattle.csv.specs.Machine.{Read, is_byte, ends_at_end, field_after, fields_after, is_end, next_record, step}
-use Rattle.csv.specs.Reading.{Reached, is_bom, strip_bom}
-use Rattle.csv.specs.Writing.{field_text, fields_text, is_blank, needs_byte, read_back, row_text}
+use Rattle.csv.specs.Reading.{AreRecords, Reached, is_bom, strip_bom}
+use Rattle.csv.specs.Writing.{by_style, end_text, field_text, fields_text, is_blank, needs_quotes, read_back, row_body, row_text}
 use Rattle.csv.specs.declared.parser.Action.{Action}
 use Rattle.csv.specs.declared.parser.Action.TheVariants as act
 use Rattle.csv.specs.declared.parser.Config.{Config}
 use Rattle.csv.specs.declared.parser.State.{State}
 use Rattle.csv.specs.declared.parser.State.TheVariants as st
-use Rattle.keyed_text.proofs.RoundTrip.{read-write}
-use Rattle.keyed_text.specs.Texts.{AreRows, BeginsComments, PartsCells, ReadsAs, config_by, rows_text, writer_by}
+use Rattle.keyed_text.proofs.WriteLemmas.{text_by-and}
+use Rattle.keyed_text.proofs.RoundTrip.{behind-run, open-record, read-of, read-write}
+use Rattle.keyed_text.specs.Texts.{AreRows, BeginsComments, PartsCells, ReadsAs, config_by, ended, open_row, quote_style, styled_text, terminator_of, text_by, writer_in}
+use Rattle.keyed_text.specs.declared.style.LineEnd.{LineEnd}
+use Rattle.keyed_text.specs.declared.style.LineEnd.TheVariants.{CrLf, Lf}
+use Rattle.keyed_text.specs.declared.style.Style.{Style}
 use Rattle.keyed_text.specs.Laws.{HasCells, HasNoMark}
 
 some-same : {A : Type 0} {x y : A} → Some x ≡ Some y → x ≡ y
@@ -107,6 +112,30 @@ strip-cell (a ∷ b ∷ c ∷ x) h t e p q r = elim (cases_Bool (is_bom a b c)) 
   | inr none ↦ rw none refl
 ]
 
+-- a row, and those before it, of some rows
+last-of : (row : List (List ℕ)) (rows : List (List (List ℕ))) → All HasCells (row ∷ rows)
+    → (init : List (List (List ℕ))) × (last : List (List ℕ)) × (row ∷ rows ≡ init ++ (last ∷ [])) × All HasCells init × HasCells last
+last-of row [] h = ([], row, refl, All-nil HasCells, All-head HasCells row [] h)
+last-of row (next ∷ rows) h =
+    let l = last-of next rows (All-tail HasCells row (next ∷ rows) h) in
+    (row ∷ l.0, l.1, ap (λ rest. row ∷ rest) l.2, All-cons HasCells row l.0 (All-head HasCells row (next ∷ rows) h) l.3, l.4)
+
+-- a beginning of a text that begins with no mark
+strip-beginning : (t more : List ℕ) → strip_bom (t ++ more) ≡ t ++ more → strip_bom t ≡ t
+unfolding strip_bom
+strip-beginning [] more e = refl
+strip-beginning (a ∷ []) more e = refl
+strip-beginning (a ∷ b ∷ []) more e = refl
+strip-beginning (a ∷ b ∷ c ∷ t) more e = elim (cases_Bool (is_bom a b c)) [
+  | inl mark ↦ absurd (not-longer a b c (t ++ more) (rw mark at e))
+  | inr none ↦ rw none refl
+]
+
+less-end : (xs ys : List ℕ) → take (length (xs ++ ys) - length ys) (xs ++ ys) ≡ xs
+less-end xs ys =
+    let count : length (xs ++ ys) - length ys ≡ length xs = omega (arith, length-append xs ys) in
+    rw count (take-append_seam xs ys)
+
 no-comment-quotes : (d : ℕ) (m : Option ℕ) → BeginsComments d m → is_byte m 34 ≡ false
 no-comment-quotes d None h = refl
 no-comment-quotes d (Some b) h = h.0
@@ -115,7 +144,10 @@ no-comment-parts : (d : ℕ) (m : Option ℕ) → BeginsComments d m → is_byte
 no-comment-parts d None h = refl
 no-comment-parts d (Some b) h = h.1
 
-module _ (d : ℕ) (m : Option ℕ) (parts : PartsCells d) (begins : BeginsComments d m) where
+module _ (s : Style) (d : ℕ) (m : Option ℕ) (parts : PartsCells d) (begins : BeginsComments d m) where
+  abbrev text-of : List (List (List ℕ)) → List ℕ
+  text-of rows = text_by (writer_in s d m) rows
+
   apart : (b : ℕ) → (d < 128) → 128 ≤ b → (d == b) ≡ false
   apart b lt le = ne_eqb d b (λ e. omega (arith, e, lt, le))
 
@@ -131,65 +163,166 @@ module _ (d : ℕ) (m : Option ℕ) (parts : PartsCells d) (begins : BeginsComme
   m10 : (10 == d) ≡ false
   m10 = ne_eqb 10 d (λ e. true≢false (sym (eq-eqb d 10 (sym e)) ∙ parts.2))
 
+  m13 : (13 == d) ≡ false
+  m13 = ne_eqb 13 d (λ e. true≢false (sym (eq-eqb d 13 (sym e)) ∙ parts.1))
+
   read : (row : List (List ℕ)) (tail : List ℕ)
-      → next_record (config_by d m) st.StartRecord [] [] (row_text (writer_by d m) row ++ tail) ≡ Some (read_back row, st.StartRecord, tail)
-  read row tail = read-write d m (eq-eqb d d refl) parts.0 parts.1 parts.2 m10 (no-comment-quotes d m begins) (no-comment-parts d m begins) row tail
+      → next_record (config_by d m) st.StartRecord [] [] (row_text (writer_in s d m) row ++ tail) ≡ Some (read-of s.line_end (read_back row) tail)
+  read row tail = read-write s d m (eq-eqb d d refl) parts.0 parts.1 parts.2 m10 m13 (no-comment-quotes d m begins) (no-comment-parts d m begins) row tail
 
-  reads-back : (rows : List (List (List ℕ))) → All HasCells rows → Reached (config_by d m) st.StartRecord (rows_text d m rows) rows st.StartRecord []
+  -- what is read from a state of a text is what is read where the next read is the same
+  records-alike : (from : State) (text tail : List ℕ) (more : List (List (List ℕ)))
+      → next_record (config_by d m) from [] [] text ≡ next_record (config_by d m) st.StartRecord [] [] tail
+      → AreRecords (config_by d m) st.StartRecord tail more → AreRecords (config_by d m) from text more
   unfolding Reached
-  reads-back [] h = (refl, refl)
-  reads-back (row ∷ rows) h = (
-    (read_back row, st.StartRecord, rows_text d m rows),
-    read row (rows_text d m rows),
-    same-back row (All-head HasCells row rows h),
-    reads-back rows (All-tail HasCells row rows h),
-  )
+  records-alike from text tail [] same are =
+      (from, text, (refl, refl), same ∙ ap₂ (λ state left. next_record (config_by d m) state [] [] left) are.2.0 are.2.1 ∙ are.3)
+  records-alike from text tail (row ∷ rows) same are = (are.0, are.1, (are.2.0, same ∙ are.2.1, are.2.2, are.2.3), are.3)
 
-  pub rows-back : (rows : List (List (List ℕ))) → strip_bom (rows_text d m rows) ≡ rows_text d m rows → All HasCells rows → AreRows d m (rows_text d m rows) rows
-  unfolding next_record
-  rows-back rows plain h = rw plain (st.StartRecord, [], reads-back rows h, refl)
+  -- rows are read from a state of a text, and others behind them, where this reads as the text of the rows with that of the others behind it
+  reads-from : (rows more : List (List (List ℕ))) (tail : List ℕ) (from : State) (text : List ℕ)
+      → next_record (config_by d m) from [] [] text ≡ next_record (config_by d m) st.StartRecord [] [] (text-of rows ++ tail)
+      → AreRecords (config_by d m) st.StartRecord tail more → All HasCells rows → AreRecords (config_by d m) from text (rows ++ more)
+  unfolding Reached
+  reads-from [] more tail from text same are h = records-alike from text tail more same are
+  reads-from (row ∷ rows) more tail from text same are h =
+      let after = read-of s.line_end (read_back row) (text-of rows ++ tail) in
+      let rest = reads-from rows more tail after.1 after.2 (behind-run (config_by d m) s.line_end (text-of rows ++ tail)) are (All-tail HasCells row rows h) in
+      let text-is = append_assoc (row_text (writer_in s d m) row) (text-of rows) tail in
+      let first = same ∙ ap (next_record (config_by d m) st.StartRecord [] []) text-is ∙ read row (text-of rows ++ tail) in
+      (rest.0, rest.1, (after, first, same-back row (All-head HasCells row rows h), rest.2), rest.3)
+
+  none-there : AreRecords (config_by d m) st.StartRecord [] []
+  unfolding Reached next_record
+  none-there = (st.StartRecord, [], (refl, refl), refl)
+
+  open-last : (last : List (List ℕ)) → HasCells last
+      → AreRecords (config_by d m) st.StartRecord (open_row (writer_in s d m) last) (last ∷ [])
+  unfolding Reached next_record
+  open-last last has =
+      let opened = open-record s d m (eq-eqb d d refl) parts.0 parts.1 parts.2 m10 m13 (no-comment-quotes d m begins) (no-comment-parts d m begins) last in
+      (st.StartRecord, [], ((read_back last, st.StartRecord, []), opened, same-back last has, (refl, refl)), refl)
+
+  -- the text of rows reads as them from the start of a record
+  records-back : (rows : List (List (List ℕ))) → All HasCells rows → AreRecords (config_by d m) st.StartRecord (text-of rows) rows
+  records-back rows h =
+      rw (append-nil rows) at (reads-from rows [] [] st.StartRecord (text-of rows) (ap (next_record (config_by d m) st.StartRecord [] []) (sym (append-nil (text-of rows)))) none-there h)
+
+  -- and so it does where the last row has no end
+  open-back : (rows : List (List (List ℕ))) (last : List (List ℕ)) → All HasCells rows → HasCells last
+      → AreRecords (config_by d m) st.StartRecord (text-of rows ++ open_row (writer_in s d m) last) (rows ++ (last ∷ []))
+  open-back rows last h has = reads-from rows (last ∷ []) _ st.StartRecord _ refl (open-last last has) h
+
+  -- whether a cell is written in quotes
+  abbrev in-quotes : List ℕ → Bool
+  in-quotes x = by_style (quote_style s.quotes) (needs_quotes (writer_in s d m) x)
 
   -- what stands behind the first cell of a row
   abbrev behind : List ℕ → List (List ℕ) → List ℕ → List ℕ
-  behind x row more = fields_text (writer_by d m) row ++ (((if is_blank (writer_by d m) (x ∷ row) then 34 ∷ 34 ∷ [] else []) ++ (10 ∷ [])) ++ more)
+  behind x row more = fields_text (writer_in s d m) row ++ (((if is_blank (writer_in s d m) (x ∷ row) then 34 ∷ 34 ∷ [] else []) ++ end_text (terminator_of s.line_end)) ++ more)
 
   abbrev GoesOn : List ℕ → Type 0
   GoesOn u = (h : ℕ) × (t : List ℕ) × (u ≡ h ∷ t) × ((h == 239) ≡ false) × ((h == 187) ≡ false) × ((h == 191) ≡ false)
 
+  end-goes-on : (e : LineEnd) (more : List ℕ) → GoesOn (end_text (terminator_of e) ++ more)
+  end-goes-on Lf more = (10, more, refl, refl, refl, refl)
+  end-goes-on CrLf more = (13, 10 ∷ more, refl, refl, refl, refl)
+
   goes-on : (x : List ℕ) (row : List (List ℕ)) (more : List ℕ) → GoesOn (behind x row more)
   unfolding fields_text is_blank
-  goes-on x [] more = elim (cases_Bool (length (field_text (writer_by d m) x) == 0)) [
-    | inl none ↦ (34, 34 ∷ 10 ∷ more, rw none refl, refl, refl, refl)
-    | inr some ↦ (10, more, rw some refl, refl, refl, refl)
+  goes-on x [] more = elim (cases_Bool (length (field_text (writer_in s d m) x) == 0)) [
+    | inl none ↦ (34, 34 ∷ (end_text (terminator_of s.line_end) ++ more), rw none refl, refl, refl, refl)
+    | inr some ↦
+        let g = end-goes-on s.line_end more in
+        (g.0, g.1, rw some g.2, g.3, g.4, g.5)
   ]
   goes-on x (z ∷ zs) more = (d, _, refl, n239, n187, n191)
 
   -- the text of a row that begins with a cell
-  row-behind : (x : List ℕ) (row : List (List ℕ)) (more : List ℕ) → row_text (writer_by d m) (x ∷ row) ++ more ≡ field_text (writer_by d m) x ++ behind x row more
+  row-behind : (x : List ℕ) (row : List (List ℕ)) (more : List ℕ) → row_text (writer_in s d m) (x ∷ row) ++ more ≡ field_text (writer_in s d m) x ++ behind x row more
   row-behind x row more =
-      append_assoc (field_text (writer_by d m) x ++ fields_text (writer_by d m) row) _ more ∙ append_assoc (field_text (writer_by d m) x) (fields_text (writer_by d m) row) _
+      append_assoc (field_text (writer_in s d m) x ++ fields_text (writer_in s d m) row) _ more ∙ append_assoc (field_text (writer_in s d m) x) (fields_text (writer_in s d m) row) _
 
   row-plain : (x : List ℕ) (row : List (List ℕ)) (more : List ℕ) → strip_bom x ≡ x
-      → strip_bom (row_text (writer_by d m) (x ∷ row) ++ more) ≡ row_text (writer_by d m) (x ∷ row) ++ more
-  row-plain x row more e = rw (row-behind x row more) (elim (cases_Bool (list_any (needs_byte (writer_by d m)) x)) [
+      → strip_bom (row_text (writer_in s d m) (x ∷ row) ++ more) ≡ row_text (writer_in s d m) (x ∷ row) ++ more
+  row-plain x row more e = rw (row-behind x row more) (elim (cases_Bool (in-quotes x)) [
     | inl needs ↦ rw needs (strip-head 34 _ refl)
     | inr plain ↦
-        let text : field_text (writer_by d m) x ≡ x = rw plain refl in
+        let text : field_text (writer_in s d m) x ≡ x = rw plain refl in
         let g = goes-on x row more in
         rw (text, g.2) (strip-cell x g.0 g.1 e g.3 g.4 g.5)
   ])
 
   rows-plain : (header : List (List ℕ)) (rows : List (List (List ℕ))) → HasCells header → HasNoMark header
-      → strip_bom (rows_text d m (header ∷ rows)) ≡ rows_text d m (header ∷ rows)
+      → strip_bom (text-of (header ∷ rows)) ≡ text-of (header ∷ rows)
   rows-plain [] rows h e = absurd (h refl)
-  rows-plain (x ∷ row) rows h e = row-plain x row (rows_text d m rows) e
+  rows-plain (x ∷ row) rows h e = row-plain x row (text-of rows) e
+
+  -- rows with an end each, behind which the last one is written without
+  text-last : (rows : List (List (List ℕ))) (last : List (List ℕ))
+      → text-of (rows ++ (last ∷ [])) ≡ (text-of rows ++ open_row (writer_in s d m) last) ++ end_text (terminator_of s.line_end)
+  text-last rows last =
+      let W = writer_in s d m in
+      let blank : List ℕ = if is_blank W last then 34 ∷ 34 ∷ [] else [] in
+      let end = end_text (terminator_of s.line_end) in
+      text_by-and W rows last ∙ ap (λ t. text-of rows ++ t) (sym (append_assoc (row_body W last) blank end))
+      ∙ sym (append_assoc (text-of rows) (open_row W last) end)
+
+  -- a text of rows less the end of the last one
+  abbrev cut-of : List ℕ → List ℕ
+  cut-of text = take (length text - length (end_text (terminator_of s.line_end))) text
+
+  cut-is : (rows : List (List (List ℕ))) (last : List (List ℕ)) → cut-of (text-of (rows ++ (last ∷ []))) ≡ text-of rows ++ open_row (writer_in s d m) last
+  cut-is rows last = ap cut-of (text-last rows last) ∙ less-end (text-of rows ++ open_row (writer_in s d m) last) (end_text (terminator_of s.line_end))
+
+  cut-back : (header : List (List ℕ)) (rows : List (List (List ℕ))) → All HasCells (header ∷ rows)
+      → AreRecords (config_by d m) st.StartRecord (cut-of (text-of (header ∷ rows))) (header ∷ rows)
+  cut-back header rows h =
+      let l = last-of header rows h in
+      let P : List (List (List ℕ)) → Type 0 = λ all. AreRecords (config_by d m) st.StartRecord (cut-of (text-of all)) all in
+      let Q : List ℕ → Type 0 = λ text. AreRecords (config_by d m) st.StartRecord text (l.0 ++ (l.1 ∷ [])) in
+      subst P (sym l.2) (subst Q (sym (cut-is l.0 l.1)) (open-back l.0 l.1 l.3 l.4))
+
+  cut-plain : (header : List (List ℕ)) (rows : List (List (List ℕ))) → All HasCells (header ∷ rows)
+      → strip_bom (text-of (header ∷ rows)) ≡ text-of (header ∷ rows) → strip_bom (cut-of (text-of (header ∷ rows))) ≡ cut-of (text-of (header ∷ rows))
+  cut-plain header rows h =
+      let l = last-of header rows h in
+      let P : List (List (List ℕ)) → Type 0 = λ all. strip_bom (text-of all) ≡ text-of all → strip_bom (cut-of (text-of all)) ≡ cut-of (text-of all) in
+      let whole = text-last l.0 l.1 in
+      let beginning : P (l.0 ++ (l.1 ∷ [])) = λ plain.
+      subst (λ t. strip_bom t ≡ t) (sym (cut-is l.0 l.1))
+      (strip-beginning (text-of l.0 ++ open_row (writer_in s d m) l.1) (end_text (terminator_of s.line_end)) (subst (λ t. strip_bom t ≡ t) whole plain)) in
+      subst P (sym l.2) beginning
+
+  ended-back : (header : List (List ℕ)) (rows : List (List (List ℕ))) → All HasCells (header ∷ rows)
+      → AreRecords (config_by d m) st.StartRecord (ended s (text-of (header ∷ rows))) (header ∷ rows)
+  ended-back header rows h = elim (cases_Bool s.has_end) [
+    | inl has ↦ rw has (records-back (header ∷ rows) h)
+    | inr lacks ↦ rw lacks (cut-back header rows h)
+  ]
+
+  ended-plain : (header : List (List ℕ)) (rows : List (List (List ℕ))) → All HasCells (header ∷ rows)
+      → strip_bom (text-of (header ∷ rows)) ≡ text-of (header ∷ rows) → strip_bom (ended s (text-of (header ∷ rows))) ≡ ended s (text-of (header ∷ rows))
+  ended-plain header rows h plain = elim (cases_Bool s.has_end) [
+    | inl has ↦ rw has plain
+    | inr lacks ↦ rw lacks (cut-plain header rows h plain)
+  ]
+
+  -- a file in any style reads back as its rows
+  pub file-back : (header : List (List ℕ)) (rows : List (List (List ℕ))) → All HasCells (header ∷ rows)
+      → strip_bom (text-of (header ∷ rows)) ≡ text-of (header ∷ rows) → AreRows d m (styled_text s d m (header ∷ rows)) (header ∷ rows)
+  unfolding strip_bom
+  file-back header rows h plain = elim (cases_Bool s.has_mark) [
+    | inl has ↦ rw has (ended-back header rows h)
+    | inr lacks ↦ rw (lacks, ended-plain header rows h plain) (ended-back header rows h)
+  ]
 
   same-head : {A : Type 0} {x y : A} {xs ys : List A} → x ∷ xs ≡ y ∷ ys → (x ≡ y) × (xs ≡ ys)
   same-head e = (cc e, cc e)
 
   pub sheet-back : (header : List (List ℕ)) (rows : List (List (List ℕ))) → HasNoMark header → All HasCells (header ∷ rows)
-      → ReadsAs d m (rows_text d m (header ∷ rows)) header rows
-      × ((names : List (List ℕ)) (found : List (List (List ℕ))) → ReadsAs d m (rows_text d m (header ∷ rows)) names found → (names ≡ header) × (found ≡ rows))
+      → ReadsAs d m (styled_text s d m (header ∷ rows)) header rows
+      × ((names : List (List ℕ)) (found : List (List (List ℕ))) → ReadsAs d m (styled_text s d m (header ∷ rows)) names found → (names ≡ header) × (found ≡ rows))
   sheet-back header rows plain h =
-      let reads = rows-back (header ∷ rows) (rows-plain header rows (All-head HasCells header rows h) plain) h in
+      let reads = file-back header rows h (rows-plain header rows (All-head HasCells header rows h) plain) in
       (reads, λ names found other. same-head (rows-once d m _ (names ∷ found) (header ∷ rows) other reads))

@@ -1,7 +1,8 @@
 -- What follows of every text that is written or read.
 use Rattle.std.specs.Prelude.{◌≡◌, ◌≢◌, ℕ, List, [], ◌∷◌, All, Option}
 use Rattle.csv.specs.Reading.{strip_bom}
-use Rattle.keyed_text.specs.Texts.{AreRows, BeginsComments, PartsCells, ReadsAs, rows_text}
+use Rattle.keyed_text.specs.Texts.{AreRows, BeginsComments, PartsCells, ReadsAs, styled_text}
+use Rattle.keyed_text.specs.declared.style.Style.{Style}
 
 -- a row of at least one cell
 abbrev pub HasCells : List (List ℕ) → Type 0
@@ -16,12 +17,12 @@ first_of (cell ∷ row) = cell
 abbrev pub HasNoMark : List (List ℕ) → Type 0
 HasNoMark row = strip_bom (first_of row) ≡ first_of row
 
--- what is written of a header and rows reads back as them, and as nothing else
+-- the file of a header and rows, in any style, reads back as them, and as nothing else
 abbrev pub ReadsBackLaw : Type 0
-ReadsBackLaw = (d : ℕ) (c : Option ℕ) → PartsCells d → BeginsComments d c → (header : List (List ℕ)) (rows : List (List (List ℕ)))
+ReadsBackLaw = (s : Style) (d : ℕ) (c : Option ℕ) → PartsCells d → BeginsComments d c → (header : List (List ℕ)) (rows : List (List (List ℕ)))
     → HasNoMark header → All HasCells (header ∷ rows)
-    → ReadsAs d c (rows_text d c (header ∷ rows)) header rows
-    × ((names : List (List ℕ)) (found : List (List (List ℕ))) → ReadsAs d c (rows_text d c (header ∷ rows)) names found
+    → ReadsAs d c (styled_text s d c (header ∷ rows)) header rows
+    × ((names : List (List ℕ)) (found : List (List (List ℕ))) → ReadsAs d c (styled_text s d c (header ∷ rows)) names found
     → (names ≡ header) × (found ≡ rows))
 
 -- a text has one list of rows

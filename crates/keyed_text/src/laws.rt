@@ -2,7 +2,7 @@
 //! proof the law.
 ghost use Rattle.keyed_text.specs.Laws.{ReadsBackLaw, ReadsOnceLaw, RowsHaveCellsLaw};
 
-/// What is written of a header and rows reads back as them, and as nothing else.
+/// What is written of a header and rows, in any style, reads back as them, and as nothing else.
 ///
 /// Each row has a cell, the first name of the header begins with no byte order mark, and the byte between cells is no quote and no end of
 /// a line. The byte that begins comments, if there is one, is another than these two. Call it where a text that your code wrote is read.

@@ -9,6 +9,7 @@ mod quotes;
 mod row_reader;
 mod row_writer;
 mod strict;
+mod style;
 
 pub use laws::{law_reads_back, law_reads_once, law_rows_have_cells};
 pub use lenient::Lenient;
@@ -16,3 +17,4 @@ pub use quotes::{Marks, Place};
 pub use row_reader::RowReader;
 pub use row_writer::RowWriter;
 pub use strict::{QuoteFault, Strict};
+pub use style::{CellQuotes, LineEnd, Style};

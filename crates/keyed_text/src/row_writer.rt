@@ -1,12 +1,14 @@
 //! Rows written as a text, cell by cell.
-ghost use Rattle.std.specs.Prelude.{ℕ, List, [], ◌∷◌, Option, IfOk, OnOk, map};
+ghost use Rattle.std.specs.Prelude.{◌≡◌, List, [], ◌∷◌, ℕ, Option, IfOk, OnOk, map};
 ghost use Rattle.std.specs.Io.KnownBytes.{Appends};
 ghost use Rattle.csv.specs.Records.{fields_of};
+ghost use Rattle.csv.specs.declared.writer.WriterBuilder.{WriterBuilder};
 ghost use Rattle.keyed_text.specs.Streams.{EndsRow, HasWritten, PutsCells, PutsRows};
-ghost use Rattle.keyed_text.specs.Texts.{rows_text};
+ghost use Rattle.keyed_text.specs.Texts.{quote_style, terminator_of, text_by, writer_by, writer_in};
 
 use crate::quotes::Marks;
-use csv::{ByteRecord, Writer, WriterBuilder};
+use crate::style::{CellQuotes, LineEnd, Style};
+use csv::{ByteRecord, QuoteStyle, Terminator, Writer, WriterBuilder};
 use std::io::Write;
 
 /// A writer of rows over a writer of bytes. The cells of a row are put one by one, and then the row is ended.
@@ -26,14 +28,36 @@ pub struct RowWriter<W: Write + Drop> {
 }
 
 impl<W: Write + Drop> RowWriter<W> {
-    /// Returns a writer of rows behind the bytes that the writer has.
+    /// Returns a writer of rows behind the bytes that the writer has, with quotes where they are needed, and LF behind each row.
     pub fn new(writer: W, marks: Marks) -> Self
-        ensures { HasWritten marks.delimiter marks.comment W.contents (W.contents writer) [] [] result }
+        ensures { HasWritten (writer_by marks.delimiter marks.comment) W.contents (W.contents writer) [] [] result }
+    {
+        RowWriter::in_style(writer, marks, Style::PLAIN)
+    }
+
+    /// Returns a writer of rows in a style behind the bytes that the writer has.
+    ///
+    /// ```
+    /// let style = Style {
+    ///     quotes: CellQuotes::Everywhere,
+    ///     line_end: LineEnd::CrLf,
+    /// };
+    /// let marks = Marks { delimiter: b',', comment: None };
+    /// let mut rows = RowWriter::in_style(Vec::new(alloc), marks, style);
+    /// rows.put_cell(b"id")?;
+    /// rows.put_cell(b"price")?;
+    /// rows.end_row()?;
+    /// assert!(rt; rows.finish()?.as_slice() == b"\"id\",\"price\"\r\n".as_slice());
+    /// ```
+    pub fn in_style(writer: W, marks: Marks, style: Style) -> Self
+        ensures { HasWritten (writer_in style marks.delimiter marks.comment) W.contents (W.contents writer) [] [] result }
     {
         RowWriter {
             writer: WriterBuilder::new()
                 .delimiter(marks.delimiter)
                 .comment(marks.comment)
+                .quote_style(quote_style(style.quotes))
+                .terminator(terminator_of(style.line_end))
                 .from_writer(writer),
         }
     }
@@ -88,14 +112,32 @@ impl<W: Write + Drop> RowWriter<W> {
     ///
     /// Returns the error of the writer, or that a request for memory was refused.
     pub fn finish(self) -> Result<W, csv::Error>
-        ensures { IfOk result (λ writer. (d : ℕ) (c : Option ℕ) (there : Option (List ℕ))
+        ensures { IfOk result (λ writer. (by : WriterBuilder) (there : Option (List ℕ))
             (rows : List (List (List ℕ)))
-            → HasWritten d c W.contents there rows [] self
-            → Appends there (W.contents writer) (rows_text d c rows)) }
+            → HasWritten by W.contents there rows [] self
+            → Appends there (W.contents writer) (text_by by rows)) }
     {
         match self.writer.into_inner() {
             Ok(writer) => Ok(writer),
             Err(error) => Err(error.into_error()),
         }
+    }
+}
+
+fn quote_style(quotes: CellQuotes) -> QuoteStyle
+    ensures { result ≡ quote_style quotes }
+{
+    match quotes {
+        CellQuotes::WhereNeeded => QuoteStyle::Necessary,
+        CellQuotes::Everywhere => QuoteStyle::Always,
+    }
+}
+
+fn terminator_of(line_end: LineEnd) -> Terminator
+    ensures { result ≡ terminator_of line_end }
+{
+    match line_end {
+        LineEnd::Lf => Terminator::Any(b'\n'),
+        LineEnd::CrLf => Terminator::CRLF,
     }
 }

@@ -4,8 +4,8 @@ use keyed_commands::{
     Answer, Colours, Command as AnyCommand, Comparing, Delimiter, Fault, Finding, Finished, Form,
     Format, JoinNames, Joining, Kind, Layer, Look, LookupKind, LookupRequest, Merging, NamedFile,
     Outcome, OverlayRequest, Reading, Reason, Request, RowFormat, Settings, SortedChanges,
-    SortedRequest, Stream, apply, at, diff, diff_sorted, join, join_sorted, lookup, merge, overlay,
-    stream_request, write_command, write_request, write_whole,
+    SortedRequest, Stream, Writing, apply, at, diff, diff_sorted, join, join_sorted, lookup, merge,
+    overlay, stream_request, write_command, write_request, write_whole,
 };
 use std::alloc::{AllocError, Global};
 use std::io::{Read, Write};
@@ -16,6 +16,7 @@ pub const COMMAS: Form = Form {
     delimiter: Delimiter::COMMA,
     has_header: true,
     reading: Reading::STRICT,
+    writing: Writing::PLAIN,
 };
 
 pub const PLAIN: Settings<'static> = Settings {

@@ -1,6 +1,6 @@
 //! Rows of no cell and of many, and cells of each length at which a block is laid out otherwise.
 
-use keyed_rows::Cells;
+use keyed_rows::{Cells, Key};
 use std::alloc::{AllocError, Global};
 use std::process::Abort;
 
@@ -39,6 +39,8 @@ fn rows_of_no_cell_and_of_many(rt: HostRuntime) -> Result<(), AllocError> {
         let row = numbered(alloc, count)?;
         check_numbered(&rt, &row, count);
         check_numbered(&rt, &row.clone()?, count);
+        let key = Key::copied(&row)?;
+        assert!(rt; key.clone()? == key && key.iter().eq(row.iter()));
         assert!(rt; row == numbered(alloc, count)?);
         assert!(rt; row < numbered(alloc, count.saturating_add(1))?);
     }

@@ -6,16 +6,25 @@ ghost use Rattle.std.specs.Prelude.{◌≡◌, ◌++◌, ◌∷◌, [], ℕ, Lis
 ghost use Rattle.std.specs.Prelude.{codes, map};
 ghost use Rattle.csv.specs.Records.{fields_of};
 ghost use Rattle.keyed_text.specs.Streams.{HasRead};
-ghost use Rattle.keyed_text.specs.Texts.{AreRows, rows_text};
+ghost use Rattle.keyed_text.specs.Texts.{AreRows, ReadsAs, rows_text, styled_text};
 
 use csv::ByteRecord;
-use keyed_text::{Marks, RowReader, RowWriter, law_reads_once};
+use keyed_text::{
+    CellQuotes, LineEnd, Marks, RowReader, RowWriter, Style, law_reads_back, law_reads_once,
+};
 use std::alloc::{AllocError, AllocFailed, Global};
 use std::io::Read;
 
 const SEMICOLONS: Marks = Marks {
     delimiter: b';',
     comment: None,
+};
+
+const FULL: Style = Style {
+    has_mark: true,
+    quotes: CellQuotes::Everywhere,
+    line_end: LineEnd::CrLf,
+    has_end: false,
 };
 
 /// Why rows are not read or written.
@@ -120,4 +129,31 @@ pub fn known_text(alloc: Global) -> Result<Vec<u8>, Failed>
     writer.end_row()?;
     let text = writer.finish()?;
     Ok(text)
+}
+
+/// Returns the file of a row whose cells are known when the program is written: behind a byte order mark, with quotes everywhere, and with
+/// no end of the row.
+///
+/// # Errors
+///
+/// Returns the error of the writer, or that a request for memory was refused.
+pub fn known_file(alloc: Global) -> Result<Vec<u8>, Failed>
+    ensures { IfOk result (λ file. file.items ≡ 239 ∷ 187 ∷ 191 ∷ codes "\"2\";\"a b\"") }
+{
+    let mut writer = RowWriter::in_style(Vec::new(alloc), SEMICOLONS, FULL);
+    writer.put_cell(b"2")?;
+    writer.put_cell(b"a b")?;
+    writer.end_row()?;
+    let text = writer.finish()?;
+    let file = FULL.finish(alloc, text)?;
+    Ok(file)
+}
+
+/// The file of a header and a row reads back as them in whatever style it is written.
+pub fn reads_in_each(style: Style)
+    ensures { ReadsAs 59 None (styled_text style 59 None
+        ((codes "id" ∷ codes "name" ∷ []) ∷ (codes "2" ∷ codes "a;b" ∷ []) ∷ []))
+        (codes "id" ∷ codes "name" ∷ []) ((codes "2" ∷ codes "a;b" ∷ []) ∷ []) }
+{
+    law_reads_back();
 }

@@ -15,9 +15,12 @@ use Rattle.command_callers.proofs.applied.Goals as goal
 pub returns : goal.returns
 unfolding distinct escaped field_at fields_text is_blank placed repeats
 returns c =
-    IfOk-weaker c.apply.result _ _ (λ answer told.
-    apply_whole told (record { key = refl; renames = refl; order = refl }) id_a change_id_a (one_x ∷ []) (minus_one_x ∷ plus_one_y ∷ [])
-    (known_text _ _ _ _ _ c.as_slice.ensures refl with_x refl) (known_changes _ _ _ _ _ c.as_slice-2.ensures refl from_x_to_y refl)
-    ((codes "1" ∷ [], codes "x" ∷ []) ∷ []) ((codes "1" ∷ [], codes "x" ∷ []) ∷ []) ((codes "1" ∷ [], codes "y" ∷ []) ∷ [])
-    (tt, tt) (tt, tt) (tt, tt) (IsPermutation-refl _) (IsPermutation-refl _) (IsPermutation-refl _)
-    (refl, tt) refl) c.apply.ensures
+    IfOk-weaker c.apply.result _ _ (λ answer told. record {
+      file = apply_whole told (record { key = refl; renames = refl; order = refl }) id_a change_id_a (one_x ∷ []) (minus_one_x ∷ plus_one_y ∷ [])
+          (known_text _ _ _ _ _ c.as_slice.ensures refl with_x refl) (known_changes _ _ _ _ _ c.as_slice-2.ensures refl from_x_to_y refl)
+          ((codes "1" ∷ [], codes "x" ∷ []) ∷ []) ((codes "1" ∷ [], codes "x" ∷ []) ∷ []) ((codes "1" ∷ [], codes "y" ∷ []) ∷ [])
+          (tt, tt) (tt, tt) (tt, tt) (IsPermutation-refl _) (IsPermutation-refl _) (IsPermutation-refl _)
+          (refl, tt) refl;
+      plain_text = refl;
+      full_text = refl;
+    }) c.apply.ensures

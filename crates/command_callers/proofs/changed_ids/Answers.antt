@@ -15,9 +15,12 @@ use Rattle.command_callers.proofs.changed_ids.Goals as goal
 pub returns : goal.returns
 unfolding distinct escaped field_at fields_text is_blank placed repeats
 returns c =
-    IfOk-weaker c.apply.result _ _ (λ answer told.
-    apply_whole told (record { key = refl; renames = refl; order = refl }) id change_id (one ∷ two ∷ []) (minus_two ∷ plus_three ∷ [])
-    (known_text _ _ _ _ _ c.as_slice.ensures refl ids refl) (known_changes _ _ _ _ _ c.as_slice-2.ensures refl from_two_to_three refl)
-    ((codes "1" ∷ [], []) ∷ (codes "2" ∷ [], []) ∷ []) ((codes "2" ∷ [], []) ∷ []) ((codes "3" ∷ [], []) ∷ [])
-    (tt, (refl, tt)) (tt, tt) (tt, tt) (IsPermutation-refl _) (IsPermutation-refl _) (IsPermutation-refl _)
-    (refl, (refl, tt)) refl) c.apply.ensures
+    IfOk-weaker c.apply.result _ _ (λ answer told. record {
+      file = apply_whole told (record { key = refl; renames = refl; order = refl }) id change_id (one ∷ two ∷ []) (minus_two ∷ plus_three ∷ [])
+          (known_text _ _ _ _ _ c.as_slice.ensures refl ids refl) (known_changes _ _ _ _ _ c.as_slice-2.ensures refl from_two_to_three refl)
+          ((codes "1" ∷ [], []) ∷ (codes "2" ∷ [], []) ∷ []) ((codes "2" ∷ [], []) ∷ []) ((codes "3" ∷ [], []) ∷ [])
+          (tt, (refl, tt)) (tt, tt) (tt, tt) (IsPermutation-refl _) (IsPermutation-refl _) (IsPermutation-refl _)
+          (refl, (refl, tt)) refl;
+      plain_text = refl;
+      full_text = refl;
+    }) c.apply.ensures

@@ -15,9 +15,12 @@ use Rattle.command_callers.proofs.dropped_column.Goals as goal
 pub returns : goal.returns
 unfolding distinct escaped field_at fields_text is_blank placed repeats
 returns c =
-    IfOk-weaker c.apply.result _ _ (λ answer told.
-    apply_whole told (record { key = refl; renames = refl; order = refl }) id_a change_id_without_a (one_x ∷ two_blank ∷ []) (minus_one_x ∷ [])
-    (known_text _ _ _ _ _ c.as_slice.ensures refl with_x_and_blank refl) (known_changes _ _ _ _ _ c.as_slice-2.ensures refl without_column refl)
-    ((codes "1" ∷ [], codes "x" ∷ []) ∷ (codes "2" ∷ [], codes "" ∷ []) ∷ []) ((codes "1" ∷ [], codes "x" ∷ []) ∷ []) []
-    (tt, (refl, tt)) (tt, tt) tt (IsPermutation-refl _) (IsPermutation-refl _) (IsPermutation-refl _)
-    (refl, tt) refl) c.apply.ensures
+    IfOk-weaker c.apply.result _ _ (λ answer told. record {
+      file = apply_whole told (record { key = refl; renames = refl; order = refl }) id_a change_id_without_a (one_x ∷ two_blank ∷ []) (minus_one_x ∷ [])
+          (known_text _ _ _ _ _ c.as_slice.ensures refl with_x_and_blank refl) (known_changes _ _ _ _ _ c.as_slice-2.ensures refl without_column refl)
+          ((codes "1" ∷ [], codes "x" ∷ []) ∷ (codes "2" ∷ [], codes "" ∷ []) ∷ []) ((codes "1" ∷ [], codes "x" ∷ []) ∷ []) []
+          (tt, (refl, tt)) (tt, tt) tt (IsPermutation-refl _) (IsPermutation-refl _) (IsPermutation-refl _)
+          (refl, tt) refl;
+      plain_text = refl;
+      full_text = refl;
+    }) c.apply.ensures

@@ -15,8 +15,11 @@ use Rattle.command_callers.proofs.layers.cells_over.Goals as goal
 pub returns : goal.returns
 unfolding distinct escaped field_at fields_text is_blank placed repeats
 returns c =
-    IfOk-weaker c.overlay_two.result _ _ (λ answer told.
-    overlay_whole (of_two _ _ _ _ _ _ _ _ told refl refl) (record { key = refl; renames = refl; order = refl }) id_a_b id_a_b (one_x_y ∷ []) (one__w ∷ [])
-    (known_text _ _ _ _ _ c.as_slice.ensures refl with_x_y refl) (known_text _ _ _ _ _ c.as_slice-2.ensures refl with__w refl)
-    ((codes "1" ∷ [], codes "x" ∷ codes "y" ∷ []) ∷ []) ((codes "1" ∷ [], codes "" ∷ codes "w" ∷ []) ∷ []) (tt, tt) (tt, tt)
-    (IsPermutation-refl _) (IsPermutation-refl _)) c.overlay_two.ensures
+    IfOk-weaker c.overlay_two.result _ _ (λ answer told. record {
+      file = overlay_whole (of_two _ _ _ _ _ _ _ _ told refl refl) (record { key = refl; renames = refl; order = refl }) id_a_b id_a_b (one_x_y ∷ []) (one__w ∷ [])
+          (known_text _ _ _ _ _ c.as_slice.ensures refl with_x_y refl) (known_text _ _ _ _ _ c.as_slice-2.ensures refl with__w refl)
+          ((codes "1" ∷ [], codes "x" ∷ codes "y" ∷ []) ∷ []) ((codes "1" ∷ [], codes "" ∷ codes "w" ∷ []) ∷ []) (tt, tt) (tt, tt)
+          (IsPermutation-refl _) (IsPermutation-refl _);
+      plain_text = refl;
+      full_text = refl;
+    }) c.overlay_two.ensures

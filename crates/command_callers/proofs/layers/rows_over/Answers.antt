@@ -15,8 +15,11 @@ use Rattle.command_callers.proofs.layers.rows_over.Goals as goal
 pub returns : goal.returns
 unfolding distinct escaped field_at fields_text is_blank placed repeats
 returns c =
-    IfOk-weaker c.overlay_two.result _ _ (λ answer told.
-    overlay_whole (of_two _ _ _ _ _ _ _ _ told refl refl) (record { key = refl; renames = refl; order = refl }) id_a id_a (one_x ∷ []) (one_y ∷ two_z ∷ [])
-    (known_text _ _ _ _ _ c.as_slice.ensures refl with_x refl) (known_text _ _ _ _ _ c.as_slice-2.ensures refl with_y_and_z refl)
-    ((codes "1" ∷ [], codes "x" ∷ []) ∷ []) ((codes "1" ∷ [], codes "y" ∷ []) ∷ (codes "2" ∷ [], codes "z" ∷ []) ∷ []) (tt, tt) (tt, (refl, tt))
-    (IsPermutation-refl _) (IsPermutation-refl _)) c.overlay_two.ensures
+    IfOk-weaker c.overlay_two.result _ _ (λ answer told. record {
+      file = overlay_whole (of_two _ _ _ _ _ _ _ _ told refl refl) (record { key = refl; renames = refl; order = refl }) id_a id_a (one_x ∷ []) (one_y ∷ two_z ∷ [])
+          (known_text _ _ _ _ _ c.as_slice.ensures refl with_x refl) (known_text _ _ _ _ _ c.as_slice-2.ensures refl with_y_and_z refl)
+          ((codes "1" ∷ [], codes "x" ∷ []) ∷ []) ((codes "1" ∷ [], codes "y" ∷ []) ∷ (codes "2" ∷ [], codes "z" ∷ []) ∷ []) (tt, tt) (tt, (refl, tt))
+          (IsPermutation-refl _) (IsPermutation-refl _);
+      plain_text = refl;
+      full_text = refl;
+    }) c.overlay_two.ensures

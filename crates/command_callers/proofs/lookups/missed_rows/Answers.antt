@@ -15,4 +15,4 @@ unfolding distinct escaped field_at fields_text is_blank placed repeats
 returns-clause-bytes c =
     IfOk-weaker c.lookup.result _ _ (λ status told. let looks = told refl in
     adds_text looks refl id_a id_b (two_y ∷ one_x ∷ []) (two_z ∷ three_w ∷ []) (known_text _ _ _ _ _ c.as_slice.ensures refl with_y_then_x refl)
-    (known_text _ _ _ _ _ c.as_slice-2.ensures refl with_z_and_w refl) refl (λ more. refl, tt)) c.lookup.ensures.text
+    (known_text _ _ _ _ _ c.as_slice-2.ensures refl with_z_and_w refl) refl refl (λ more. refl, tt)) c.lookup.ensures.text

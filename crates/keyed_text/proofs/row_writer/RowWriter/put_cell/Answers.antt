@@ -5,7 +5,7 @@ use Rattle.keyed_text.proofs.WriteLemmas.{has-cell}
 use Rattle.keyed_text.proofs.row_writer.RowWriter.put_cell.Goals as goal
 
 pub returns : goal.returns
-returns g c d m there rows cells h =
+returns g c by there rows cells h =
     let e = c.in_ok-write_field.ensures in
-    let plain : (writer_setup c.args.self.now.writer).style ≢ style.NonNumeric = rw h.setup (λ d. cc d) in
-    has-cell _ d m there rows cells _ _ _ h e.same e.count (λ w. e.wrote w plain) e.stays (e.text plain)
+    let plain : (writer_setup c.args.self.now.writer).style ≢ style.NonNumeric = rw h.setup h.quotes in
+    has-cell _ by there rows cells _ _ _ h e.same e.count (λ w. e.wrote w plain) e.stays (e.text plain)

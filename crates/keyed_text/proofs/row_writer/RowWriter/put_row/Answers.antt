@@ -5,8 +5,8 @@ use Rattle.keyed_text.proofs.WriteLemmas.{has-whole, none-written}
 use Rattle.keyed_text.proofs.row_writer.RowWriter.put_row.Goals as goal
 
 pub returns : goal.returns
-returns g c d m there rows h =
+returns g c by there rows h =
     let e = c.in_ok-write_byte_record.ensures in
-    let plain : (writer_setup c.args.self.now.writer).style ≢ style.NonNumeric = rw h.setup (λ d. cc d) in
-    let none = none-written _ d m there rows _ h in
-    has-whole _ d m there rows _ _ _ h e.setup e.ended e.clean (e.bytes h.fields none plain)
+    let plain : (writer_setup c.args.self.now.writer).style ≢ style.NonNumeric = rw h.setup h.quotes in
+    let none = none-written _ by there rows _ h in
+    has-whole _ by there rows _ _ _ h e.setup e.ended e.clean (e.bytes h.fields none plain)
