@@ -56,4 +56,4 @@ def draw():
 
 
 if __name__ == "__main__":
-    (Path(__file__).parent.parent / "docs/aligned.svg").write_text(draw())
+    (Path(__file__).parent / "aligned.svg").write_text(draw())
