@@ -1,5 +1,5 @@
 //! What to write where the check says that a fact is missing: for each case the form that proves. `docs/GUIDE.md` shows the messages.
-ghost use Rattle.std.specs.Prelude.{◌≡◌, IfOk, map, ℕ};
+ghost use Rattle.std.specs.Prelude.{◌≡◌, IfOk, Option, filter, is_some, map, option_copied, ℕ};
 ghost use Rattle.std.specs.BTreeMap.{get};
 ghost use Rattle.std.specs.Ordering.{nat_cmp};
 ghost use Rattle.either_or_both.specs.Join.{IsJoin, Rising, value_under};
@@ -102,6 +102,67 @@ pub fn with_customers<'a>(
     let orders = widened_orders(alloc, orders)?;
     let rows = lookup_join(alloc, orders, customers)?;
     Ok(rows)
+}
+
+// The rows whose customer is known.
+fn known<'a>(
+    alloc: Global,
+    rows: Vec<LookupRow<'a, u32, u8, u64>>,
+) -> Result<Vec<LookupRow<'a, u32, u8, u64>>, AllocError>
+    ensures { IfOk result (λ made. made.items ≡ filter (λ r. is_some r.2) rows.entry.items) }
+{
+    rows.into_iter()
+        .filter(|row| row.2.is_some())
+        .collect(alloc)
+}
+
+/// Orders whose customer is known: the rows filtered by a function that takes them by value, since of a look-up join that is filtered or
+/// mapped no caller knows its rows.
+pub fn with_known_customers<'a>(
+    alloc: Global,
+    orders: Vec<(u32, u8)>,
+    customers: &'a BTreeMap<u32, u64>,
+) -> Result<Vec<LookupRow<'a, u32, u8, u64>>, AllocError>
+    ensures { IfOk result (λ made. (rows : _)
+        × (map shown_lookup rows ≡ map (with_found (get nat_cmp customers.now)) orders.items)
+        × (made.items ≡ filter (λ r. is_some r.2) rows)) }
+{
+    let rows = lookup_join(alloc, orders, customers)?;
+    let made = known(alloc, rows)?;
+    Ok(made)
+}
+
+// The number of an order's customer, with what is known of it.
+fn shown(row: LookupRow<'_, u32, u8, u64>) -> (u32, Option<u64>)
+    ensures { result ≡ (row.entry.0, option_copied row.entry.2) }
+{
+    (row.0, row.2.copied())
+}
+
+// The same of each row.
+fn all_shown(
+    alloc: Global,
+    rows: Vec<LookupRow<'_, u32, u8, u64>>,
+) -> Result<Vec<(u32, Option<u64>)>, AllocError>
+    ensures { IfOk result (λ made. made.items
+        ≡ map {B = ℕ × Option ℕ} (λ r. (r.0, option_copied r.2)) rows.entry.items) }
+{
+    rows.into_iter().map(shown).collect(alloc)
+}
+
+/// What is known of the customer of each order: the rows mapped in the same way.
+pub fn customers_of(
+    alloc: Global,
+    orders: Vec<(u32, u8)>,
+    customers: &BTreeMap<u32, u64>,
+) -> Result<Vec<(u32, Option<u64>)>, AllocError>
+    ensures { IfOk result (λ made. (rows : _)
+        × (map shown_lookup rows ≡ map (with_found (get nat_cmp customers.now)) orders.items)
+        × (made.items ≡ map {B = ℕ × Option ℕ} (λ r. (r.0, option_copied r.2)) rows)) }
+{
+    let rows = lookup_join(alloc, orders, customers)?;
+    let made = all_shown(alloc, rows)?;
+    Ok(made)
 }
 
 /// A lazy join, collected where it is made.
