@@ -1,5 +1,5 @@
 //! Students and fees by number, joined and counted: those with no fee, fees of nobody, and students with a fee. The counts add up to each
-//! list and to all rows, of any two lists.
+//! list and to all rows.
 ghost use Rattle.std.specs.Prelude.{◌≡◌, ◌+◌};
 ghost use Rattle.either_or_both.specs.Prelude.{IfOk, Rising, length, shared_keys};
 ghost use Rattle.std.specs.Prelude.{count_by, is_none, is_some};
@@ -60,4 +60,27 @@ fn count_all_unpaid<K: Drop, A: Drop, B: Drop>(rows: Vec<(K, EitherOrBoth<A, B>)
     ensures { result ≡ count_by (λ z. is_none (right_place z.1)) rows.items }
 {
     rows.into_iter().filter(|row| row.1.is_left()).count()
+}
+
+/// How many fees of two lists are of nobody: those and the numbers that both lists have are all fees.
+pub fn unknown_fees<K: Ord + Drop, A: Drop, B: Drop>(
+    alloc: Global,
+    students: Vec<(K, A)>,
+    fees: Vec<(K, B)>,
+) -> Result<usize, AllocError>
+    requires students { Rising K.cmp students.items }
+    requires fees { Rising K.cmp fees.items }
+    ensures { IfOk result (λ n. n + shared_keys K.cmp students.items fees.items ≡ length fees.items) }
+{
+    law_row_counts_of_join::<K, A, B>();
+    let rows = outer_join(alloc, students, fees)?;
+    let unknown = count_all_unknown(rows);
+    Ok(unknown)
+}
+
+// The same count of rows that nothing else needs.
+fn count_all_unknown<K: Drop, A: Drop, B: Drop>(rows: Vec<(K, EitherOrBoth<A, B>)>) -> usize
+    ensures { result ≡ count_by (λ z. is_none (left_place z.1)) rows.items }
+{
+    rows.into_iter().filter(|row| row.1.is_right()).count()
 }

@@ -3,7 +3,7 @@
 use crate::shown::expect_shown;
 use either_or_both::join::is_rising;
 use either_or_both::laws::End;
-use recipes::enrolment::{count_rows, unpaid_students};
+use recipes::enrolment::{count_rows, unknown_fees, unpaid_students};
 use recipes::loans::{with_readers, with_returns};
 use recipes::parcels::by_street;
 use recipes::partners::paired;
@@ -62,6 +62,10 @@ fn of_an_enrolment(rt: HostRuntime) -> Result<(), Fail> {
     let fees = vec![in alloc; (1, 90), (3, 90), (4, 90)]?;
     assert!(rt; is_rising(&students) && is_rising(&fees));
     assert_eq!(rt; unpaid_students(alloc, students, fees)?, 1);
+    let students = vec![in alloc; (1, 'a'), (4, 'b')]?;
+    let fees = vec![in alloc; (1, 90), (3, 90), (5, 90)]?;
+    assert!(rt; is_rising(&students) && is_rising(&fees));
+    assert_eq!(rt; unknown_fees(alloc, students, fees)?, 2);
     let shelves = vec![in alloc; (1, 'a'), (2, 'b')]?;
     let signs = vec![in alloc; (2, "Maps"), (5, "Music")]?;
     assert!(rt; is_rising(&shelves) && is_rising(&signs));
