@@ -11,7 +11,7 @@ value_of byte = cond (is_ascii_digit byte) (byte - 48) 0
 abbrev pub digits_value : List ℕ → ℕ
 digits_value digits = fold (λ value digit. 10 * value + value_of digit) 0 digits
 
--- the digit at a step, of digits that so many zeros stand before, and zeros behind
+-- the digit at a step, of digits that so many zeros stand before, and zeros after
 abbrev pub digit_at : ℕ → List ℕ → ℕ → ℕ
 digit_at zeros digits step = cond (nat_lt step zeros) 0 (value_of (get_or digits (step - zeros) 0))
 

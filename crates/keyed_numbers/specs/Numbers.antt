@@ -12,7 +12,7 @@ pub record Number : Type 0 where
   pub digits : List ℕ
   pub top : ℕ
 
--- what stands behind a sign, or all where there is none
+-- what stands after a sign, or all where there is none
 abbrev pub unsigned : List ℕ → List ℕ
 unsigned [] = []
 unsigned (byte ∷ rest) = cond (byte == 45 || byte == 43) rest (byte ∷ rest)
@@ -26,12 +26,20 @@ has_minus (byte ∷ rest) = byte == 45
 abbrev pub is_either : ℕ → ℕ → ℕ → Bool
 is_either mark other byte = byte == mark || byte == other
 
--- what stands behind the first of the bytes that pass, if there is one
+-- what stands after the first of the bytes that pass, if there is one
 abbrev pub behind_first : (ℕ → Bool) → List ℕ → Option (List ℕ)
 behind_first p bytes = cond (nat_lt (position_or_len p bytes) (length bytes)) (Some (after_first p bytes)) None
 
 abbrev pub are_digits : List ℕ → Bool
 are_digits bytes = list_all is_ascii_digit bytes
+
+-- whether digits are all 0
+abbrev pub are_zeros : List ℕ → Bool
+are_zeros digits = list_all (λ digit. digit == 48) digits
+
+-- whether a number is less than 0: a minus stands before it, and some digit is not 0
+abbrev pub is_below_zero : Number → Bool
+is_below_zero number = number.is_negative && not (are_zeros number.digits)
 
 -- the power of ten that a text is, counted from -9,999: a sign or none, and one to four digits
 abbrev pub power_in : List ℕ → Option ℕ
@@ -48,7 +56,7 @@ abbrev pub or_none : Option (List ℕ) → List ℕ
 or_none None = []
 or_none (Some bytes) = bytes
 
--- a number of these digits before the point and behind it, if there is one digit at least, and all are digits
+-- a number of these digits before the point and after it, if there is one digit at least, and all are digits
 abbrev pub number_of_parts : Bool → List ℕ → List ℕ → ℕ → Option Number
 number_of_parts is_negative whole fraction power =
     cond (are_digits whole && are_digits fraction && nat_lt 0 (length whole + length fraction))

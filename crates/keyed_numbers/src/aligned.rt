@@ -54,7 +54,7 @@ fn next_digit(next: Option<Aligned<'_>>, step: u128) -> u64
 }
 
 /// Whether one sum is no greater than another, by so many digits of each. They are read from the first on: where what one sum has more of
-/// comes to two at a digit, all digits behind it come to less.
+/// comes to two at a digit, all digits after it come to less.
 pub fn is_at_most(depth: u128, lower: Sum<'_>, upper: Sum<'_>) -> bool
     ensures { result ≡ nat_le (positional (digit_of_sum lower.entry) depth)
         (positional (digit_of_sum upper.entry) depth) }

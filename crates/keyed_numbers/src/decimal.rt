@@ -3,18 +3,18 @@ ghost use Rattle.std.specs.Prelude.{◌≡◌, ◌+◌, ◌*◌, ◌^◌, ◌<�
 ghost use Rattle.std.specs.Prelude.{IfSome, None, ◌&&◌, nat_lt};
 ghost use Rattle.std.specs.List.{before_first, position};
 ghost use Rattle.keyed_numbers.specs.Digits.{digits_value, value_of};
-ghost use Rattle.keyed_numbers.specs.Numbers.{are_digits, behind_first, has_minus, is_either, number_in};
-ghost use Rattle.keyed_numbers.specs.Numbers.{power_in, power_of, unsigned};
+ghost use Rattle.keyed_numbers.specs.Numbers.{are_digits, are_zeros, behind_first, has_minus, is_below_zero};
+ghost use Rattle.keyed_numbers.specs.Numbers.{is_either, number_in, power_in, power_of, unsigned};
 ghost use Rattle.keyed_numbers.specs.Decimals.{number_of};
 
 // The power of ten that stands for 10 to the power 0: powers are counted from -9,999, which is the least.
 const ONES: u16 = 9999;
 
-/// A number as it is written: a sign, digits, a point, digits behind it, and a power of ten, of which all but one digit may be left out.
+/// A number as it is written: a sign, digits, a point, digits after it, and a power of ten, of which all but one digit may be left out.
 #[derive(Clone, Copy, Debug)]
 pub struct Decimal<'a> {
     is_negative: bool,
-    // The digits before the point, and those behind it.
+    // The digits before the point, and those after it.
     whole: &'a [u8],
     fraction: &'a [u8],
     // The power of ten, counted from -9,999.
@@ -59,14 +59,11 @@ impl<'a> Decimal<'a> {
         }
     }
 
-    /// Whether the number is less than 0.
-    pub fn is_negative(self) -> bool {
-        self.is_negative
-            && self
-                .whole
-                .iter()
-                .chain(self.fraction.iter())
-                .any(|digit| *digit != b'0')
+    /// Returns whether the number is less than 0: `-0.5` is, and `-0.00` is not.
+    pub fn is_negative(self) -> bool
+        ensures { result ≡ is_below_zero (number_of self.entry) }
+    {
+        self.is_negative && !(are_zeros(self.whole) && are_zeros(self.fraction))
     }
 
     // Whether a minus stands before the digits.
@@ -92,7 +89,7 @@ impl<'a> Decimal<'a> {
         self.whole.len() as u128 + self.fraction.len() as u128
     }
 
-    // The value of the digit at a place behind the first one, or 0 where none stands.
+    // The value of the digit at a place after the first one, or 0 where none stands.
     pub(crate) fn digit(self, place: u128) -> u64
         ensures value { result ≡ value_of (get_or (number_of self.entry).digits place 0) }
         ensures bound { result ≤ 9 }
@@ -104,6 +101,13 @@ impl<'a> Decimal<'a> {
             value_at(self.fraction, place - count)
         }
     }
+}
+
+// Whether digits are all 0.
+fn are_zeros(digits: &[u8]) -> bool
+    ensures { result ≡ are_zeros digits.now }
+{
+    digits.iter().all(|digit| *digit == b'0')
 }
 
 // The value of the digit at a place, or 0 where there is none.
@@ -130,7 +134,7 @@ fn value_of(byte: u8) -> u64
     }
 }
 
-// Whether a minus stands before bytes, and what stands behind a sign.
+// Whether a minus stands before bytes, and what stands after a sign.
 fn without_sign(bytes: &[u8]) -> (bool, &[u8])
     ensures minus { result.0 ≡ has_minus bytes.now }
     ensures rest { result.1.now ≡ unsigned bytes.now }
@@ -142,7 +146,7 @@ fn without_sign(bytes: &[u8]) -> (bool, &[u8])
     }
 }
 
-// What stands before the first byte that is one of two, and what stands behind it, if there is one.
+// What stands before the first byte that is one of two, and what stands after it, if there is one.
 fn parted(bytes: &[u8], mark: u8, other: u8) -> (&[u8], Option<&[u8]>)
     ensures before { result.0.now ≡ before_first (is_either mark other) bytes.now }
     ensures behind { option_map (λ rest. rest.now) result.1 ≡ behind_first (is_either mark other) bytes.now }
