@@ -62,7 +62,7 @@ class Faults:
         self.expect_fault(words, "bad", f"line {starts[place]}: {cells}, and there {columns}{remedy}")
 
     def bad_quotes(self):
-        """A row with a quote that is never closed, or with text behind a closing one."""
+        """A row with a quote that is never closed, or with text after a closing one."""
         text, _ = written(self.base.lines(self.has_header), self.delimiter, self.rng)
         line = 1 + len(LINE_END.findall(text))
         wrong, why = self.rng.choice(

@@ -91,7 +91,7 @@ class Long:
 
     @staticmethod
     def overlaid(text, ours, head, blocks):
-        """Theirs below ours, in its order, and behind it the rows that only ours has."""
+        """Theirs below ours, in its order, and after it the rows that only ours has."""
         below = piece(lambda n: (ours(n).split("\n")[0] + "\n") if n != 2 else "@002,2\n")
         return of_blocks(head, below, blocks) + of_blocks("", "@998+,new\n", blocks)
 

@@ -93,7 +93,7 @@ class Options:
             ends[0] = "\r\n" if line_ends(body)[:1] == ["\r\n"] else self.rng.choice(["\n", "\r"])
             top = "".join(self.rng.choice(["a title", '"', 'a "quote', "a\0b", '""', self.delimiter]) + it for it in ends)
             note = self.rng.choice(["", '%% a "note\n', "%\r\n", "%\r"])
-            # A line feed behind a return is one end with it.
+            # A line feed after a return is one end with it.
             body = body.lstrip("\r\n") if ends[-1] == "\r" or note else body
             mark = MARK * text.startswith(MARK)
             names[name] = f"{name} below"
@@ -113,7 +113,7 @@ class Options:
         found = self.ask_again(*words, "--no-heading")
         if whole[0] == 2 or whole[0] == 1 and words[0] == "apply" or whole[0] == 1 and words[0] == "merge" and not self.is_marked(whole):
             return self.alike(words, whole, ["--no-heading"], [], found)
-        # A mark stands before the first row: it goes with the names, and the cells of a row behind them may begin as it does.
+        # A mark stands before the first row: it goes with the names, and the cells of a row after them may begin as it does.
         mark = MARK.encode("latin-1")
         bare = lambda answer: self.rows_of((0, answer[1].removeprefix(mark)))
         wanted, found_rows = bare(whole)[self.has_header :], self.rows_of(found) if self.has_header else bare(found)

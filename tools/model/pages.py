@@ -89,7 +89,7 @@ class QuickPage(Page):
 
 
 class Markdown:
-    """The items of the list of a page of Markdown, the lines of its table, each with its cells as text, and the lines behind it. A cell of
+    """The items of the list of a page of Markdown, the lines of its table, each with its cells as text, and the lines after it. A cell of
     two versions, the old one struck through and the new one in bold, is a pair. A mark that stands there bare is a fault."""
 
     CELLS = re.compile(r"([^\\|]*(?:\\.[^\\|]*)*)\|", re.S)

@@ -144,7 +144,7 @@ class Round:
         return [it for it in dict.fromkeys(read) if it in keys]
 
     def in_merged_order(self, key, keys, ours, theirs):
-        """Those of a merge: in the order of ours, with each new one behind the one that it follows in theirs, or first."""
+        """Those of a merge: in the order of ours, with each new one after the one that it follows in theirs, or first."""
         if not self.keeps_order:
             return sorted(keys)
         ours, theirs = ([*dict.fromkeys(tuple(row[name] for name in key) for row in table.rows)] for table in (ours, theirs))
