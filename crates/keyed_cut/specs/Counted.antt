@@ -30,7 +30,7 @@ module _ {R : Type 0} (remaining : R → Option (List ℕ)) (bounds : List (List
       → (records : List (List (List ℕ))) × HasGiven d c remaining text (given ++ records) now
       × AreCounted key_cmp bounds (map (key_in table.places) records) counts
 
-  -- a table is read to the end: behind the records that it had given, these come, and no more, and their keys are counted
+  -- a table is read to the end: after the records that it had given, these come, and no more, and their keys are counted
   abbrev pub CountsRest : Table R → Counts → Type 0
   CountsRest table counts = (d : ℕ) (c : Option ℕ) (text : List ℕ) (given : List (List (List ℕ)))
       → HasGiven d c remaining text given table.opened.source.value

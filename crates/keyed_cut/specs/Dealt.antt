@@ -1,4 +1,4 @@
--- Rows put behind those of their parts, and as many cells of a row as there are columns.
+-- Rows put after those of their parts, and as many cells of a row as there are columns.
 use Rattle.std.specs.Prelude.{◌≡◌, ℕ, zero, suc, List, [], ◌∷◌, ◌++◌, Option, Some, length, map, slice_get, slice_set}
 use Rattle.std.specs.Cmp.Lexicographic.{slice_cmp}
 use Rattle.std.specs.Ordering.{nat_cmp}
@@ -23,7 +23,7 @@ pub record PutsRowAt {W : Type 0} (contents : W → Option (List ℕ)) (i : ℕ)
   pub puts : (before : RowWriter W) → slice_get old i ≡ Some before → PutsRows contents before writer (row ∷ [])
   pub others : new ≡ slice_set old i writer
 
--- of the writers of parts each has, behind what it had, the rows whose key is in its part, in their order, and no other
+-- of the writers of parts each has, after what it had, the rows whose key is in its part, in their order, and no other
 pub record PutsDealt {K W : Type 0} (cmp : K → K → Ordering) (contents : W → Option (List ℕ)) (bounds : List K) (rows : List (K × List (List ℕ))) (old new : List (RowWriter W)) : Type 0 where
   pub count : length new ≡ length old
   pub part : (i : ℕ) (before after : RowWriter W) → slice_get old i ≡ Some before → slice_get new i ≡ Some after
@@ -38,14 +38,14 @@ abbrev pub by_key : Places → ℕ → List (List (List ℕ)) → List (List (Li
 by_key places n records = map (λ fields. (key_in places fields, fitted n fields)) records
 
 module _ {R W : Type 0} (remaining : R → Option (List ℕ)) (contents : W → Option (List ℕ)) (bounds : List (List (List ℕ))) (places : Places) (n : ℕ) where
-  -- a source is read on: of each text of which it had given some records, it gave more, and each of these is put behind the rows of the part
+  -- a source is read on: of each text of which it had given some records, it gave more, and each of these is put after the rows of the part
   -- of its key
   abbrev pub DealsOn : Source R → Source R → List (RowWriter W) → List (RowWriter W) → Type 0
   DealsOn source now old new = (d : ℕ) (c : Option ℕ) (text : List ℕ) (given : List (List (List ℕ)))
       → HasGiven d c remaining text given source
       → (records : List (List (List ℕ))) × HasGiven d c remaining text (given ++ records) now × PutsDealt key_cmp contents bounds (by_key places n records) old new
 
-  -- a source is read to the end: behind the records that it had given, these come, and no more, and each is put behind the rows of the part
+  -- a source is read to the end: after the records that it had given, these come, and no more, and each is put after the rows of the part
   -- of its key
   abbrev pub DealsRest : Source R → List (RowWriter W) → List (RowWriter W) → Type 0
   DealsRest source old new = (d : ℕ) (c : Option ℕ) (text : List ℕ) (given : List (List (List ℕ)))

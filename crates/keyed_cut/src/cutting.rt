@@ -141,7 +141,7 @@ fn cut_table<'a, R: Files + AllocGlobal>(
     Ok(sinks.end(alloc, target)?)
 }
 
-// Puts the rows that a table has left behind those of the parts of their keys. No input has more of them than a number counts.
+// Puts the rows that a table has left after those of the parts of their keys. No input has more of them than a number counts.
 fn deal_rows<'a, F: Read + Drop, W: Write + Drop>(
     alloc: Global,
     target: Target<'a>,

@@ -58,7 +58,7 @@ struct Reading {
     weight: u64,
 }
 
-/// Reads all tables, so that a fault of a row leaves nothing behind, and finds where they are cut.
+/// Reads all tables, so that a fault of a row leaves nothing after, and finds where they are cut.
 ///
 /// # Errors
 ///

@@ -185,7 +185,7 @@ fn top_text(alloc: Global, form: Form, header: Option<Cells>) -> Result<Vec<u8>,
     }
 }
 
-/// Puts an item behind the others.
+/// Puts an item after the others.
 ///
 /// # Errors
 ///
@@ -202,7 +202,7 @@ fn written<'a>(file: String, reason: Reason) -> CutFault<'a> {
 }
 
 impl<W: Write + Drop> Sinks<W> {
-    /// Writes a row that was read behind those of the part of its key, and notes how many bytes of memory it takes. All other parts stay
+    /// Writes a row that was read after those of the part of its key, and notes how many bytes of memory it takes. All other parts stay
     /// as they are.
     ///
     /// # Errors
@@ -263,7 +263,7 @@ impl<W: Write + Drop> Sinks<W> {
     }
 }
 
-// Puts a row of so many cells behind those of the part at a place.
+// Puts a row of so many cells after those of the part at a place.
 fn put_at<W: Write + Drop>(
     writers: &mut Vec<RowWriter<W>>,
     place: usize,
@@ -278,7 +278,7 @@ fn put_at<W: Write + Drop>(
     Ok(())
 }
 
-// Puts a row of so many cells: one that has fewer has empty ones behind them, and of one that has more the others are left out.
+// Puts a row of so many cells: one that has fewer has empty ones after them, and of one that has more the others are left out.
 fn put_fitted<W: Write + Drop>(
     writer: &mut RowWriter<W>,
     count: usize,
@@ -318,7 +318,7 @@ fn put_cells<W: Write + Drop>(
     Ok(())
 }
 
-// The cell of a row at a place, or an empty one behind the last.
+// The cell of a row at a place, or an empty one after the last.
 fn cell_of(row: &ByteRecord, place: usize) -> &[u8]
     ensures { result.now ≡ unwrap_or (field_at (fields_of row.now) place) [] }
 {

@@ -72,7 +72,7 @@ fn files_of<'a>(alloc: Global, cut: Cut<'a>) -> Result<Vec<Named<'a>>, CutFault<
     Ok(files)
 }
 
-// Puts an item behind the others. The error of `push` holds the item, and so is none that a fault can be of.
+// Puts an item after the others. The error of `push` holds the item, and so is none that a fault can be of.
 fn put<T: Drop>(items: &mut Vec<T>, item: T) -> Result<(), AllocError> {
     items.push(item)?;
     Ok(())

@@ -43,7 +43,7 @@ AreChangedColumns key old changes gone columns = WriteNames key (changed_names o
 abbrev pub stays_in : List (List ℕ) → List (List ℕ) → List ℕ → Bool
 stays_in base other name = has_name other name || not (has_name base name)
 
--- whether a column of a version comes behind those of the other one: it is new, and not in the other one
+-- whether a column of a version comes after those of the other one: it is new, and not in the other one
 abbrev pub comes_in : List (List ℕ) → List (List ℕ) → List ℕ → Bool
 comes_in base other name = not (has_name other name) && not (has_name base name)
 

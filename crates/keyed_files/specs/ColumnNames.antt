@@ -54,11 +54,11 @@ if_empty header one other = if length header == 0 then one else other
 abbrev pub or_header : List (List ℕ) → List (List ℕ) → List (List ℕ)
 or_header header other = if_empty header other header
 
--- the places of so many columns of a key, and of so many others behind them
+-- the places of so many columns of a key, and of so many others after them
 abbrev pub key_first : ℕ → ℕ → List Place
 key_first key rest = map at.Key (range_with_len 0 key) ++ replicate rest at.Rest
 
--- columns that are written in the order of the first of these names; the others are read, and stand behind
+-- columns that are written in the order of the first of these names; the others are read, and stand after
 pub record WriteFirst (under : List (List ℕ)) (count : ℕ) (names : List (List ℕ)) (columns : Columns) : Type 0 where
   pub key : columns.key ≡ under
   pub rest : columns.rest ≡ filter (is_beside under) names

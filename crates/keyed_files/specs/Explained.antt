@@ -9,7 +9,7 @@ use Rattle.keyed_files.specs.declared.request.Lengths.{Lengths}
 use Rattle.keyed_files.specs.declared.request.Lengths.TheVariants as lengths
 use Rattle.keyed_files.specs.declared.source.Source.{Source}
 
--- a row has as many cells as it may have, where the first one has so many: as many, or where rows may be short none behind these that is
+-- a row has as many cells as it may have, where the first one has so many: as many, or where rows may be short none after these that is
 -- not empty
 abbrev pub FitsCount : Lengths → ℕ → List (List ℕ) → Type 0
 FitsCount lengths.Equal count fields = length fields ≡ count

@@ -7,6 +7,6 @@ use Rattle.keyed_files.specs.Rows.{placed}
 abbrev pub found_cells : JoinColumns → Option (List (List ℕ)) → List (List ℕ)
 found_cells columns found = unwrap_or found (map (λ name. []) columns.right.rest)
 
--- a row of the left table in the order of its columns, and behind it what was found
+-- a row of the left table in the order of its columns, and after it what was found
 abbrev pub found_row : JoinColumns → List (List ℕ) → List (List ℕ) → Option (List (List ℕ)) → List (List ℕ)
 found_row columns key rest found = placed columns.left.order.items key rest ++ found_cells columns found

@@ -4,12 +4,12 @@ use Rattle.std.specs.List.{flat_map}
 use Rattle.keyed_files.specs.declared.fate.Fate.{Fate}
 use Rattle.keyed_files.specs.declared.fate.Fate.TheVariants as fate
 
--- the name in a cell of the header of changes, if its column goes: it stands behind `-`
+-- the name in a cell of the header of changes, if its column goes: it stands after `-`
 abbrev pub going : List ℕ → List (List ℕ)
 going [] = []
 going (byte ∷ name) = if byte == 45 then name ∷ [] else []
 
--- the same behind so many cells: behind none, as in a table of rows, no column goes
+-- the same after so many cells: after none, as in a table of rows, no column goes
 abbrev pub going_behind : ℕ → List ℕ → List (List ℕ)
 going_behind before cell = if before == 0 then [] else going cell
 
@@ -23,7 +23,7 @@ name_if_goes fate.Goes name = name ∷ []
 name_if_goes fate.Comes name = []
 name_if_goes fate.Stays name = []
 
--- names with that of a column behind them, if it goes
+-- names with that of a column after them, if it goes
 abbrev pub with_going : Fate → List ℕ → List (List ℕ) → List (List ℕ)
 with_going fate.Goes name gone = gone ++ name ∷ []
 with_going fate.Comes name gone = gone

@@ -21,15 +21,15 @@ abbrev pub unmarked : List ℕ → List ℕ
 unmarked [] = []
 unmarked (byte ∷ name) = if is_mark byte then name else byte ∷ name
 
--- the name in a cell of a header behind so many cells: behind none, as in a table of rows, a name has no mark
+-- the name in a cell of a header after so many cells: after none, as in a table of rows, a name has no mark
 abbrev pub name_in : ℕ → List ℕ → List ℕ
 name_in before cell = if before == 0 then cell else unmarked cell
 
--- the names that a record has behind so many cells
+-- the names that a record has after so many cells
 abbrev pub names_behind : ℕ → List (List ℕ) → List (List ℕ)
 names_behind before fields = map (name_in before) (drop before fields)
 
--- the names of columns that a record says: its cells, or those of changes behind the first one without their marks
+-- the names of columns that a record says: its cells, or those of changes after the first one without their marks
 abbrev pub names_said : Content → List (List ℕ) → List (List ℕ)
 names_said content.Rows fields = fields
 names_said content.Changes fields = map unmarked (drop 1 fields)
@@ -52,7 +52,7 @@ HeaderOf has_header kind false fields names = names ≡ []
 HeaderOf true kind true fields names = NamesOf kind fields names
 HeaderOf false kind true fields names = names ≡ names_counted kind fields
 
--- the place of the cell of a name: that of the name in the header, behind the cells that stand before it
+-- the place of the cell of a name: that of the name in the header, after the cells that stand before it
 abbrev pub place_under : Content → List (List ℕ) → List ℕ → Option ℕ
 place_under kind names name = option_map (λ place. place + cells_before kind) (place_in names name)
 

@@ -39,7 +39,7 @@ joined_names kind.Anti names columns = []
 joined_names how names columns =
     ((first_cells (side_column how names) ++ columns.left.key) ++ left_names names columns) ++ right_names names columns
 
--- those of a look-up: the left ones in the order of their table, and the right ones behind them; of rows that are not found the left ones
+-- those of a look-up: the left ones in the order of their table, and the right ones after them; of rows that are not found the left ones
 abbrev pub found_names : LookupKind → JoinNames → JoinColumns → List (List ℕ)
 found_names found.Anti names columns = placed columns.left.order.items columns.left.key columns.left.rest
 found_names how names columns =

@@ -76,7 +76,7 @@ pub record HasNames (bytes : List ℕ) (names : TwoNames) : Type 0 where
   pub read : bytes ≡ read_of names ++ waiting names.waits
   pub begun : begins_well (option_map (λ name. name.items) names.other) ≡ true
 
--- whatever bytes were read, this one comes behind them
+-- whatever bytes were read, this one comes after them
 abbrev pub ReadsByte : TwoNames → TwoNames → ℕ → Type 0
 ReadsByte old new byte = (bytes : List ℕ) → HasNames bytes old → HasNames (bytes ++ (byte ∷ [])) new
 

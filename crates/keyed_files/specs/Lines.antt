@@ -13,7 +13,7 @@ use Rattle.keyed_files.specs.declared.request.Reading.{Reading}
 abbrev pub ahead_of : {R : Type 0} → Ahead R → List ℕ
 ahead_of file = slice_range file.bytes.bytes.items file.bytes.at file.bytes.filled
 
--- those, and what the reader has left behind them, where that is known
+-- those, and what the reader has left after them, where that is known
 abbrev pub left_of : {R : Type 0} → (R → Option (List ℕ)) → Ahead R → Option (List ℕ)
 left_of remaining file = if file.is_ended then Some (ahead_of file) else prepend_known (ahead_of file) (remaining file.inner)
 

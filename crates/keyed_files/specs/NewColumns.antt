@@ -6,7 +6,7 @@ use Rattle.keyed_files.specs.declared.columns.Columns.{Columns}
 use Rattle.keyed_files.specs.declared.columns.NewColumns.{NewColumns}
 use Rattle.keyed_files.specs.declared.key_record.NewNames.{NewNames}
 
--- a column of this name stands behind the others
+-- a column of this name stands after the others
 pub record PutsColumn (old new : Columns) (name : List ℕ) : Type 0 where
   pub key : new.key ≡ old.key
   pub rest : new.rest ≡ old.rest ++ filter (is_beside old.key) (name ∷ [])
@@ -17,7 +17,7 @@ pub record HasSeen (key names : List (List ℕ)) (new : NewColumns) : Type 0 whe
   pub seen : names_in new.seen ≡ distinct names
   pub columns : HaveNames key (distinct names) new.columns
 
--- whatever names were put, these are put behind them
+-- whatever names were put, these are put after them
 abbrev pub SeesNames : NewColumns → NewColumns → List (List ℕ) → Type 0
 SeesNames old new more = (key names : List (List ℕ)) → HasSeen key names old → HasSeen key (names ++ more) new
 

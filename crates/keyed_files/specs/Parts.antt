@@ -72,7 +72,7 @@ module _ {R : Type 0} (remaining : R → Option (List ℕ)) where
     pub read : AreRead parts.is_ended d c text (given ++ records) parts.source.value
     pub rows : map parts_of (taken ++ parts.waiting.items) ≡ map (picked parts.places) records
 
-  -- rows are read, whatever rows were taken before: they wait behind those that waited, and keys that were strictly increasing are so
+  -- rows are read, whatever rows were taken before: they wait after those that waited, and keys that were strictly increasing are so
   pub record Fills (old new : Parts R) : Type 0 where
     pub more : List ReadRow
     pub waiting : new.waiting.items ≡ old.waiting.items ++ more

@@ -109,19 +109,19 @@ pub record IsOpen {R : Type 0} (form : Form) (kind : Content) (remaining : R →
   pub header : IsHeader form kind text names form.has_header first
   pub given : HasGiven (delimiter_of form) (comment_of form) remaining text first source
 
--- rows that stand behind others are those of records at the places of columns
+-- rows that stand after others are those of records at the places of columns
 pub record ReadBehind (places : Places) (old new : List ReadRow) (records : List (List (List ℕ))) : Type 0 where
   pub more : List ReadRow
   pub rows : new ≡ old ++ more
   pub parts : map parts_of more ≡ map (picked places) records
 
--- rows were read of a source: of each text of which it had given some records, it gave more, and these rows stand behind others
+-- rows were read of a source: of each text of which it had given some records, it gave more, and these rows stand after others
 abbrev pub ReadsOn : {R : Type 0} → (R → Option (List ℕ)) → Places → Source R → Source R → List ReadRow → List ReadRow → Type 0
 ReadsOn remaining places source now old new = (d : ℕ) (c : Option ℕ) (text : List ℕ) (given : List (List (List ℕ)))
     → HasGiven d c remaining text given source
     → (records : List (List (List ℕ))) × HasGiven d c remaining text (given ++ records) now × ReadBehind places old new records
 
--- a source is read to the end: behind the records that it had given, these come, and no more
+-- a source is read to the end: after the records that it had given, these come, and no more
 abbrev pub ReadsRest : {R : Type 0} → (R → Option (List ℕ)) → Places → Source R → List ReadRow → List ReadRow → Type 0
 ReadsRest remaining places source old new = (d : ℕ) (c : Option ℕ) (text : List ℕ) (given : List (List (List ℕ)))
     → HasGiven d c remaining text given source
@@ -135,18 +135,18 @@ cell_under kind names fields name = cell_at fields (place_under kind names name)
 abbrev pub row_under : Content → List (List ℕ) → Columns → List (List ℕ) → List (List ℕ) × List (List ℕ)
 row_under kind names columns fields = (map (cell_under kind names fields) columns.key, map (cell_under kind names fields) columns.rest)
 
--- the records behind the header, if there is one
+-- the records after the header, if there is one
 abbrev pub behind_header : Bool → List (List (List ℕ)) → List (List (List ℕ))
 behind_header true records = drop 1 records
 behind_header false records = records
 
--- what a text says as a table: the names of its columns in its header, or numbers where it has none, and a row for each record behind the
+-- what a text says as a table: the names of its columns in its header, or numbers where it has none, and a row for each record after the
 -- header, of its cells under the names by which they are read
 abbrev pub IsTable : Form → Content → List ℕ → List (List ℕ) → List (List ℕ) → Columns → List ReadRow → Type 0
 IsTable form kind text header names columns rows = (records : List (List (List ℕ))) × AreRows (delimiter_of form) (comment_of form) text records
     × HeadedBy form.has_header kind records header × (map parts_of rows ≡ map (row_under kind names columns) (behind_header form.has_header records))
 
--- behind rows that were there come those of the table that a text says
+-- after rows that were there come those of the table that a text says
 abbrev pub ReadsRows : {R : Type 0} → (R → Option (List ℕ)) → Columns → Source R → List ReadRow → List ReadRow → Type 0
 ReadsRows remaining columns source old new = (form : Form) (kind : Content) (text : List ℕ) (header : List (List ℕ))
     → IsOpen form kind remaining text header source

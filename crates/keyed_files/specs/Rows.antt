@@ -14,7 +14,7 @@ abbrev pub cell_placed : Place → List (List ℕ) → List (List ℕ) → List 
 cell_placed (at.Key place) key rest = unwrap_or (slice_get key place) []
 cell_placed at.Rest key rest = unwrap_or (slice_get rest 0) []
 
--- the other cells that are left behind a column
+-- the other cells that are left after a column
 abbrev pub rest_behind : Place → List (List ℕ) → List (List ℕ)
 rest_behind (at.Key place) rest = rest
 rest_behind at.Rest rest = drop 1 rest
@@ -38,7 +38,7 @@ shown_sign sign.Plus = 43 ∷ []
 abbrev pub change_name : List ℕ
 change_name = 99 ∷ 104 ∷ 97 ∷ 110 ∷ 103 ∷ 101 ∷ []
 
--- the rows under a key, each behind a first cell if there is one
+-- the rows under a key, each after a first cell if there is one
 abbrev pub rows_under : Option (List ℕ) → List Place → List (List ℕ) → List (List (List ℕ)) → List (List (List ℕ))
 rows_under first order key rows = map (λ rest. first_cells first ++ placed order key rest) rows
 
@@ -46,11 +46,11 @@ rows_under first order key rows = map (λ rest. first_cells first ++ placed orde
 abbrev pub table_rows : List Place → List (List (List ℕ) × List (List (List ℕ))) → List (List (List ℕ))
 table_rows order rows = flat_map (λ group. rows_under None order group.0 group.1) rows
 
--- the names of columns in their order, behind a first cell if there is one
+-- the names of columns in their order, after a first cell if there is one
 abbrev pub names_row : Option (List ℕ) → Columns → List (List ℕ)
 names_row first columns = first_cells first ++ placed columns.order.items columns.key columns.rest
 
--- whether a table has a heading, behind a first cell if there is one: not where answers have none, and not where it would have no cell
+-- whether a table has a heading, after a first cell if there is one: not where answers have none, and not where it would have no cell
 abbrev pub has_heading : Form → Option (List ℕ) → Columns → Bool
 has_heading form first columns = writes_heading form && (is_some first || not (length columns.order.items == 0))
 

@@ -1,4 +1,4 @@
--- What stands behind calls that write rows, and the text that is made of them.
+-- What stands after calls that write rows, and the text that is made of them.
 use Rattle.std.specs.Prelude.{◌≡◌, ◌==◌, ◌||◌, ℕ, List, [], ◌∷◌, ◌++◌, Bool, Option, Some, None, drop, take, length, option_map, if◌then◌else◌, unwrap_or, Vec}
 use Rattle.std.specs.List.{position}
 use Rattle.keyed_text.specs.Streams as stream
@@ -28,7 +28,7 @@ abbrev pub Wrote : Form → List (List (List ℕ)) → Written → Type 0
 Wrote form rows written = stream.HasWritten (writer_of form) bytes_in (Some []) rows [] written.rows
 
 module _ (old new : Written) where
-  -- whatever was written, these cells are put behind it
+  -- whatever was written, these cells are put after it
   abbrev pub PutsCells : List (List ℕ) → Type 0
   PutsCells cells = stream.PutsCells bytes_in old.rows new.rows cells
 
@@ -36,7 +36,7 @@ module _ (old new : Written) where
   abbrev pub EndsRow : Type 0
   EndsRow = stream.EndsRow bytes_in old.rows new.rows
 
-  -- whatever rows were written, these come behind them
+  -- whatever rows were written, these come after them
   abbrev pub PutsRows : List (List (List ℕ)) → Type 0
   PutsRows rows = stream.PutsRows bytes_in old.rows new.rows rows
 

@@ -81,7 +81,7 @@ impl<R: Read> Ahead<R> {
         Ok(())
     }
 
-    /// Reads if all bytes that were read are taken. Where there is none behind that, the reader has no more.
+    /// Reads if all bytes that were read are taken. Where there is none after that, the reader has no more.
     ///
     /// # Errors
     ///
@@ -97,7 +97,7 @@ impl<R: Read> Ahead<R> {
         Ok(())
     }
 
-    // Reads behind the bytes that are read ahead, if there is room and the reader may have more.
+    // Reads after the bytes that are read ahead, if there is room and the reader may have more.
     fn read_more(&mut self) -> io::Result<()>
         ensures kept { Keeps (left_of R.remaining self.old) (left_of R.remaining self.new) }
         ensures end { OnOk result (self.old.bytes.filled ≡ 0 → ahead_of self.new ≡ []

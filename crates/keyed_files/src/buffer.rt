@@ -61,7 +61,7 @@ impl Buffer {
         self.filled <= self.at
     }
 
-    /// Whether there is room behind the bytes.
+    /// Whether there is room after the bytes.
     pub fn has_room(&self) -> bool
         ensures { IsTrue result ↔ self.now.filled < vec_len self.now.bytes }
     {
@@ -86,7 +86,7 @@ impl Buffer {
         self.filled = 0;
     }
 
-    /// Reads behind the bytes, and returns how many were read.
+    /// Reads after the bytes, and returns how many were read.
     ///
     /// # Errors
     ///

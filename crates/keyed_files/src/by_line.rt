@@ -195,7 +195,7 @@ impl Lines {
         }
     }
 
-    // How many bytes a read gets behind the last one: the end of a line that is passed over, if that has none.
+    // How many bytes a read gets after the last one: the end of a line that is passed over, if that has none.
     fn end(&mut self, buf: &mut [u8]) -> usize
         ensures bound { result ≤ length buf.new }
         ensures none { self.old.comment ≡ None → result ≡ 0 }

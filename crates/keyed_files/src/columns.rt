@@ -28,7 +28,7 @@ pub struct Columns {
 pub enum Place {
     /// In the key, at this place.
     Key(usize),
-    /// Among the other cells, behind that of the last such column.
+    /// Among the other cells, after that of the last such column.
     Rest,
 }
 
@@ -48,7 +48,7 @@ impl Columns {
         Ok(new.columns)
     }
 
-    // Puts a column behind the others: its name goes behind the others too, unless it is one of the key.
+    // Puts a column after the others: its name goes after the others too, unless it is one of the key.
     fn put(&mut self, name: &[u8]) -> Result<(), AllocError>
         ensures { OnOk result (PutsColumn self.old self.new name.now) }
     {
@@ -122,7 +122,7 @@ pub(crate) fn or_header<'a>(header: &'a Cells, other: &'a Cells) -> &'a Cells
     if header.is_empty() { other } else { header }
 }
 
-// The place of the next column, whose name goes behind the others unless it is one of the key.
+// The place of the next column, whose name goes after the others unless it is one of the key.
 fn put_name(key: &Cells, rest: &mut Cells, name: &[u8]) -> Result<Place, AllocError>
     ensures place { IfOk result (λ place. place ≡ place_under_key key.now name.now) }
     ensures rest { OnOk result (rest.new ≡ rest.old ++ filter (is_beside key.now) (name.now ∷ [])) }
@@ -231,7 +231,7 @@ pub(crate) fn kept_names(
     Ok(kept)
 }
 
-// Puts those of a header that are among these names, or those that are not, behind others.
+// Puts those of a header that are among these names, or those that are not, after others.
 pub(crate) fn put_kept_names(
     kept: &mut Cells,
     names: &Names,
@@ -249,7 +249,7 @@ pub(crate) fn put_kept_names(
     Ok(())
 }
 
-// The places of so many columns of a key, and of so many others behind them.
+// The places of so many columns of a key, and of so many others after them.
 fn key_first(alloc: Global, key: usize, rest: usize) -> Result<Vec<Place>, AllocError>
     ensures { IfOk result (λ order. order.items ≡ key_first key rest) }
 {

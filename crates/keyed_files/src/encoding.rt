@@ -72,7 +72,7 @@ impl Encoding {
         }
     }
 
-    /// What stands behind the name of the file in this command.
+    /// What stands after the name of the file in this command.
     pub fn rest_of_remedy(self) -> &'static str {
         match self {
             Encoding::Gzip | Encoding::Zstd | Encoding::Utf16 | Encoding::Json => "",

@@ -46,9 +46,9 @@ impl Header {
         }
     }
 
-    /// The names in the row on a line, behind the cells that stand before them: where there are such, it is the header of changes, and the
+    /// The names in the row on a line, after the cells that stand before them: where there are such, it is the header of changes, and the
     /// marks before the names are taken off. Of those that are the same the first is as it stands,
-    /// and the others have a number behind a point: the second `NAME.2`, or the next number with which no column is named.
+    /// and the others have a number after a point: the second `NAME.2`, or the next number with which no column is named.
     ///
     /// # Errors
     ///
@@ -232,7 +232,7 @@ impl Told {
     }
 }
 
-// The names that a record has behind the cells that stand before them.
+// The names that a record has after the cells that stand before them.
 fn names_there(alloc: Global, record: &ByteRecord, before: usize) -> Result<Names, AllocError> {
     let mut there = Names::new(alloc);
     for cell in record.iter().skip(before) {
@@ -241,7 +241,7 @@ fn names_there(alloc: Global, record: &ByteRecord, before: usize) -> Result<Name
     Ok(there)
 }
 
-// The cell of a row at a place, or an empty one behind the last.
+// The cell of a row at a place, or an empty one after the last.
 pub(crate) fn cell_of(row: &ByteRecord, place: usize) -> &[u8]
     ensures { result.now ≡ unwrap_or (field_at (fields_of row.now) place) [] }
 {
@@ -276,7 +276,7 @@ fn renamed_of(alloc: Global, key: &KeyNames) -> Result<Cells, AllocError> {
     Ok(names)
 }
 
-// The fate of a column and its name, behind as many cells: behind none, as in a table of rows, a name has no mark.
+// The fate of a column and its name, after as many cells: after none, as in a table of rows, a name has no mark.
 fn fate_of(before: usize, cell: &[u8]) -> (Fate, &[u8])
     ensures name { result.1.now ≡ name_in before cell.now }
     ensures goes { name_if_goes result.0 result.1.now ≡ going_behind before cell.now }
@@ -288,7 +288,7 @@ fn fate_of(before: usize, cell: &[u8]) -> (Fate, &[u8])
     }
 }
 
-// A name with a number behind it.
+// A name with a number after it.
 fn numbered(alloc: Global, name: &[u8], number: usize) -> Result<Vec<u8>, AllocError> {
     let mut told = Vec::from_slice(alloc, name)?;
     let number = format!(in alloc; ".{number}")?;

@@ -40,7 +40,7 @@ pub fn join_header(alloc: Global, how: Joining<'_>, columns: &JoinColumns) -> Re
     Ok(header)
 }
 
-// The names of the columns of both tables, behind that of the first column, if there is one.
+// The names of the columns of both tables, after that of the first column, if there is one.
 fn names_of_both(
     alloc: Global,
     side: Option<&[u8]>,
@@ -71,7 +71,7 @@ fn names_of_both(
     Ok(header)
 }
 
-/// The names of the columns of a look-up: those of the left table in their order, and behind them those of the right one without its key. A
+/// The names of the columns of a look-up: those of the left table in their order, and after them those of the right one without its key. A
 /// name that both have is told apart by what stands before it, but not that of a column of the left key. Of rows that are not found there
 /// are the left names alone.
 ///
@@ -144,7 +144,7 @@ fn names_of_left(alloc: Global, left: &Columns) -> Result<Names, AllocError>
     Ok(names)
 }
 
-// Puts names behind others, each with a word before it if it is one of those of the other table.
+// Puts names after others, each with a word before it if it is one of those of the other table.
 fn put_told(
     alloc: Global,
     header: &mut Cells,

@@ -205,7 +205,7 @@ impl TwoNames {
         }
     }
 
-    // Puts a byte behind the name that is read.
+    // Puts a byte after the name that is read.
     fn put(&mut self, byte: u8) -> Result<(), AllocError>
         ensures waits { self.new.waits ≡ false }
         ensures read { OnOk result (read_of self.new ≡ read_of self.old ++ doubled (byte ∷ [])) }

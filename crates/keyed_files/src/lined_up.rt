@@ -44,7 +44,7 @@ fn show_cell(alloc: Global, cell: &[u8]) -> Result<String, AllocError> {
     format!(in alloc; "{}", ShownCell(cell))
 }
 
-/// Puts cells behind those of a line.
+/// Puts cells after those of a line.
 ///
 /// # Errors
 ///
@@ -60,7 +60,7 @@ fn put_cells_of(alloc: Global, line: &mut Line, cells: Iter<'_>) -> Result<(), A
     Ok(())
 }
 
-/// The names of the columns, behind an empty cell.
+/// The names of the columns, after an empty cell.
 ///
 /// # Errors
 ///
@@ -93,7 +93,7 @@ fn line_of_word(alloc: Global, word: &str) -> Result<Line, AllocError> {
     })
 }
 
-/// Puts the cells of both versions of a row behind those of a line, each pair as one cell. Where numbers are compared by value, two that are
+/// Puts the cells of both versions of a row after those of a line, each pair as one cell. Where numbers are compared by value, two that are
 /// as near as may be count as the same, and the new one is put.
 ///
 /// # Errors
@@ -197,7 +197,7 @@ fn put_line(text: &mut String, line: &Line, widths: &[usize]) -> Result<(), Allo
     Ok(())
 }
 
-// Puts the cells of a line. The gap before a cell is put with it, so that none stands behind the last one.
+// Puts the cells of a line. The gap before a cell is put with it, so that none stands after the last one.
 fn put_cells(text: &mut String, cells: &[String], widths: &[usize]) -> Result<(), AllocError> {
     let mut gap: usize = 0;
     for (cell, widest) in cells.iter().zip(widths.iter()) {

@@ -50,7 +50,7 @@ impl Lookup<'_> {
 }
 
 impl Written {
-    /// Puts a row of the left table, and behind it the cells that were found, or as many empty ones.
+    /// Puts a row of the left table, and after it the cells that were found, or as many empty ones.
     ///
     /// # Errors
     ///

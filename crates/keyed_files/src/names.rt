@@ -38,7 +38,7 @@ impl Names {
         Ok(names)
     }
 
-    /// Puts names behind the others, each unless it is one of them.
+    /// Puts names after the others, each unless it is one of them.
     ///
     /// # Errors
     ///
@@ -53,7 +53,7 @@ impl Names {
         Ok(())
     }
 
-    /// Puts a name behind the others unless it is one of them, and returns whether it is new.
+    /// Puts a name after the others unless it is one of them, and returns whether it is new.
     ///
     /// # Errors
     ///

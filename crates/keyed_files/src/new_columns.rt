@@ -15,7 +15,7 @@ use crate::names::Names;
 use keyed_rows::{Cells, Group};
 use std::alloc::{AllocError, Global};
 
-// Columns of which these are written, in this order. Those of the other headers are read, and stand behind.
+// Columns of which these are written, in this order. Those of the other headers are read, and stand after.
 fn written_columns(
     alloc: Global,
     key: Cells,
@@ -169,7 +169,7 @@ fn merged_names(
     Ok(names)
 }
 
-// Puts those of a header behind other names that the other version did not drop.
+// Puts those of a header after other names that the other version did not drop.
 fn put_kept(
     names: &mut Cells,
     header: &Cells,
@@ -187,7 +187,7 @@ fn put_kept(
     Ok(())
 }
 
-// Puts those of a header behind other names that are new, and not in the other version.
+// Puts those of a header after other names that are new, and not in the other version.
 fn put_added(
     names: &mut Cells,
     header: &Cells,
@@ -206,7 +206,7 @@ fn put_added(
 }
 
 impl Columns {
-    /// How many of the cells behind a key are written. Those behind them are of columns that go.
+    /// How many of the cells after a key are written. Those after them are of columns that go.
     pub fn count_written(&self) -> usize
         ensures { result ≡ count_written self.now }
     {
@@ -232,7 +232,7 @@ fn is_rest(place: &Place) -> bool
     }
 }
 
-// Whether a row has a cell that is not empty behind so many.
+// Whether a row has a cell that is not empty after so many.
 fn is_filled_behind(row: &Cells, written: usize) -> bool
     ensures { result ≡ list_any is_filled (drop written row.now) }
 {

@@ -99,7 +99,7 @@ impl<'a, R: Read + Drop> Parts<'a, R> {
         }
     }
 
-    // Puts a row behind those that wait.
+    // Puts a row after those that wait.
     fn put(&mut self, row: ReadRow) -> Result<(), Reason>
         ensures rises { OnOk result (rises_behind self.old.last row.key ≡ true) }
         ensures last { OnOk result (self.new.last ≡ Some row.key) }

@@ -76,7 +76,7 @@ impl Comment {
 /// What is expected of the quotes of a table.
 #[derive(Clone, Copy, Debug)]
 pub enum Quotes {
-    /// Each quote that opens a cell is closed, and the cell ends right behind the closing one.
+    /// Each quote that opens a cell is closed, and the cell ends right after the closing one.
     Strict,
     /// Nothing: a quote that opens a cell and closes it on the same line quotes it, and each other one is a byte like any other.
     Lenient,

@@ -9,7 +9,7 @@ use keyed_text::Style;
 #[derive(Clone, Copy, Debug)]
 pub enum Heading {
     Written,
-    /// They do not, so that the answer can stand behind another one.
+    /// They do not, so that the answer can stand after another one.
     Omitted,
 }
 
@@ -25,7 +25,8 @@ impl Heading {
 }
 
 /// How an answer is written beside what it has in common with the tables that are read: whether the names of the columns stand before its
-/// rows, and the style of its text.
+/// rows, and the style of its text. `write_table` writes each part of the style; what is written row by row, as joins and changes are, has
+/// its quotes and line ends alone.
 #[derive(Clone, Copy, Debug)]
 pub struct Writing {
     pub heading: Heading,
@@ -33,7 +34,7 @@ pub struct Writing {
 }
 
 impl Writing {
-    /// The names of the columns first, quotes where they are needed, and LF behind each row.
+    /// The names of the columns first, quotes where they are needed, and LF after each row.
     pub const PLAIN: Writing = Writing {
         heading: Heading::Written,
         style: Style::PLAIN,

@@ -109,7 +109,7 @@ impl Written {
         Ok(())
     }
 
-    // Puts the cells of a whole row, behind a first cell if there is one, in the order of the columns, and ends it.
+    // Puts the cells of a whole row, after a first cell if there is one, in the order of the columns, and ends it.
     fn put_row(
         &mut self,
         first: Option<&[u8]>,
@@ -127,7 +127,7 @@ impl Written {
         Ok(())
     }
 
-    // Puts the names of columns, behind a first cell if there is one, and ends the row.
+    // Puts the names of columns, after a first cell if there is one, and ends the row.
     fn put_heading(&mut self, first: Option<&[u8]>, columns: &Columns) -> Result<(), Reason>
         ensures { OnOk result (PutsRows self.old self.new
             (names_row (option_map (λ cell. cell.now) first.entry) columns.now ∷ [])) }
@@ -137,7 +137,7 @@ impl Written {
         Ok(())
     }
 
-    /// Puts the rows under a key, each behind a sign if there is one.
+    /// Puts the rows under a key, each after a sign if there is one.
     ///
     /// # Errors
     ///
@@ -171,7 +171,7 @@ fn cell_of(sign: Option<Sign>) -> Option<&'static [u8]>
     }
 }
 
-/// A table in the making with its header, if it has one, behind a first cell if there is one.
+/// A table in the making with its header, if it has one, after a first cell if there is one.
 ///
 /// # Errors
 ///

@@ -188,7 +188,7 @@ fn counts_of<'a>(
     Ok(counts)
 }
 
-// Puts a change before those that come behind it, of which as many stay as are told.
+// Puts a change before those that come after it, of which as many stay as are told.
 fn put_in_place<'a>(
     first: &mut Vec<CountedChange<'a>>,
     counted: CountedChange<'a>,

@@ -57,7 +57,7 @@ pub fn begin_page(alloc: Global) -> Result<Vec<u8>, AllocError> {
     Vec::from_slice(alloc, HEAD)
 }
 
-/// Puts what stands behind the text of a page.
+/// Puts what stands after the text of a page.
 ///
 /// # Errors
 ///
@@ -150,7 +150,7 @@ pub fn put_elements(
     Ok(())
 }
 
-// Puts an empty cell for each column behind the key.
+// Puts an empty cell for each column after the key.
 fn put_none(text: &mut Vec<u8>, report: &Report<'_>) -> Result<(), AllocError> {
     for _ in &report.columns.rest {
         text.extend_from_slice(b"<td></td>")?;

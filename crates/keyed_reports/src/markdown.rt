@@ -37,7 +37,7 @@ pub fn markdown(alloc: Global, report: &Report<'_>) -> Result<Vec<u8>, AllocErro
     Ok(text)
 }
 
-/// Puts each line of a text as an item of a list, and an empty line behind them, if there are any.
+/// Puts each line of a text as an item of a list, and an empty line after them, if there are any.
 ///
 /// # Errors
 ///
@@ -54,7 +54,7 @@ pub fn put_lines(text: &mut Vec<u8>, said: &str) -> Result<(), AllocError> {
     Ok(())
 }
 
-/// Puts the names of the columns behind an empty cell, and the line below them.
+/// Puts the names of the columns after an empty cell, and the line below them.
 ///
 /// # Errors
 ///

@@ -63,7 +63,7 @@ fn shown_words<R: Env + AllocGlobal>(rt: &R) -> Result<Option<ShownWords>, Alloc
 }
 
 impl ShownWords {
-    // Puts the word at this place behind the others.
+    // Puts the word at this place after the others.
     fn put(&mut self, alloc: Global, place: usize, word: &[u8]) -> Result<(), AllocError> {
         match std::str::from_utf8(word) {
             Ok(text) => self.words.push(String::from_str(alloc, text)?)?,
@@ -75,7 +75,7 @@ impl ShownWords {
         Ok(())
     }
 
-    /// What is said of the first word that is not UTF-8: its place behind the name of the program, and its bytes, escaped.
+    /// What is said of the first word that is not UTF-8: its place after the name of the program, and its bytes, escaped.
     ///
     /// # Errors
     ///

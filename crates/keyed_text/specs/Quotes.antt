@@ -11,23 +11,23 @@ use Rattle.keyed_text.specs.declared.quotes.Place.TheVariants as at
 abbrev pub ends_line : ℕ → Bool
 ends_line b = (b == 13) || (b == 10)
 
--- the place behind a byte of a cell that is not quoted
+-- the place after a byte of a cell that is not quoted
 abbrev pub plain_place : Marks → ℕ → Place
 plain_place m b = if b == m.delimiter then at.Cell else if ends_line b then at.Row else at.Bare
 
--- behind the first byte of a cell
+-- after the first byte of a cell
 abbrev pub cell_place : Marks → ℕ → Place
 cell_place m b = if b == 34 then at.Quoted else plain_place m b
 
--- behind the first byte of a row
+-- after the first byte of a row
 abbrev pub row_place : Marks → ℕ → Place
 row_place m b = if is_byte m.comment b then at.Comment else cell_place m b
 
--- behind a byte that follows a quote between quotes: none where the cell goes on
+-- after a byte that follows a quote between quotes: none where the cell goes on
 abbrev pub closed_place : Marks → ℕ → Option Place
 closed_place m b = if b == 34 then Some at.Quoted else if b == m.delimiter then Some at.Cell else if ends_line b then Some at.Row else None
 
--- the place behind one more byte
+-- the place after one more byte
 abbrev pub place_after : Marks → Place → ℕ → Option Place
 place_after m at.Top b = Some (if b == 239 then at.FirstOfMark else row_place m b)
 place_after m at.FirstOfMark b = Some (if b == 187 then at.SecondOfMark else plain_place m b)
@@ -39,7 +39,7 @@ place_after m at.Quoted b = Some (if b == 34 then at.Closed else at.Quoted)
 place_after m at.Closed b = closed_place m b
 place_after m at.Comment b = Some (if b == 10 then at.Row else at.Comment)
 
--- the place behind more bytes, and what follows of it
+-- the place after more bytes, and what follows of it
 abbrev pub then_place : Option Place → (Place → Option Place) → Option Place
 then_place None more = None
 then_place (Some p) more = more p

@@ -32,7 +32,7 @@ abbrev pub counted : List (List ℕ) → ℕ
 counted cells = min (length cells) (2 ^ 64 - 1)
 
 -- a writer over bytes that were there writes as this one says, which quotes no cell for what it says as a number; it has written these rows
--- behind them, and then these cells of a row that is not ended
+-- after them, and then these cells of a row that is not ended
 pub record HasWritten {W : Type 0} (by : WriterBuilder) (contents : W → Option (List ℕ)) (there : Option (List ℕ)) (rows : List (List (List ℕ))) (cells : List (List ℕ)) (writer : RowWriter W) : Type 0 where
   pub setup : writer_setup writer.writer ≡ by
   pub quotes : by.style ≢ style.NonNumeric
@@ -40,8 +40,12 @@ pub record HasWritten {W : Type 0} (by : WriterBuilder) (contents : W → Option
   pub blank : is_blank by cells ≡ (not (has_written writer.writer) && ((length cells == 0) || (length cells == 1)))
   pub bytes : Appends there (text_written contents writer.writer) (text_by by rows ++ row_body by cells)
 
+-- the same where it has written no row
+abbrev pub HasNoRow : {W : Type 0} → WriterBuilder → (W → Option (List ℕ)) → Option (List ℕ) → RowWriter W → Type 0
+HasNoRow by contents there writer = HasWritten by contents there [] [] writer
+
 module _ {W : Type 0} (contents : W → Option (List ℕ)) (old new : RowWriter W) where
-  -- whatever was written, these cells are put behind it
+  -- whatever was written, these cells are put after it
   abbrev pub PutsCells : List (List ℕ) → Type 0
   PutsCells more = (by : WriterBuilder) (there : Option (List ℕ)) (rows : List (List (List ℕ))) (cells : List (List ℕ))
       → HasWritten by contents there rows cells old → HasWritten by contents there rows (cells ++ more) new
@@ -51,7 +55,7 @@ module _ {W : Type 0} (contents : W → Option (List ℕ)) (old new : RowWriter 
   EndsRow = (by : WriterBuilder) (there : Option (List ℕ)) (rows : List (List (List ℕ))) (cells : List (List ℕ))
       → HasWritten by contents there rows cells old → HasWritten by contents there (rows ++ (cells ∷ [])) [] new
 
-  -- whatever rows were written, these come behind them
+  -- whatever rows were written, these come after them
   abbrev pub PutsRows : List (List (List ℕ)) → Type 0
   PutsRows more = (by : WriterBuilder) (there : Option (List ℕ)) (rows : List (List (List ℕ)))
       → HasWritten by contents there rows [] old → HasWritten by contents there (rows ++ more) [] new

@@ -24,7 +24,7 @@ config_by d c = record default_config { delimiter = d; comment = c }
 abbrev pub writer_by : ℕ → Option ℕ → WriterBuilder
 writer_by d c = record default_writer { delimiter = d; comment = c }
 
--- the same in a style: with quotes where they are needed or everywhere, and with LF or CR LF behind each row
+-- the same in a style: with quotes where they are needed or everywhere, and with LF or CR LF after each row
 abbrev pub quote_style : CellQuotes → QuoteStyle
 quote_style WhereNeeded = style.Necessary
 quote_style Everywhere = style.Always
@@ -62,7 +62,7 @@ text_by w (row ∷ rows) = row_text w row ++ text_by w rows
 abbrev pub open_row : WriterBuilder → List (List ℕ) → List ℕ
 open_row w row = row_body w row ++ (if is_blank w row then w.quote ∷ w.quote ∷ [] else [])
 
--- the text of rows with quotes where they are needed, and LF behind each row
+-- the text of rows with quotes where they are needed, and LF after each row
 abbrev pub rows_text : ℕ → Option ℕ → List (List (List ℕ)) → List ℕ
 rows_text d c rows = text_by (writer_by d c) rows
 

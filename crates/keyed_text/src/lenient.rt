@@ -13,8 +13,8 @@ const MARK: &[u8] = b"\xef\xbb\xbf";
 
 /// A reader that passes on what another one gives, line by line, with the quotes of each line in order.
 ///
-/// A quote at the beginning of a cell quotes it where another one ends it on the same line: behind that one the cell ends. Each other quote
-/// is a byte like any other, so that a stray one spoils no row behind it. A cell that begins with such a quote is passed on in quotes, with
+/// A quote at the beginning of a cell quotes it where another one ends it on the same line: after that one the cell ends. Each other quote
+/// is a byte like any other, so that a stray one spoils no row after it. A cell that begins with such a quote is passed on in quotes, with
 /// each of its own quotes twice, and all other bytes are passed on as they are.
 #[derive(Drop)]
 pub struct Lenient<R> {
@@ -117,7 +117,7 @@ fn length_of_start(has_begun: bool, line: &[u8]) -> usize {
     }
 }
 
-// Puts a line whose cells begin behind so many bytes.
+// Puts a line whose cells begin after so many bytes.
 fn put_line(
     text: &mut Vec<u8>,
     line: &[u8],

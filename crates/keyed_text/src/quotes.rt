@@ -1,4 +1,4 @@
-//! A reader that passes a text on while its quotes are in order: each quote that opens a cell is closed, and the cell ends right behind
+//! A reader that passes a text on while its quotes are in order: each quote that opens a cell is closed, and the cell ends right after
 //! the closing one. The kit's reader of CSV takes any text, so that a quote which is never closed would swallow the rest of a file.
 ghost use Rattle.std.specs.Prelude.{◌≡◌, ◌↔◌, IsTrue};
 ghost use Rattle.keyed_text.specs.Quotes.{cell_place, closed_place, ends_line, place_after, place_behind};
@@ -15,14 +15,14 @@ pub struct Marks {
     pub comment: Option<u8>,
 }
 
-/// Where a text stands behind some of its bytes, as far as quotes go.
+/// Where a text stands after some of its bytes, as far as quotes go.
 #[derive(Clone, Copy, Debug, PartialEq, Eq)]
 pub enum Place {
     /// At its beginning, where a byte order mark may stand.
     Top,
-    /// Behind the first byte of what may be a byte order mark.
+    /// After the first byte of what may be a byte order mark.
     FirstOfMark,
-    /// Behind the second one.
+    /// After the second one.
     SecondOfMark,
     /// At the beginning of a row.
     Row,
@@ -32,14 +32,14 @@ pub enum Place {
     Bare,
     /// Between quotes.
     Quoted,
-    /// Behind a quote between quotes: the closing one, or the first of two that stand for one.
+    /// After a quote between quotes: the closing one, or the first of two that stand for one.
     Closed,
     /// In a line that is passed over.
     Comment,
 }
 
 impl Marks {
-    /// Returns the place behind one more byte, or `None` where the byte stands between a closing quote and the end of its cell.
+    /// Returns the place after one more byte, or `None` where the byte stands between a closing quote and the end of its cell.
     pub fn after(self, place: Place, byte: u8) -> Option<Place>
         ensures { result ≡ place_after self place byte }
     {
@@ -76,7 +76,7 @@ impl Marks {
         }
     }
 
-    /// Returns the place behind more bytes, or `None` where one of them stands between a closing quote and the end of its cell.
+    /// Returns the place after more bytes, or `None` where one of them stands between a closing quote and the end of its cell.
     ///
     /// Quotes are looked for, so that bytes with no quote among them take next to no time. Where a byte begins lines that are passed over,
     /// each byte is followed.
@@ -95,7 +95,7 @@ impl Marks {
         self.behind_run(place, rest)
     }
 
-    // The place behind bytes with no quote among them, and behind the quote that follows them.
+    // The place after bytes with no quote among them, and after the quote that follows them.
     fn behind_quote(self, place: Place, run: &[u8]) -> Option<Place>
         requires { IsQuoteFree run.now }
         ensures { result ≡ then_place (place_behind self place run.now) (λ place. place_after self place 34) }
@@ -104,7 +104,7 @@ impl Marks {
         self.after(place, b'"')
     }
 
-    // The place behind bytes with no quote among them.
+    // The place after bytes with no quote among them.
     fn behind_run(self, place: Place, run: &[u8]) -> Option<Place>
         requires { IsQuoteFree run.now }
         ensures { result ≡ place_behind self place run.now }
@@ -116,7 +116,7 @@ impl Marks {
         }
     }
 
-    // The place behind bytes with no quote among them, the first of which follows a closing quote.
+    // The place after bytes with no quote among them, the first of which follows a closing quote.
     fn behind_closed(self, run: &[u8]) -> Option<Place>
         requires { IsQuoteFree run.now }
         ensures { result ≡ place_behind self Closed run.now }
@@ -130,7 +130,7 @@ impl Marks {
         }
     }
 
-    // The place behind bytes with no quote among them: at once from outside of quotes, and else one by one.
+    // The place after bytes with no quote among them: at once from outside of quotes, and else one by one.
     fn behind_other(self, place: Place, run: &[u8]) -> Option<Place>
         requires { IsQuoteFree run.now }
         ensures { result ≡ place_behind self place run.now }
@@ -152,7 +152,7 @@ impl Marks {
         }
     }
 
-    // The place behind bytes with no quote among them.
+    // The place after bytes with no quote among them.
     fn behind_plain(self, place: Place, bytes: &[u8]) -> Place
         ensures { result ≡ place_behind_plain self place bytes.now }
     {
@@ -162,7 +162,7 @@ impl Marks {
         }
     }
 
-    // The place behind more bytes, one by one.
+    // The place after more bytes, one by one.
     fn behind_each(self, place: Place, bytes: &[u8]) -> Option<Place>
         ensures { result ≡ place_behind self place bytes.now }
     {
@@ -173,7 +173,7 @@ impl Marks {
         Some(place)
     }
 
-    // The place behind the first byte of a row.
+    // The place after the first byte of a row.
     fn row(self, byte: u8) -> Place
         ensures { result ≡ row_place self byte }
     {
@@ -184,7 +184,7 @@ impl Marks {
         }
     }
 
-    // The place behind the first byte of a cell.
+    // The place after the first byte of a cell.
     fn cell(self, byte: u8) -> Place
         ensures { result ≡ cell_place self byte }
     {
@@ -195,7 +195,7 @@ impl Marks {
         }
     }
 
-    // The place behind a byte of a cell that is not quoted.
+    // The place after a byte of a cell that is not quoted.
     fn plain(self, byte: u8) -> Place
         ensures { result ≡ plain_place self byte }
     {
@@ -208,7 +208,7 @@ impl Marks {
         }
     }
 
-    // The place behind a byte that follows a quote between quotes.
+    // The place after a byte that follows a quote between quotes.
     fn closed(self, byte: u8) -> Option<Place>
         ensures { result ≡ closed_place self byte }
     {

@@ -3,7 +3,7 @@ ghost use Rattle.std.specs.Prelude.{◌≡◌, List, [], ◌∷◌, ℕ, Option,
 ghost use Rattle.std.specs.Io.KnownBytes.{Appends};
 ghost use Rattle.csv.specs.Records.{fields_of};
 ghost use Rattle.csv.specs.declared.writer.WriterBuilder.{WriterBuilder};
-ghost use Rattle.keyed_text.specs.Streams.{EndsRow, HasWritten, PutsCells, PutsRows};
+ghost use Rattle.keyed_text.specs.Streams.{EndsRow, HasNoRow, HasWritten, PutsCells, PutsRows};
 ghost use Rattle.keyed_text.specs.Texts.{quote_style, terminator_of, text_by, writer_by, writer_in};
 
 use crate::quotes::Marks;
@@ -28,14 +28,14 @@ pub struct RowWriter<W: Write + Drop> {
 }
 
 impl<W: Write + Drop> RowWriter<W> {
-    /// Returns a writer of rows behind the bytes that the writer has, with quotes where they are needed, and LF behind each row.
+    /// Returns a writer of rows after the bytes that the writer has, with quotes where they are needed, and LF after each row.
     pub fn new(writer: W, marks: Marks) -> Self
-        ensures { HasWritten (writer_by marks.delimiter marks.comment) W.contents (W.contents writer) [] [] result }
+        ensures { HasNoRow (writer_by marks.delimiter marks.comment) W.contents (W.contents writer) result }
     {
         RowWriter::in_style(writer, marks, Style::PLAIN)
     }
 
-    /// Returns a writer of rows in a style behind the bytes that the writer has.
+    /// Returns a writer of rows in a style after the bytes that the writer has.
     ///
     /// ```
     /// let style = Style {
@@ -50,7 +50,7 @@ impl<W: Write + Drop> RowWriter<W> {
     /// assert!(rt; rows.finish()?.as_slice() == b"\"id\",\"price\"\r\n".as_slice());
     /// ```
     pub fn in_style(writer: W, marks: Marks, style: Style) -> Self
-        ensures { HasWritten (writer_in style marks.delimiter marks.comment) W.contents (W.contents writer) [] [] result }
+        ensures { HasNoRow (writer_in style marks.delimiter marks.comment) W.contents (W.contents writer) result }
     {
         RowWriter {
             writer: WriterBuilder::new()
@@ -87,7 +87,7 @@ impl<W: Write + Drop> RowWriter<W> {
         Ok(())
     }
 
-    /// Puts a whole row, of the cells of a record, behind the rows that were ended. It is faster than its cells one by one.
+    /// Puts a whole row, of the cells of a record, after the rows that were ended. It is faster than its cells one by one.
     ///
     /// # Errors
     ///

@@ -38,7 +38,7 @@ pub struct Style {
 }
 
 impl Style {
-    /// No byte order mark, quotes where they are needed, and LF behind each row.
+    /// No byte order mark, quotes where they are needed, and LF after each row.
     pub const PLAIN: Style = Style {
         has_mark: false,
         quotes: CellQuotes::WhereNeeded,
@@ -46,7 +46,7 @@ impl Style {
         has_end: true,
     };
 
-    /// Returns the text of rows, each of which has an end, as a file in this style: behind the byte order mark, if the style has one, and
+    /// Returns the text of rows, each of which has an end, as a file in this style: after the byte order mark, if the style has one, and
     /// less the end of the last row, if the style has none.
     ///
     /// # Errors
@@ -93,7 +93,7 @@ impl LineEnd {
     }
 }
 
-// A text behind a byte order mark.
+// A text after a byte order mark.
 fn behind_mark(alloc: Global, text: &[u8]) -> Result<Vec<u8>, AllocError>
     ensures { IfOk result (λ marked. marked.items ≡ 239 ∷ 187 ∷ 191 ∷ text.now) }
 {
