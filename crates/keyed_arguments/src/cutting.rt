@@ -9,7 +9,7 @@ use keyed_cut::{Cut, CutTables, Divided, LEAST_PARTS, MOST_PARTS, Second};
 use keyed_files::{Layout, key_names};
 use std::alloc::{AllocError, Global};
 
-/// Puts the command behind others.
+/// Puts the command after others.
 ///
 /// # Errors
 ///
@@ -167,7 +167,7 @@ fn parts_of<'a>(text: &str) -> Result<Divided<'a>, ParseError> {
     }
 }
 
-// A number of bytes: digits, and behind them K, M or G for a thousand, a million or a thousand millions.
+// A number of bytes: digits, and after them K, M or G for a thousand, a million or a thousand millions.
 fn size_of(text: &str) -> Option<u64> {
     let (digits, unit) = match text.as_bytes().last() {
         Some(b'K' | b'k') => (text.get(..text.len().saturating_sub(1))?, 1000),

@@ -1,4 +1,4 @@
-//! The commands that git calls, and the one that prints how it is told of them.
+//! The commands that git calls, and the one that prints how git is set up to call them.
 
 use crate::form::files_of;
 use crate::help::example_of;
@@ -59,7 +59,7 @@ static COMMANDS: [GitCommand; 3] = [
     ),
 ];
 
-/// Puts the commands for git behind others.
+/// Puts the commands for git after others.
 ///
 /// # Errors
 ///

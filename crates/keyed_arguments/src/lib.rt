@@ -453,7 +453,7 @@ static FLAGS: [(&str, &str); 5] = [
     ),
     (
         "ragged",
-        "A short row has empty cells behind, and a long one may have empty ones",
+        "A short row has empty cells at its end, and a long one may have empty ones",
     ),
     (
         "lenient",
@@ -620,7 +620,7 @@ const REPORT: OneOf = OneOf {
     name: "format",
     shown: "FORM",
     words: &["table", "json", "markdown", "html"],
-    help: "Format of the report where there is no table, as of rows in conflict",
+    help: "How a report is printed, where rows are in conflict or changes do not fit",
 };
 
 const ROWS: OneOf = OneOf {
@@ -664,7 +664,7 @@ fn sorted<'a>(alloc: Global) -> Result<Arg<'a>, AllocError> {
     let sorted = flag(
         alloc,
         "sorted",
-        "Both files are sorted by key: rows are joined as they are read, in memory that does not grow",
+        "Both files are in the order of their keys: they are read side by side, in memory that does not grow",
     );
     sorted.conflicts_with("group")?.conflicts_with("keep-order")
 }
@@ -693,7 +693,7 @@ fn has_flag(command: &str, name: &str) -> bool {
     command != "lookup" || name != "keep-order" && name != "group"
 }
 
-// Puts an item behind the others. One that there is no memory for is dropped.
+// Puts an item after the others. One that there is no memory for is dropped.
 fn put<T: Drop>(items: &mut Vec<T>, item: T) -> Result<(), AllocError> {
     items.push(item)?;
     Ok(())

@@ -33,7 +33,7 @@ pub fn merging_of<'a>(matches: &ArgMatches<'a>) -> Result<Merging<'a>, ParseErro
     })
 }
 
-/// Puts the options of a merge behind others.
+/// Puts the options of a merge after others.
 ///
 /// # Errors
 ///

@@ -5,7 +5,7 @@ use clap::{Arg, ArgMatches};
 use keyed_files::Decimal;
 use std::alloc::{AllocError, Global};
 
-/// Puts the options behind others.
+/// Puts the options after others.
 ///
 /// # Errors
 ///

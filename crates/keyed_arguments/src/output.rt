@@ -1,4 +1,4 @@
-//! The options for the file that an answer goes into, and for an answer that stands behind another.
+//! The options for the file that an answer goes into, and for an answer that stands after another.
 
 use crate::{ParseError, flag, option, put};
 use clap::{Arg, ArgMatches};
@@ -33,7 +33,7 @@ pub fn heading_of(matches: &ArgMatches<'_>) -> Heading {
     }
 }
 
-/// Puts the options behind others.
+/// Puts the options after others.
 ///
 /// # Errors
 ///
@@ -43,6 +43,6 @@ pub fn put_output(alloc: Global, args: &mut Vec<Arg<'_>>) -> Result<(), AllocErr
         "The file that the answer goes into, once it is whole; it may be one of those that are read",
     );
     put(args, output)?;
-    let no_heading = "CSV has no names of columns, so that it can stand behind other CSV";
+    let no_heading = "CSV has no names of columns, so that it can stand after other CSV";
     put(args, flag(alloc, "no-heading", no_heading))
 }

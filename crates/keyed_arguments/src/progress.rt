@@ -16,7 +16,7 @@ pub enum Progress {
     LeftOut,
 }
 
-/// Puts the option behind others.
+/// Puts the option after others.
 ///
 /// # Errors
 ///

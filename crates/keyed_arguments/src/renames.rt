@@ -8,7 +8,7 @@ use std::alloc::{AllocError, Global};
 // The name of the option.
 const OPTION: &str = "rename";
 
-/// Puts the option behind others.
+/// Puts the option after others.
 ///
 /// # Errors
 ///

@@ -11,7 +11,7 @@ pub type Text = (&'static str, &'static str, &'static str);
 pub static KEY: [Text; 1] = [(
     "key",
     "COLUMN[,COLUMN..]",
-    "The columns of the key, comma-separated [default: the first column]; \
+    "The columns that say which row it is, as id, or region,id [default: the first column]; \
      LEFT=RIGHT where a column has two names",
 )];
 
@@ -20,7 +20,7 @@ pub static TEXTS: [Text; 3] = [
     (
         "delimiter",
         "BYTE",
-        "The byte between cells, as \";\", or tab [default: a tab in .tsv and .tab files, else a comma]",
+        "The character between cells, as \";\", or tab [default: a tab in .tsv and .tab files, else a comma]",
     ),
     (
         "comment",
@@ -39,16 +39,16 @@ pub static TEXTS_OF_TWO: [Text; 2] = [
     (
         "left-delimiter",
         "BYTE",
-        "The byte between the cells of the first file, and of what is written",
+        "The character between the cells of the first file, and of what is written",
     ),
     (
         "right-delimiter",
         "BYTE",
-        "The byte between the cells of the second file",
+        "The character between the cells of the second file",
     ),
 ];
 
-/// Puts options that take a text behind others.
+/// Puts options that take a text after others.
 ///
 /// # Errors
 ///

@@ -21,11 +21,11 @@ static PARTS: [(&str, &str, &str); 3] = [
     (
         "limit",
         "N",
-        "Show at most N rows, and how many more there are; counts are of all",
+        "Print N rows at most, and how many more there are; counts are of all",
     ),
 ];
 
-/// Puts the options that say what a report shows behind others.
+/// Puts the options that say what a report shows after others.
 ///
 /// # Errors
 ///
