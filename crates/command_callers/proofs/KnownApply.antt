@@ -36,7 +36,7 @@ use Rattle.keyed_text.proofs.TextLemmas.{rows-once}
 use Rattle.keyed_commands.specs.Answers.{AllFit, AnswersTable, Stops, TableChanges, TableRows, key_cmp}
 use Rattle.keyed_commands.specs.AppliedTexts.{AppliesTexts}
 use Rattle.keyed_commands.specs.ChangesRead.{SaysChanges, come_by, come_rows, gone_by, gone_rows, signed_parts, signed_under}
-use Rattle.keyed_commands.specs.declared.answers.Answer.{Answer}
+use Rattle.keyed_commands.specs.declared.answer.Answer.{Answer}
 use Rattle.keyed_commands.proofs.AnswerLemmas.{key_exact, key_total}
 use Rattle.command_callers.specs.Answered.{IsInStyle}
 use Rattle.command_callers.proofs.KnownJoins.{joined, kept_joined, value_has}
@@ -155,7 +155,7 @@ apply_rest old changes gone = filter (is_beside (apply_key old changes)) (apply_
 abbrev pub apply_order : (old changes gone : List (List ℕ)) → List Place
 apply_order old changes gone = take (length (changed_names old changes gone)) (map (place_under_key (apply_key old changes)) (apply_names old changes gone))
 
-abbrev Changed : (old changes gone : List (List ℕ)) → Columns → Type 0
+abbrev pub Changed : (old changes gone : List (List ℕ)) → Columns → Type 0
 Changed old changes gone columns = AreChangedColumns (apply_key old changes) old changes gone columns
 
 changed_columns : (key : Option (Bor (List ℕ))) (old changes gone : List (List ℕ)) (columns : Columns) → key ≡ None → AreChangedColumnsBy key old changes gone columns
@@ -194,7 +194,7 @@ module _ {settings : Settings} {old_form changes_form : Form} {old_text changes_
       gone_are_said changes_form changes_text changes_fields changes_records changes_known settings.groups a.changes_header a.changes_header a.columns a.changes a.changes_say
       a.gone a.gone_said
 
-  columns_known : Changed old_fields changed going a.columns
+  pub columns_known : Changed old_fields changed going a.columns
   columns_known =
       subst (λ n. Changed n changed going a.columns) old_names
       (subst (λ n. Changed a.names n going a.columns) new_names

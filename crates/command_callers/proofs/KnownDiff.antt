@@ -17,7 +17,7 @@ use Rattle.keyed_commands.specs.Answers.{TableChanges, TableRows, key_cmp, rows_
 use Rattle.keyed_commands.specs.ComeOut.{AlikePlaces, AlikeRows}
 use Rattle.keyed_commands.specs.ChangeRows.{changes_heading, changes_rows}
 use Rattle.keyed_commands.specs.TablesRead.{DiffsTexts, headers_differ}
-use Rattle.keyed_commands.specs.declared.answers.Answer.{Answer}
+use Rattle.keyed_commands.specs.declared.answer.Answer.{Answer}
 use Rattle.keyed_commands.proofs.AnswerLemmas.{key_exact, key_total}
 use Rattle.command_callers.proofs.KnownJoins.{kept_joined}
 use Rattle.command_callers.proofs.KnownRows.{alone_rise}
@@ -54,13 +54,13 @@ module _ {settings : Settings} {old_form new_form : Form} {old_text new_text : L
     (old new : KeyedRows) (old_up : Up key_cmp (λ k. ⊤) old) (new_up : Up key_cmp (λ k. ⊤) new)
     (old_moved : IsPermutation (rows_by old_fields (diff_key old_fields new_fields) (diff_rest old_fields new_fields) old_records) old)
     (new_moved : IsPermutation (rows_by new_fields (diff_key old_fields new_fields) (diff_rest old_fields new_fields) new_records) new) where
-  old_names : d.names ≡ old_fields
+  pub old_names : d.names ≡ old_fields
   old_names = names_are settings plain d.header d.names d.named ∙ header_is old_form old_text old_fields old_records old_known settings.groups d.header d.names d.columns d.old d.old_says
 
-  new_names : d.next_header ≡ new_fields
+  pub new_names : d.next_header ≡ new_fields
   new_names = header_is new_form new_text new_fields new_records new_known settings.groups d.next_header d.next_header d.columns d.new d.new_says
 
-  columns_known : HaveNames (diff_key old_fields new_fields) (diff_names old_fields new_fields) d.columns
+  pub columns_known : HaveNames (diff_key old_fields new_fields) (diff_names old_fields new_fields) d.columns
   columns_known =
       subst (λ n. HaveNames (diff_key n new_fields) (diff_names n new_fields) d.columns) old_names
       (subst (λ n. HaveNames (diff_key d.names n) (diff_names d.names n) d.columns) new_names
@@ -76,7 +76,7 @@ module _ {settings : Settings} {old_form new_form : Form} {old_text new_text : L
       table_is new_form new_text new_fields new_records new_known settings.groups d.next_header d.next_header d.columns d.new d.new_says
       new_fields (diff_key old_fields new_fields) (diff_rest old_fields new_fields) new new_names columns_known.key columns_known.rest new_moved new_up
 
-  changes_known : (changes : TableChanges) → IsKeptOfJoin key_cmp (changed rows_eq) d.old d.new changes → changes ≡ changes_between old new
+  pub changes_known : (changes : TableChanges) → IsKeptOfJoin key_cmp (changed rows_eq) d.old d.new changes → changes ≡ changes_between old new
   changes_known changes h =
       kept_joined key_cmp key_total key_exact (map alone old) (map alone new) (alone_rise key_cmp key_total old old_up) (alone_rise key_cmp key_total new new_up) (changed rows_eq) changes
       (subst (λ t. IsKeptOfJoin key_cmp (changed rows_eq) t (map alone new) changes) old_table

@@ -21,7 +21,7 @@ use Rattle.keyed_tables.specs.Gathered.{alone}
 use Rattle.keyed_commands.specs.Answers.{IsTableText, TableRows, key_cmp}
 use Rattle.keyed_commands.specs.ComeOut.{AlikePlaces, AlikeRows}
 use Rattle.keyed_commands.specs.JoinAnswers.{AlikeBoth, AlikeLeft, AlikeRight, IsJoinText, IsTextOfJoin, JoinsTexts, RowSides, heading_of_join, inner_sides, left_sides, outer_sides, right_sides}
-use Rattle.keyed_commands.specs.declared.answers.Answer.{Answer}
+use Rattle.keyed_commands.specs.declared.answer.Answer.{Answer}
 use Rattle.keyed_commands.proofs.AnswerLemmas.{key_exact, key_total}
 use Rattle.command_callers.proofs.KnownJoins.{anti_joined, inner_joined, joined, left_joined, right_joined, semi_joined}
 use Rattle.command_callers.proofs.KnownRows.{alone_rise}

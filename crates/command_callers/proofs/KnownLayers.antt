@@ -25,7 +25,7 @@ use Rattle.keyed_tables.specs.Gathered.{alone}
 use Rattle.keyed_commands.specs.Answers.{TableRows, key_cmp}
 use Rattle.keyed_commands.specs.OverlayAnswers.{AreLaidOver, AreNamed, OverlaidIn, OverlaysStreams, Said, SaysRows, laid_rows}
 use Rattle.keyed_commands.specs.TablesRead.{AreNames, SaysTable}
-use Rattle.keyed_commands.specs.declared.answers.Answer.{Answer}
+use Rattle.keyed_commands.specs.declared.answer.Answer.{Answer}
 use Rattle.keyed_commands.proofs.AnswerLemmas.{key_exact, key_total}
 use Rattle.command_callers.specs.Answered.{IsInStyle}
 use Rattle.command_callers.proofs.KnownRows.{alone_rise}

@@ -24,8 +24,8 @@ use Rattle.keyed_tables.specs.RowsByCell.{GivesRow, can_by_row}
 use Rattle.keyed_commands.specs.Answers.{AnswersTable, HasConflict, HasNoConflict, HasNoneStuck, HasStuck, IsTableText, Stops, TableRows, clashes_at, key_cmp, rows_eq, sticks_at}
 use Rattle.keyed_commands.specs.Lost.{loses}
 use Rattle.keyed_commands.specs.MergedTexts.{AnswersBy, AnswersByCell, AnswersByRow, MergesTexts}
-use Rattle.keyed_commands.specs.declared.answers.Answer.{Answer}
-use Rattle.keyed_commands.specs.declared.answers.Outcome.TheVariants.{Made}
+use Rattle.keyed_commands.specs.declared.answer.Answer.{Answer}
+use Rattle.keyed_commands.specs.declared.answer.Outcome.TheVariants.{Made}
 use Rattle.keyed_commands.proofs.AnswerLemmas.{key_exact, key_total}
 use Rattle.command_callers.specs.Answered.{IsInStyle}
 use Rattle.command_callers.proofs.KnownCells.{gives_once, merged_by_cell, none_stuck, settled_rows}
@@ -75,7 +75,7 @@ merge_rest base ours theirs = filter (is_beside (merge_key base ours theirs)) (m
 abbrev pub merge_order : (base ours theirs : List (List ℕ)) → List Place
 merge_order base ours theirs = take (length (merge_written base ours theirs)) (map (place_under_key (merge_key base ours theirs)) (merge_names base ours theirs))
 
-abbrev Written : (base ours theirs : List (List ℕ)) → Columns → Type 0
+abbrev pub Written : (base ours theirs : List (List ℕ)) → Columns → Type 0
 Written base ours theirs columns = AreMergedColumns (merge_key base ours theirs) base ours theirs columns
 
 merge_columns : (key : Option (Bor (List ℕ))) (base ours theirs : List (List ℕ)) (columns : Columns) → key ≡ None → AreMergedColumnsBy key base ours theirs columns
@@ -110,7 +110,7 @@ module _ {settings : Settings} {by : Unit} {base_form ours_form theirs_form : Fo
   theirs_names : m.theirs_header ≡ theirs_fields
   theirs_names = header_is theirs_form theirs_text theirs_fields theirs_records theirs_known settings.groups m.theirs_header m.theirs_header m.columns m.theirs m.theirs_say
 
-  columns_known : Written base_fields ours_fields theirs_fields m.columns
+  pub columns_known : Written base_fields ours_fields theirs_fields m.columns
   columns_known =
       subst (λ n. Written n ours_fields theirs_fields m.columns) base_names
       (subst (λ n. Written m.names n theirs_fields m.columns) ours_names
@@ -133,7 +133,7 @@ module _ {settings : Settings} {by : Unit} {base_form ours_form theirs_form : Fo
       theirs_fields key rest theirs theirs_names columns_known.key columns_known.rest theirs_moved theirs_up
 
   -- what holds of the three tables, and of what they are
-  of_tables : (P : TableRows → TableRows → TableRows → Type 0) → P m.base m.ours m.theirs → P (map alone base) (map alone ours) (map alone theirs)
+  pub of_tables : (P : TableRows → TableRows → TableRows → Type 0) → P m.base m.ours m.theirs → P (map alone base) (map alone ours) (map alone theirs)
   of_tables P h =
       subst (λ t. P t (map alone ours) (map alone theirs)) base_table (subst (λ t. P m.base t (map alone theirs)) ours_table (subst (λ t. P m.base m.ours t) theirs_table h))
 

@@ -10,4 +10,7 @@ pub mod KnownMerge
 pub mod KnownApply
 pub mod KnownLayers
 pub mod KnownLookup
-pub mod Texts
+pub mod LiteralTexts
+pub mod KnownText
+pub mod KnownLaws
+pub mod KnownSides

@@ -20,7 +20,7 @@ rest : (xs ys : List ℕ) → drop (length xs) (xs ++ ys) ≡ ys
 rest [] ys = refl
 rest (x ∷ xs) ys = rest xs ys
 
--- a text with an LF: the bytes before the first one that passes a test which LF passes, and those behind
+-- a text with an LF: the bytes before the first one that passes a test which LF passes, and those after
 module _ (t : ℕ → Bool) (ends : t 10 ≡ true) where
   abbrev before : List ℕ → List ℕ
   before [] = []
@@ -99,7 +99,7 @@ module _ (d : ℕ) where
     abbrev pub given : List (List (List ℕ)) → List ℕ
     given rows = quoted_first d (rows_text d c rows)
 
-    -- a row that is written as it stands, whatever comes behind it
+    -- a row that is written as it stands, whatever comes after it
     abbrev pub IsUnmarked : List (List ℕ) → Type 0
     IsUnmarked row = (more : List ℕ) → is_marked (row_text (writer_by d c) row ++ more) ≡ false
 

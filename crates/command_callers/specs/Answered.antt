@@ -5,8 +5,8 @@ use Rattle.keyed_text.specs.declared.style.CellQuotes.TheVariants.{Everywhere, W
 use Rattle.keyed_text.specs.declared.style.LineEnd.TheVariants.{CrLf, Lf}
 use Rattle.keyed_text.specs.declared.style.Style.{Style}
 use Rattle.keyed_files.specs.Writing.{quoted_first}
-use Rattle.keyed_commands.specs.declared.answers.Answer.{Answer}
-use Rattle.keyed_commands.specs.declared.answers.Outcome.TheVariants.{Made}
+use Rattle.keyed_commands.specs.declared.answer.Answer.{Answer}
+use Rattle.keyed_commands.specs.declared.answer.Outcome.TheVariants.{Made}
 
 -- an answer is a table, with what text is said of some style
 pub record IsInStyle (text : Style → List ℕ) (answer : Answer) : Type 0 where
@@ -19,11 +19,15 @@ pub record IsInStyle (text : Style → List ℕ) (answer : Answer) : Type 0 wher
 abbrev pub file_in : List (List (List ℕ)) → Style → List ℕ
 file_in rows style = finished style (quoted_first 44 (text_by (writer_in style 44 None) rows))
 
--- quotes where they are needed, and LF behind each row
+-- a text is the file of these rows in some style
+abbrev pub IsFileOf : List (List (List ℕ)) → List ℕ → Type 0
+IsFileOf rows text = (style : Style) × (text ≡ file_in rows style)
+
+-- quotes where they are needed, and LF after each row
 abbrev pub plainly : Style
 plainly = record { has_mark = false; quotes = WhereNeeded; line_end = Lf; has_end = true }
 
--- a byte order mark, quotes everywhere, CR LF between rows, and none behind the last
+-- a byte order mark, quotes everywhere, CR LF between rows, and none after the last
 abbrev pub fully : Style
 fully = record { has_mark = true; quotes = Everywhere; line_end = CrLf; has_end = false }
 

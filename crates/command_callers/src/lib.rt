@@ -1,5 +1,5 @@
 //! Callers of the commands: what a program knows of the answers to `diff`, `apply`, `merge`, `join`, `overlay` and `lookup` of texts that it
-//! knows when it is written.
+//! knows when it is written; and callers of the reader and the writer of rows (`texts`).
 #![tactic(auto)]
 
 ghost use Rattle.std.specs.Prelude.{◌≡◌, ◌∷◌, [], IfOk, codes};
@@ -17,8 +17,21 @@ macro_rules! file {
     };
 }
 
+// A join of this kind, as CSV.
+macro_rules! joining {
+    ($kind:ident) => {
+        Joining {
+            kind: Kind::$kind,
+            names: JoinNames::PLAIN,
+            format: RowFormat::Csv,
+        }
+    };
+}
+
+pub mod laws;
 pub mod layers;
 pub mod lookups;
+pub mod texts;
 
 use keyed_commands::{
     Answer, Comparing, Conflicts, Delimiter, Fault, Form, Format, JoinNames, Joining, Kind, Look,
@@ -68,41 +81,17 @@ const BY_CELL: Merging<'static> = Merging {
     tolerance: None,
 };
 
-const OUTER: Joining<'static> = Joining {
-    kind: Kind::Outer,
-    names: JoinNames::PLAIN,
-    format: RowFormat::Csv,
-};
+const OUTER: Joining<'static> = joining!(Outer);
 
-const INNER: Joining<'static> = Joining {
-    kind: Kind::Inner,
-    names: JoinNames::PLAIN,
-    format: RowFormat::Csv,
-};
+const INNER: Joining<'static> = joining!(Inner);
 
-const LEFT: Joining<'static> = Joining {
-    kind: Kind::Left,
-    names: JoinNames::PLAIN,
-    format: RowFormat::Csv,
-};
+const LEFT: Joining<'static> = joining!(Left);
 
-const RIGHT: Joining<'static> = Joining {
-    kind: Kind::Right,
-    names: JoinNames::PLAIN,
-    format: RowFormat::Csv,
-};
+const RIGHT: Joining<'static> = joining!(Right);
 
-const SEMI: Joining<'static> = Joining {
-    kind: Kind::Semi,
-    names: JoinNames::PLAIN,
-    format: RowFormat::Csv,
-};
+const SEMI: Joining<'static> = joining!(Semi);
 
-const ANTI: Joining<'static> = Joining {
-    kind: Kind::Anti,
-    names: JoinNames::PLAIN,
-    format: RowFormat::Csv,
-};
+const ANTI: Joining<'static> = joining!(Anti);
 
 /// Returns the changes between two tables in which a row has other cells: the row that goes, and the one that comes, with status 1.
 ///
@@ -328,7 +317,7 @@ pub fn cell_conflict(alloc: Global) -> Result<Answer, Fault<'static>>
     merge(alloc, PLAIN, BY_CELL, base, ours, theirs)
 }
 
-/// Returns the outer join of two tables: the rows of both, each behind the name of the side that has it.
+/// Returns the outer join of two tables: the rows of both, each after the name of the side that has it.
 ///
 /// # Errors
 ///
@@ -343,7 +332,7 @@ pub fn outer_join(alloc: Global) -> Result<Answer, Fault<'static>>
     join(alloc, PLAIN, OUTER, left, right)
 }
 
-/// Returns the outer join of two tables with a column of the same name, which is told apart by the name of its side.
+/// Returns the outer join of two tables with a column of the same name, which the name of its side keeps apart.
 ///
 /// # Errors
 ///

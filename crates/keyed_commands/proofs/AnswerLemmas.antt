@@ -1,8 +1,8 @@
 -- Changes that are none, changes that fit, and keys in conflict.
-use Rattle.std.proofs.Common.{◌≡◌, ◌∙◌, ◌<◌, ℕ, Bool, true, false, List, [], ◌∷◌, length, map, All, Option, Some, None, option_map, arith, refl, sym, ap, subst, true≢false, nat_eq}
+use Rattle.std.proofs.Common.{◌≡◌, ◌∙◌, ◌<◌, ℕ, Bool, true, false, List, [], ◌∷◌, length, map, All, Option, Some, None, option_map, arith, refl, sym, ap, subst, true≢false}
 use Rattle.std.specs.Prelude.{IfSome, IsSomeAnd}
 use Rattle.std.specs.Cmp.{IsTotalOrder}
-use Rattle.std.specs.Cmp.Lexicographic.{bytes_decides, lists_ties, lists_total, nat_list_cmp_total, pointwise, pointwise_decides, slice_cmp, texts_ties}
+use Rattle.std.specs.Cmp.Lexicographic.{bytes_decides, lists_ties, lists_total, nat_list_cmp_total, pointwise_decides, slice_cmp, texts_ties}
 use Rattle.std.specs.Iterator.Runs.{AllItems, Run}
 use Rattle.std.specs.List.{slice_index_or}
 use Rattle.std.specs.Option.{option_and_then, option_eq}
@@ -30,7 +30,7 @@ use Rattle.eob_joins.specs.declared.versions.Merged.TheVariants.{Whole, Conflict
 use Rattle.keyed_files.specs.declared.columns.Columns.{Columns}
 use Rattle.keyed_files.specs.declared.request.Form.{Form}
 use Rattle.keyed_tables.specs.RowsByCell.{GivesRow, can_by_row}
-use Rattle.keyed_commands.specs.declared.answers.Answer.{Answer}
+use Rattle.keyed_commands.specs.declared.answer.Answer.{Answer}
 use Rattle.keyed_commands.specs.Answers.{AllFit, AnswersMerge, AnswersMerged, AnswersMergedByCell, HasConflict, HasNoConflict, HasNoneStuck, HasStuck}
 use Rattle.keyed_commands.specs.Answers.{Stops, TableRows, fits_place, key_cmp, rows_eq}
 

@@ -28,7 +28,7 @@ use Rattle.keyed_commands.specs.ChangeRows.{changes_rows}
 use Rattle.keyed_commands.specs.AppliedTexts.{AnswersApplied, AppliesTexts}
 use Rattle.keyed_commands.specs.TablesRead.{AreNames, AreNamesBy, DiffsTexts, SaysTable}
 use Rattle.keyed_commands.specs.TextLaws.{AnswersTableOf, AreReadAs, DiffedTextByLaw, DiffedTextLaw, MakesTable, NamesOnce}
-use Rattle.keyed_commands.specs.declared.answers.Answer.{Answer}
+use Rattle.keyed_commands.specs.declared.answer.Answer.{Answer}
 use Rattle.keyed_commands.proofs.ColumnsBackLemmas.{WritesOf, gone-apart, gone_between, header-within, marked-gone, writes-alike, written-once}
 use Rattle.keyed_commands.proofs.LossLemmas.{loses-none}
 use Rattle.keyed_commands.proofs.LawLemmas.{diff_apply, has-header}
@@ -192,12 +192,10 @@ module _ (settings : Settings) (old_form new_form : Form) (old_text new_text : L
     written_once : repeats [] (or_header diffs.next_header diffs.names) ≡ false
     written_once = written-once diffs.names diffs.next_header old_once new_once
 
-    pub diffed-text : AnswersTableOf settings new_form new_text diffs.names answer
+    pub diffed-text : AnswersTableOf settings applies.applied.style applies.columns new_form new_text diffs.names answer
     diffed-text = record {
       header = diffs.next_header;
-      columns = applies.columns;
       table = diffs.new;
-      style = applies.applied.style;
       names = (writes-names diffs.columned.others (or_header diffs.next_header diffs.names) (all ∷ diffs.names ∷ applies.gone ∷ []) applies.columns writes_names written_once).0;
       says = new_says;
       answers = made_is;
@@ -225,7 +223,7 @@ module _ (settings : Settings) (old_form new_form : Form) (old_text new_text : L
         ∙ sym (first_key settings.key (diffs.names ∷ diffs.next_header ∷ []) diffs.columned.first diffs.columned.others no_key diffs.columned.names)
         ∙ sym diffs.columned.are.key
 
-    pub diffed-plainly : AnswersTableOf settings new_form new_text diffs.names answer
+    pub diffed-plainly : AnswersTableOf settings applies.applied.style applies.columns new_form new_text diffs.names answer
     diffed-plainly = diffed-text names_are old_names_once key_is
 
 pub diffed-text-by-law : DiffedTextByLaw

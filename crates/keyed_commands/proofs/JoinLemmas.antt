@@ -27,7 +27,7 @@ use Rattle.keyed_commands.specs.JoinAnswers.{AlikeBoth, AlikeLeft, AlikeRight, I
 use Rattle.keyed_commands.specs.JoinAnswers.{header_of_join, heading_of_join, inner_sides, join_rows, left_sides, names_as, outer_sides, right_sides, rows_of_sides}
 use Rattle.keyed_commands.specs.Answers.{TableRows}
 use Rattle.keyed_commands.specs.TablesRead.{IsUnordered, SaysTable}
-use Rattle.keyed_commands.specs.declared.answers.Answer.{Answer}
+use Rattle.keyed_commands.specs.declared.answer.Answer.{Answer}
 use Rattle.keyed_commands.specs.declared.job.Job.{Job}
 use Rattle.keyed_commands.proofs.ReadLemmas.{both-known}
 

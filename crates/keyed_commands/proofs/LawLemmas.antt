@@ -1,16 +1,13 @@
 -- Changes made to the table that they are from, and the text of changes read.
-use Rattle.std.proofs.Common.{◌≡◌, ◌≢◌, ◌∙◌, ℕ, Bool, true, false, List, [], ◌∷◌, ◌++◌, All, Option, Some, None, refl, sym, ap, subst}
+use Rattle.std.proofs.Common.{◌≡◌, ◌∙◌, ℕ, Bool, true, false, List, [], ◌∷◌, ◌++◌, All, Option, Some, None, refl, sym, ap, subst}
 use Rattle.std.specs.Prelude.{◌&&◌, IfSome}
-use Rattle.std.specs.List.{flat_map}
 use Rattle.std.specs.Option.{option_and_then}
 use Rattle.std.proofs.lemmas.List.Elements.{All-cons, All-nil, All-append}
 use Rattle.csv.specs.Reading.{strip_bom}
 use Rattle.eob_both.specs.declared.either_or_both.EitherOrBoth.{EitherOrBoth}
-use Rattle.eob_both.specs.declared.either_or_both.EitherOrBoth.TheVariants.{Left, Both, Right}
 use Rattle.eob_both.specs.Places.{from_places, left_place, right_place}
 use Rattle.eob_lists.specs.Join.{value_under}
-use Rattle.eob_joins.specs.Changes.{applied, changed}
-use Rattle.eob_joins.specs.Tables.{IsKeptOfJoin}
+use Rattle.eob_joins.specs.Changes.{changed}
 use Rattle.eob_joins.proofs.TableLemmas.{apply_diff, by_test, kept_join}
 use Rattle.keyed_files.specs.AnswerForm.{writes_heading}
 use Rattle.keyed_files.specs.Rows.{change_name, placed, rows_under, shown_sign}
@@ -23,7 +20,7 @@ use Rattle.keyed_text.specs.Laws.{HasCells, HasNoMark}
 use Rattle.keyed_text.specs.Texts.{ReadsAs}
 use Rattle.keyed_text.specs.declared.style.Style.{Style}
 use Rattle.keyed_text.proofs.TextLemmas.{sheet-back}
-use Rattle.keyed_commands.specs.Answers.{AllFit, AnswersPatched, AnswersTable, TableChanges, TableRows, key_cmp, rows_eq}
+use Rattle.keyed_commands.specs.Answers.{AnswersTable, TableChanges, key_cmp, rows_eq}
 use Rattle.keyed_commands.specs.ChangeRows.{change_rows, changes_heading, changes_rows, version_rows}
 use Rattle.keyed_commands.specs.Laws.{ChangesFitLaw, ChangesMakeLaw, DiffApplyLaw, DiffReadsLaw}
 use Rattle.keyed_commands.proofs.AnswerLemmas.{key_exact, key_total, rows_decides}

@@ -11,8 +11,8 @@ use Rattle.keyed_files.specs.declared.merging.Unit.TheVariants as unit
 use Rattle.keyed_commands.specs.Answers.{AnswersMerged, HasNoConflict, IsTableText, Stops, clashes_at, rows_eq}
 use Rattle.keyed_commands.specs.Lost.{loses}
 use Rattle.keyed_commands.specs.MergedTexts.{AnswersByRow, MergesTexts}
-use Rattle.keyed_commands.specs.declared.answers.Answer.{Answer}
-use Rattle.keyed_commands.specs.declared.answers.Outcome.TheVariants.{Made, Stopped}
+use Rattle.keyed_commands.specs.declared.answer.Answer.{Answer}
+use Rattle.keyed_commands.specs.declared.answer.Outcome.TheVariants.{Made, Stopped}
 use Rattle.keyed_commands.proofs.AnswerLemmas.{rows_decides}
 use Rattle.keyed_commands.specs.OneSide.{OneSideLaw}
 
@@ -69,6 +69,7 @@ one-side-law settings base_form ours_form theirs_form base_text ours_text theirs
     let tells = told settings base_form ours_form theirs_form base_text ours_text theirs_text answer merges made in (
       tells.0,
       record {
+        rises = tells.1.rises;
         ours_alone = λ key e. tells.1.values key ∙ ours_there _ _ _ e;
         theirs_alone = λ key e. tells.1.values key ∙ theirs_there _ _ _ e;
       },

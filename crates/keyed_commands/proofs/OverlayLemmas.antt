@@ -22,9 +22,9 @@ use Rattle.keyed_commands.specs.Answers.{TableRows, key_cmp}
 use Rattle.keyed_commands.specs.AppliedTexts.{watched_left}
 use Rattle.keyed_commands.specs.OverlayAnswers.{AnswersRows, AreLaidOver, AreLayers, AreNamed, IsLayer, LaysTables, OverlaysSources, OverlaysStreams, ReadTables, Said, SaysRows, laid_rows, laid_under}
 use Rattle.keyed_commands.specs.TablesRead.{IsUnordered}
-use Rattle.keyed_commands.specs.declared.answers.Answer.{Answer}
+use Rattle.keyed_commands.specs.declared.answer.Answer.{Answer}
 use Rattle.keyed_commands.specs.declared.job.Job.{Job}
-use Rattle.keyed_commands.specs.declared.watched.Watched.{Watched}
+use Rattle.keyed_commands.specs.declared.styles.Watched.{Watched}
 
 on_none : (layer : Layer) (m : Option (List (List (List ℕ)))) → option_map (laid_rows layer) (from_places None m) ≡ m
 on_none layer.Rows None = refl

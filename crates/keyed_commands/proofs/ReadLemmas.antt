@@ -16,7 +16,7 @@ use Rattle.keyed_files.specs.declared.source.Source.{Source}
 use Rattle.keyed_rows.specs.declared.row.ReadRow.{ReadRow}
 use Rattle.keyed_commands.specs.Answers.{IsDiffStatus, IsDiffText, TableRows, status_of}
 use Rattle.keyed_commands.specs.TablesRead.{AreNames, DiffsSources, DiffsStreams, DiffsTexts, Gathers, IsStatusBetween, IsUnordered, ReadsTable, SaysTable}
-use Rattle.keyed_commands.specs.declared.answers.Answer.{Answer}
+use Rattle.keyed_commands.specs.declared.answer.Answer.{Answer}
 use Rattle.keyed_commands.specs.declared.job.Job.{Job}
 
 -- rows that are read behind none are those of the table

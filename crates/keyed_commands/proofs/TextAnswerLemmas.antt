@@ -19,7 +19,7 @@ use Rattle.keyed_commands.specs.AppliedTexts.{AnswersApplied, AppliedIn, Applies
 use Rattle.keyed_commands.specs.ChangesRead.{SaysChanges}
 use Rattle.keyed_commands.specs.MergedTexts.{AnswersBy, MergedIn, MergesSources, MergesStreams, MergesTexts}
 use Rattle.keyed_commands.specs.TablesRead.{IsUnordered, ReadsTable, SaysTable}
-use Rattle.keyed_commands.specs.declared.answers.Answer.{Answer}
+use Rattle.keyed_commands.specs.declared.answer.Answer.{Answer}
 use Rattle.keyed_commands.specs.declared.job.Job.{Job}
 use Rattle.keyed_commands.proofs.GoneLemmas.{both-of, gone-of}
 use Rattle.keyed_commands.proofs.ReadLemmas.{are-names, both-known}

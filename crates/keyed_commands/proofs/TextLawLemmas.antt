@@ -32,7 +32,7 @@ use Rattle.keyed_commands.specs.ChangeRows.{changes_rows}
 use Rattle.keyed_commands.specs.ChangesRead.{SaysChanges, come_rows, gone_rows, signed_parts, signed_under}
 use Rattle.keyed_commands.specs.TablesRead.{DiffsTexts, Gathers, SaysTable}
 use Rattle.keyed_commands.specs.TextLaws.{AreReadAs, DiffSaysLaw, OneChangesLaw, OneTableLaw}
-use Rattle.keyed_commands.specs.declared.answers.Answer.{Answer}
+use Rattle.keyed_commands.specs.declared.answer.Answer.{Answer}
 use Rattle.keyed_commands.proofs.AnswerLemmas.{key_exact, key_total}
 use Rattle.keyed_commands.proofs.ChangesBackLemmas.{AllBack, ReadsBack, all-lefts, all-rights, changes-rise, come-back, come-parts, come_of, gone-back, gone-parts, gone_of, joined-again, lefts-hold, lefts-rise, rights-hold, rights-rise}
 use Rattle.keyed_commands.proofs.ColumnsBackLemmas.{Within, columns-once, columns-within, names-unmarked, row-back}

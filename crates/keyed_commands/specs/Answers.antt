@@ -1,5 +1,5 @@
 -- What a command answers of tables in memory: the text of its rows, and its status.
-use Rattle.std.specs.Prelude.{◌≡◌, ◌↔◌, ◌||◌, ◌&&◌, ℕ, Bool, true, false, not, List, ◌++◌, Option, None, Some, IfSome, MatchBool, nat_eq, if◌then◌else◌}
+use Rattle.std.specs.Prelude.{◌≡◌, ◌↔◌, ◌||◌, ℕ, Bool, true, false, List, ◌++◌, Option, None, Some, IfSome, MatchBool, nat_eq, if◌then◌else◌}
 use Rattle.std.specs.Cmp.Lexicographic.{pointwise, slice_cmp}
 use Rattle.std.specs.Option.{option_eq}
 use Rattle.std.specs.Ordering.{nat_cmp}
@@ -21,8 +21,8 @@ use Rattle.keyed_files.specs.Writing.{file_text, text_of}
 use Rattle.keyed_files.specs.declared.column_changes.ColumnChanges.{ColumnChanges}
 use Rattle.keyed_files.specs.declared.columns.Columns.{Columns}
 use Rattle.keyed_files.specs.declared.request.Form.{Form}
-use Rattle.keyed_commands.specs.declared.answers.Answer.{Answer}
-use Rattle.keyed_commands.specs.declared.answers.Outcome.TheVariants.{Made, Stopped}
+use Rattle.keyed_commands.specs.declared.answer.Answer.{Answer}
+use Rattle.keyed_commands.specs.declared.answer.Outcome.TheVariants.{Made, Stopped}
 use Rattle.keyed_commands.specs.ChangeRows.{changes_heading, changes_rows}
 use Rattle.keyed_commands.specs.ComeOut.{AlikePlaces, AlikeRows, ComesOut}
 
@@ -72,12 +72,12 @@ ChangesComeOut noted by_cells old new shown = (changes : TableChanges) × IsKept
     × ComesOut noted by_cells (AlikePlaces AlikeRows AlikeRows) changes shown
 
 module _ (form : Form) (columns : Columns) (noted : Option (List (List (List ℕ)))) (by_cells : Bool) where
-  -- a text has the changes between two tables, behind the heading of changes
+  -- a text has the changes between two tables, after the heading of changes
   abbrev pub IsDiffText : List (List ℕ) → TableRows → TableRows → List ℕ → Type 0
   IsDiffText marked old new text = (shown : TableChanges) × ChangesComeOut noted by_cells old new shown
       × (text ≡ text_of form (changes_heading form marked ++ changes_rows columns.order.items shown))
 
-  -- a text is the file of the rows of a table, behind its heading
+  -- a text is the file of the rows of a table, after its heading
   abbrev pub IsTableText : TableRows → List ℕ → Type 0
   IsTableText rows text = (shown : TableRows) × ComesOut noted by_cells AlikeRows rows shown
       × (text ≡ file_text form (heading form None columns ++ table_rows columns.order.items shown))

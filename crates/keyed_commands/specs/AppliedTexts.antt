@@ -1,5 +1,5 @@
 -- What `apply` answers of the texts of a table and of changes.
-use Rattle.std.specs.Prelude.{◌≡◌, ℕ, Bool, false, true, List, Option, None, IfSome, is_none}
+use Rattle.std.specs.Prelude.{◌≡◌, ℕ, Bool, false, true, List, Option, None, IfSome}
 use Rattle.keyed_text.specs.declared.style.Style.{Style}
 use Rattle.keyed_files.specs.AnswerForm.{in_style}
 use Rattle.keyed_files.specs.Gone.{GoneOf}
@@ -14,9 +14,9 @@ use Rattle.keyed_files.specs.declared.source.Content.TheVariants.{Rows}
 use Rattle.keyed_commands.specs.Answers.{AllFit, AnswersPatched, Stops, TableChanges, TableRows, key_cmp}
 use Rattle.keyed_commands.specs.ChangesRead.{ReadsChanges, SaysChanges}
 use Rattle.keyed_commands.specs.TablesRead.{AreNamesBy, IsUnordered, ReadsTable, SaysTable}
-use Rattle.keyed_commands.specs.declared.answers.Answer.{Answer}
+use Rattle.keyed_commands.specs.declared.answer.Answer.{Answer}
 use Rattle.keyed_commands.specs.declared.job.Job.{Job}
-use Rattle.keyed_commands.specs.declared.watched.Watched.{Watched}
+use Rattle.keyed_commands.specs.declared.styles.Watched.{Watched}
 
 -- what a reader that is watched has left
 abbrev pub watched_left : {R : Type 0} → (R → Option (List ℕ)) → Watched R → Option (List ℕ)

@@ -1,5 +1,5 @@
 -- The rows that changes are written as.
-use Rattle.std.specs.Prelude.{ℕ, List, [], ◌∷◌, ◌++◌, Option, Some, None, map, if◌then◌else◌}
+use Rattle.std.specs.Prelude.{ℕ, List, [], ◌∷◌, ◌++◌, Option, Some, None, if◌then◌else◌}
 use Rattle.std.specs.List.{flat_map}
 use Rattle.either_or_both.specs.Prelude.{left_place, right_place}
 use Rattle.eob_both.specs.declared.either_or_both.EitherOrBoth.{EitherOrBoth}
@@ -10,7 +10,7 @@ use Rattle.keyed_files.specs.declared.sign.Sign.{Sign}
 use Rattle.keyed_files.specs.declared.sign.Sign.TheVariants.{Minus, Plus}
 use Rattle.keyed_files.specs.Rows.{change_name, rows_under, shown_sign}
 
--- the rows under a key that a version has, each behind a sign
+-- the rows under a key that a version has, each after a sign
 abbrev pub version_rows : Sign → List Place → List (List ℕ) → Option (List (List (List ℕ))) → List (List (List ℕ))
 version_rows sign order key None = []
 version_rows sign order key (Some rows) = rows_under (Some (shown_sign sign)) order key rows

@@ -47,7 +47,7 @@ signed_at places fields = (field_at fields 0, picked places fields)
 abbrev pub signed_under : List (List ℕ) → Columns → List (List ℕ) → Option (List ℕ) × (List (List ℕ) × List (List ℕ))
 signed_under names columns fields = (field_at fields 0, row_under Changes names columns fields)
 
--- behind rows that go and rows that come stand those of records, by their signs
+-- after rows that go and rows that come stand those of records, by their signs
 pub record PartedBehind (places : Places) (gone new_gone come new_come : List ReadRow) (records : List (List (List ℕ))) : Type 0 where
   pub signed : List SignedRow
   pub goes : new_gone ≡ gone ++ gone_rows signed
@@ -67,14 +67,14 @@ module _ {R : Type 0} (remaining : R → Option (List ℕ)) (places : Places) (s
       → HasGiven d c remaining text given source
       → (records : List (List (List ℕ))) × AreRows d c text (given ++ records) × PartedBehind places gone new_gone come new_come records
 
--- what a text says as changes: the names of its columns in its header, or numbers where it has none, and for each record behind the header
+-- what a text says as changes: the names of its columns in its header, or numbers where it has none, and for each record after the header
 -- a row with its sign, which is the first cell of the record, and the cells under the names by which they are read
 abbrev pub AreChanges : Form → List ℕ → List (List ℕ) → List (List ℕ) → Columns → List SignedRow → Type 0
 AreChanges form text header names columns signed = (records : List (List (List ℕ))) × AreRows (delimiter_of form) (comment_of form) text records
     × HeadedBy form.has_header Changes records header
     × (map signed_parts signed ≡ map (signed_under names columns) (behind_header form.has_header records))
 
--- rows that go and rows that come stand behind others, which a text says
+-- rows that go and rows that come stand after others, which a text says
 abbrev pub PartsChanges : {R : Type 0} → (R → Option (List ℕ)) → Columns → Source R
     → List ReadRow → List ReadRow → List ReadRow → List ReadRow → Type 0
 PartsChanges remaining columns source gone new_gone come new_come = (form : Form) (text : List ℕ) (header : List (List ℕ))

@@ -29,8 +29,8 @@ use Rattle.keyed_files.specs.declared.written.Written.{Written}
 use Rattle.keyed_commands.specs.Answers.{IsTableText, TableRows, key_cmp}
 use Rattle.keyed_commands.specs.ComeOut.{AlikeIn, AlikePlace, AlikePlaces, AlikeRows, ComesOut, HasGroups}
 use Rattle.keyed_commands.specs.TablesRead.{IsUnordered, ReadsTable, SaysTable}
-use Rattle.keyed_commands.specs.declared.answers.Answer.{Answer}
-use Rattle.keyed_commands.specs.declared.answers.Outcome.TheVariants.{Made}
+use Rattle.keyed_commands.specs.declared.answer.Answer.{Answer}
+use Rattle.keyed_commands.specs.declared.answer.Outcome.TheVariants.{Made}
 use Rattle.keyed_commands.specs.declared.job.Job.{Job}
 
 -- what a row of a join has: a cell before its key, if there is one, and the rows of each side
@@ -107,7 +107,7 @@ abbrev pub heading_of_join : Form → List (List ℕ) → List (List (List ℕ))
 heading_of_join form names = if writes_heading form then join_heading names else []
 
 module _ (form : Form) (columns : JoinColumns) (names : List (List ℕ)) (noted : Option (List (List (List ℕ)))) (by_cells : Bool) where
-  -- a text has the rows of a join as they come out, behind its header
+  -- a text has the rows of a join as they come out, after its header
   abbrev pub IsTextOfJoin : {V : Type 0} → (V → RowSides) → (V → V → Type 0) → List (List (List ℕ) × V) → List ℕ → Type 0
   IsTextOfJoin {V} shows alike rows text = (shown : List (List (List ℕ) × V)) × ComesOut noted by_cells alike rows shown
       × (text ≡ quoted_text form (heading_of_join form names ++ join_rows columns shows shown))

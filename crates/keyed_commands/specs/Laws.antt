@@ -1,5 +1,5 @@
 -- What follows of the answers of commands.
-use Rattle.std.specs.Prelude.{◌≡◌, ◌≢◌, ℕ, Bool, true, List, ◌∷◌, Option}
+use Rattle.std.specs.Prelude.{◌≡◌, ℕ, Bool, true, List, ◌∷◌, Option}
 use Rattle.either_or_both.specs.Join.{Rising}
 use Rattle.eob_joins.specs.Changes.{applied, changed}
 use Rattle.eob_joins.specs.Tables.{IsKeptOfJoin}
@@ -9,7 +9,7 @@ use Rattle.keyed_files.specs.Writing.{comment_of, delimiter_of}
 use Rattle.keyed_files.specs.declared.columns.Columns.{Columns}
 use Rattle.keyed_files.specs.declared.request.Form.{Form}
 use Rattle.keyed_text.specs.Texts.{BeginsComments, PartsCells, ReadsAs}
-use Rattle.keyed_commands.specs.declared.answers.Answer.{Answer}
+use Rattle.keyed_commands.specs.declared.answer.Answer.{Answer}
 use Rattle.keyed_commands.specs.Answers.{AllFit, AnswersPatched, AnswersTable, ChangesComeOut, IsDiffText, TableChanges, TableRows, key_cmp, rows_eq}
 use Rattle.keyed_commands.specs.ChangeRows.{changes_rows}
 
@@ -28,7 +28,7 @@ DiffApplyLaw = (form : Form) (columns : Columns) (noted : Option (List (List (Li
     → Rising key_cmp old → Rising key_cmp new → IsKeptOfJoin key_cmp (changed rows_eq) old new changes
     → (AllFit key_cmp old changes → AnswersPatched form columns noted by_cells old changes answer) → AnswersTable form columns noted by_cells new answer
 
--- a text of changes reads as its heading and the rows of the changes, each behind its sign, and as nothing else
+-- a text of changes reads as its heading and the rows of the changes, each after its sign, and as nothing else
 abbrev pub DiffReadsLaw : Type 0
 DiffReadsLaw = (form : Form) (columns : Columns) (noted : Option (List (List (List ℕ)))) (by_cells : Bool) (marked : List (List ℕ)) (old new : TableRows) (text : List ℕ)
     → writes_heading form ≡ true → PartsCells (delimiter_of form) → BeginsComments (delimiter_of form) (comment_of form)

@@ -25,7 +25,7 @@ use Rattle.keyed_files.specs.declared.source.Source.{Source}
 use Rattle.keyed_files.specs.declared.written.Written.{Written}
 use Rattle.keyed_rows.specs.declared.row.ReadRow.{ReadRow}
 use Rattle.keyed_commands.specs.JoinAnswers.{heading_of_join}
-use Rattle.keyed_commands.specs.declared.lookups.Found.{Found}
+use Rattle.keyed_commands.specs.declared.commands.lookup.Found.{Found}
 
 -- whether two keys have the same cells
 abbrev pub key_eq : List (List ℕ) → List (List ℕ) → Bool
@@ -55,11 +55,11 @@ module _ (columns : JoinColumns) where
   abbrev pub shown_rows : LookupKind → List (List (List ℕ) × List (List ℕ) × Option Found) → List (List (List ℕ))
   shown_rows kind rows = flat_map (shown_row kind) rows
 
--- the texts of parts of rows, one behind the other
+-- the texts of parts of rows, one after the other
 abbrev pub parts_text : Form → List (List (List (List ℕ))) → List ℕ
 parts_text form parts = flat_map (quoted_text form) parts
 
--- rows are written behind the bytes that are there, in parts: each part as a text
+-- rows are written after the bytes that are there, in parts: each part as a text
 abbrev pub AppendsRows : Form → List (List (List ℕ)) → Option (List ℕ) → Option (List ℕ) → Type 0
 AppendsRows form rows old new = (parts : List (List (List (List ℕ)))) × (flat_map (λ part. part) parts ≡ rows) × Appends old new (parts_text form parts)
 
@@ -81,7 +81,7 @@ as_row row = record { key = row.0; line = 0; cells = row.1 }
 abbrev pub as_rows : List (List (List ℕ) × List (List ℕ)) → List ReadRow
 as_rows rows = map as_row rows
 
--- what is written of two texts: each says a table, in the right one each key stands once, and behind a header that has no name twice come
+-- what is written of two texts: each says a table, in the right one each key stands once, and after a header that has no name twice come
 -- the rows of the left one in their order, with what the right one has under their keys
 pub record LooksUpTexts (layout : Layout) (how : Finding) (left_form right_form : Form) (left_text right_text : List ℕ) (old new : Option (List ℕ)) : Type 0 where
   pub columns : JoinColumns
@@ -104,13 +104,13 @@ module _ {R : Type 0} (remaining : R → Option (List ℕ)) where
   ReadsPart false places old new rows = ReadsOn remaining places old new [] rows
 
   module _ (form : Form) (kind : LookupKind) (columns : JoinColumns) (find : List (List ℕ) → Option (List (List ℕ))) (places : Places) where
-    -- whatever rows are not written yet, they are written with those of the next part behind them
+    -- whatever rows are not written yet, they are written with those of the next part after them
     abbrev pub WritesPart : Bool → Source R → Source R → Written → Option (List ℕ) → Option (List ℕ) → Type 0
     WritesPart is_last source next written old new = (pending : List (List (List ℕ))) → Wrote form pending written
         → (rows : List (List (List ℕ) × List (List ℕ))) × ReadsPart is_last places source next (as_rows rows)
         × Appends old new (quoted_text form (pending ++ lookup_rows columns kind find rows))
 
-    -- all that a source has left is read, and written behind other rows
+    -- all that a source has left is read, and written after other rows
     abbrev pub WritesBehind : List (List (List ℕ)) → Source R → Option (List ℕ) → Option (List ℕ) → Type 0
     WritesBehind pending source old new = (rows : List (List (List ℕ) × List (List ℕ))) × ReadsRest remaining places source [] (as_rows rows)
         × AppendsRows form (pending ++ lookup_rows columns kind find rows) old new

@@ -17,7 +17,7 @@ use Rattle.keyed_files.specs.declared.request.Settings.{Settings}
 use Rattle.keyed_files.specs.declared.source.Content.TheVariants.{Rows}
 use Rattle.keyed_commands.specs.Answers.{AnswersMerged, AnswersMergedByCell, HasConflict, HasNoConflict, HasNoneStuck, HasStuck, Stops, TableRows}
 use Rattle.keyed_commands.specs.TablesRead.{AreNamesBy, IsUnordered, ReadsTable, SaysTable}
-use Rattle.keyed_commands.specs.declared.answers.Answer.{Answer}
+use Rattle.keyed_commands.specs.declared.answer.Answer.{Answer}
 use Rattle.keyed_commands.specs.declared.job.Job.{Job}
 
 -- a merge is reported: numbers are compared as they are written, and rows in conflict are not put between marks

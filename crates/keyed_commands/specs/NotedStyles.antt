@@ -7,9 +7,9 @@ use Rattle.keyed_text.specs.declared.style.LineEnd.TheVariants.{CrLf, Lf}
 use Rattle.keyed_text.specs.declared.style.Style.{Style}
 use Rattle.keyed_files.specs.declared.writing.Heading.{Heading}
 use Rattle.keyed_files.specs.declared.writing.Heading.TheVariants as heading
-use Rattle.keyed_commands.specs.declared.watched.FirstEnd.{FirstEnd}
-use Rattle.keyed_commands.specs.declared.watched.FirstEnd.TheVariants as first
-use Rattle.keyed_commands.specs.declared.watched.Noted.{Noted}
+use Rattle.keyed_commands.specs.declared.styles.FirstEnd.{FirstEnd}
+use Rattle.keyed_commands.specs.declared.styles.FirstEnd.TheVariants as first
+use Rattle.keyed_commands.specs.declared.styles.Noted.{Noted}
 
 -- quotes everywhere, where a cell of the first row has quotes and none lacks them
 abbrev pub noted_quotes : Noted → CellQuotes
@@ -27,7 +27,7 @@ abbrev pub ends_row : Option ℕ → Bool
 ends_row None = true
 ends_row (Some byte) = (byte == 10) || (byte == 13)
 
--- the style of an answer that is written as a table is: one with no heading stands behind other CSV, and so has no byte order mark
+-- the style of an answer that is written as a table is: one with no heading stands after other CSV, and so has no byte order mark
 abbrev pub style_under : Heading → Style → Style
 style_under heading.Written style = style
 style_under heading.Omitted style = record style { has_mark = false }

@@ -1,17 +1,19 @@
 -- What a merge keeps of what one side alone changed.
 use Rattle.std.specs.Prelude.{◌≡◌, ℕ, List}
-use Rattle.eob_lists.specs.Join.{value_under}
+use Rattle.eob_lists.specs.Join.{Rising, value_under}
 use Rattle.keyed_files.specs.AnswerForm.{in_style}
 use Rattle.keyed_files.specs.declared.request.Form.{Form}
 use Rattle.keyed_files.specs.declared.request.Settings.{Settings}
 use Rattle.keyed_files.specs.declared.merging.Unit.TheVariants as unit
 use Rattle.keyed_commands.specs.Answers.{IsTableText, TableRows, key_cmp}
 use Rattle.keyed_commands.specs.MergedTexts.{MergesTexts}
-use Rattle.keyed_commands.specs.declared.answers.Answer.{Answer}
-use Rattle.keyed_commands.specs.declared.answers.Outcome.TheVariants.{Made}
+use Rattle.keyed_commands.specs.declared.answer.Answer.{Answer}
+use Rattle.keyed_commands.specs.declared.answer.Outcome.TheVariants.{Made}
 
--- rows have, under each key at which one of two versions is as their base is, what the other one has
+-- rows have, under each key at which one of two versions is as their base is, what the other one has; each key stands once, and they are in
+-- the order of their keys
 pub record KeepsOneSide (base ours theirs rows : TableRows) : Type 0 where
+  pub rises : Rising key_cmp rows
   pub ours_alone : (key : List (List ℕ)) → value_under key_cmp theirs key ≡ value_under key_cmp base key
       → value_under key_cmp rows key ≡ value_under key_cmp ours key
   pub theirs_alone : (key : List (List ℕ)) → value_under key_cmp ours key ≡ value_under key_cmp base key

@@ -23,11 +23,11 @@ use Rattle.keyed_files.specs.declared.source.Content.TheVariants.{Rows}
 use Rattle.keyed_commands.specs.Answers.{IsTableText, TableRows, key_cmp}
 use Rattle.keyed_commands.specs.AppliedTexts.{watched_left}
 use Rattle.keyed_commands.specs.TablesRead.{AreNames, IsUnordered, ReadsTable, SaysTable}
-use Rattle.keyed_commands.specs.declared.answers.Answer.{Answer}
-use Rattle.keyed_commands.specs.declared.answers.Outcome.TheVariants.{Made}
+use Rattle.keyed_commands.specs.declared.answer.Answer.{Answer}
+use Rattle.keyed_commands.specs.declared.answer.Outcome.TheVariants.{Made}
 use Rattle.keyed_commands.specs.declared.job.Job.{Job}
-use Rattle.keyed_commands.specs.declared.layers.Laid.{Laid}
-use Rattle.keyed_commands.specs.declared.watched.Watched.{Watched}
+use Rattle.keyed_commands.specs.declared.commands.overlay.Laid.{Laid}
+use Rattle.keyed_commands.specs.declared.styles.Watched.{Watched}
 
 -- what stands under a key that two tables have, one over the other: the rows of the upper one, or the cells of both
 abbrev pub laid_rows : Layer → EitherOrBoth (List (List (List ℕ))) (List (List (List ℕ))) → List (List (List ℕ))

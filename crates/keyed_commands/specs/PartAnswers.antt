@@ -11,7 +11,7 @@ use Rattle.keyed_commands.specs.declared.sorted.ChangesForm.{ChangesForm}
 use Rattle.keyed_commands.specs.declared.sorted.ChangesForm.TheVariants as way
 use Rattle.keyed_commands.specs.declared.sorted.PartAnswer.{PartAnswer}
 
--- the changes between a part of one table and that of another, by key, behind the heading of changes where there is one; the status is 0
+-- the changes between a part of one table and that of another, by key, after the heading of changes where there is one; the status is 0
 -- exactly where there are none, and else 1
 pub record SaysChanges (form : Form) (columns : Columns) (marked : List (List ℕ)) (old new : TableRows) (answer : PartAnswer) : Type 0 where
   pub changes : TableChanges

@@ -17,7 +17,7 @@ use Rattle.keyed_rows.specs.declared.row.ReadRow.{ReadRow}
 use Rattle.keyed_tables.specs.Arranged.{noted}
 use Rattle.keyed_tables.specs.Gathered.{AreInOrder, HoldsRows}
 use Rattle.keyed_commands.specs.Answers.{IsDiffText, TableRows, key_cmp, status_of}
-use Rattle.keyed_commands.specs.declared.answers.Answer.{Answer}
+use Rattle.keyed_commands.specs.declared.answer.Answer.{Answer}
 use Rattle.keyed_commands.specs.declared.job.Job.{Job}
 
 -- the rows of a file by key: each once, and one under a key, or all of a key in the order of their cells where these are groups

@@ -19,8 +19,8 @@ use Rattle.keyed_commands.specs.Answers.{IsTableText, TableChanges, TableRows, k
 use Rattle.keyed_commands.specs.AppliedTexts.{AppliesTexts}
 use Rattle.keyed_commands.specs.ChangesRead.{SaysChanges}
 use Rattle.keyed_commands.specs.TablesRead.{DiffsTexts, SaysTable}
-use Rattle.keyed_commands.specs.declared.answers.Answer.{Answer}
-use Rattle.keyed_commands.specs.declared.answers.Outcome.TheVariants.{Made}
+use Rattle.keyed_commands.specs.declared.answer.Answer.{Answer}
+use Rattle.keyed_commands.specs.declared.answer.Outcome.TheVariants.{Made}
 
 -- a text says one table
 abbrev pub OneTableLaw : Type 0
@@ -55,7 +55,7 @@ NamesOnce form text = (header : List (List ℕ)) (rows : List (List (List ℕ)))
 abbrev pub MakesTable : Form → Columns → TableRows → Answer → Type 0
 MakesTable form columns table answer = (answer.status ≡ 0) × (answer.outcome ≡ Made) × IsTableText form columns None true table answer.bytes.items
 
--- the rows that a table is written as, behind its header
+-- the rows that a table is written as, after its header
 abbrev pub table_text_rows : Form → Columns → TableRows → List (List (List ℕ))
 table_text_rows form columns table = heading form None columns ++ table_rows columns.order.items table
 
@@ -63,13 +63,12 @@ table_text_rows form columns table = heading form None columns ++ table_rows col
 abbrev pub SaysOnly : Form → Bool → List ℕ → List (List ℕ) → Columns → TableRows → Type 0
 SaysOnly form groups text names columns table = (other : TableRows) → SaysTable form Rows groups text names names columns other → other ≡ table
 
--- an answer is the file, in a style, of the table that a text says, under the names of its header, or under others where it has none; read
--- again, it says that table and no other, where it has a column and the text of its rows begins with no mark of an encoding
-pub record AnswersTableOf (settings : Settings) (form : Form) (text : List ℕ) (others : List (List ℕ)) (answer : Answer) : Type 0 where
+-- an answer is the file, in this style, of the table that a text says under these columns, with the names of its header, or with others
+-- where it has none; read again, it says that table and no other, where it has a column and the text of its rows begins with no mark of an
+-- encoding
+pub record AnswersTableOf (settings : Settings) (style : Style) (columns : Columns) (form : Form) (text : List ℕ) (others : List (List ℕ)) (answer : Answer) : Type 0 where
   pub header : List (List ℕ)
-  pub columns : Columns
   pub table : TableRows
-  pub style : Style
   pub names : placed columns.order.items columns.key columns.rest ≡ or_header header others
   pub says : SaysTable form Rows settings.groups text header header columns table
   pub answers : MakesTable (in_style style settings.form) columns table answer
@@ -87,7 +86,7 @@ DiffedTextByLaw = (settings : Settings) (old_form new_form : Form) (old_text new
     → (diffs : DiffsTexts settings old_form new_form old_text new_text difference)
     → (applies : AppliesTexts settings old_form settings.form old_text difference.bytes.items answer)
     → applies.names ≡ diffs.names → repeats [] diffs.names ≡ false → applies.columns.key ≡ diffs.columns.key
-    → AnswersTableOf settings new_form new_text diffs.names answer
+    → AnswersTableOf settings applies.applied.style applies.columns new_form new_text diffs.names answer
 
 -- the same where the key is the first column, and no column has another name
 abbrev pub DiffedTextLaw : Type 0
@@ -98,4 +97,4 @@ DiffedTextLaw = (settings : Settings) (old_form new_form : Form) (old_text new_t
     → settings.key ≡ None → settings.renames ≡ None
     → (diffs : DiffsTexts settings old_form new_form old_text new_text difference)
     → (applies : AppliesTexts settings old_form settings.form old_text difference.bytes.items answer)
-    → AnswersTableOf settings new_form new_text diffs.names answer
+    → AnswersTableOf settings applies.applied.style applies.columns new_form new_text diffs.names answer

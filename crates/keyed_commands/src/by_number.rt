@@ -310,7 +310,7 @@ fn one_row(rows: &[Cells]) -> Option<&Cells>
     }
 }
 
-// A row with no others behind it.
+// A row with no others after it.
 fn only_row<'a>(row: &'a Cells, rest: &[Cells]) -> Option<&'a Cells>
     ensures { option_map (λ row. row.now) result ≡ only_row row.now rest.now }
 {

@@ -1,6 +1,6 @@
 //! What is to stand in a file: it is written into a draft beside the file, which takes the file's place once it is whole.
 //!
-//! The draft of `out` is `.out.keyed-PROCESS-NUMBER`. A process that a signal ends leaves its draft behind. The next one that writes the
+//! The draft of `out` is `.out.keyed-PROCESS-NUMBER`. A process that a signal ends leaves its draft after. The next one that writes the
 //! same file takes it away, since no process has its number, and leaves the drafts of those that still run.
 
 use keyed_files::Reason;
@@ -203,7 +203,7 @@ fn check_writable<R: Files>(rt: &R, file: &str) -> Result<(), Reason> {
     }
 }
 
-// The name of a file behind all links, so that a link stays one.
+// The name of a file after all links, so that a link stays one.
 fn real_name<R: Files + AllocGlobal>(rt: &R, file: &str) -> Result<String, Reason> {
     match fs::canonicalize(rt, file) {
         Ok(path) => Ok(String::from_str(rt.alloc(), path.as_str())?),
@@ -214,7 +214,7 @@ fn real_name<R: Files + AllocGlobal>(rt: &R, file: &str) -> Result<String, Reaso
     }
 }
 
-// The name of a file that is not there, behind all links that lead to it.
+// The name of a file that is not there, after all links that lead to it.
 fn end_of_links<R: Files + AllocGlobal>(rt: &R, file: &str) -> Result<String, Reason> {
     let mut place = String::from_str(rt.alloc(), file)?;
     for _ in 0..LINKS {

@@ -1,11 +1,14 @@
 //! From the files that a request names to its answer.
 ghost use Rattle.std.specs.Prelude.{◌≡◌, ◌++◌, ◌∷◌, [], OnOk};
 
-use crate::answers::{Answer, apply, diff, merge};
+use crate::answer::Answer;
+use crate::commands::apply::apply;
+use crate::commands::diff::diff;
+use crate::commands::join::join;
+use crate::commands::lookup::lookup;
+use crate::commands::merge::merge;
+use crate::commands::overlay::overlay;
 use crate::finished::Finished;
-use crate::joined::join;
-use crate::layers::overlay;
-use crate::lookups::lookup;
 use crate::sorted::{diff_sorted, join_sorted};
 use either_or_both::Either;
 use keyed_files::{
@@ -95,7 +98,7 @@ pub fn answer_overlay<'a, R: Files + Input + AllocGlobal>(
     overlay(alloc, settings, request.layer, tables)
 }
 
-/// Puts an item behind the others. The error of `push` holds the item, and so is none that a fault can be of.
+/// Puts an item after the others. The error of `push` holds the item, and so is none that a fault can be of.
 ///
 /// # Errors
 ///

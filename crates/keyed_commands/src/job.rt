@@ -121,7 +121,7 @@ impl<'c, C> Job<'c, C> {
         self.take_rows(table.file, rows)
     }
 
-    // Reads the rows of a table that is merged into the one before it: each that this one lacks comes out behind the row that it follows.
+    // Reads the rows of a table that is merged into the one before it: each that this one lacks comes out after the row that it follows.
     fn read_beside<'a, R: Read + Drop>(
         &mut self,
         columns: &Columns,
@@ -238,7 +238,7 @@ impl Job<'_, Columns> {
         Ok((first, next))
     }
 
-    /// Reads the rows of two versions of a table that are merged: those that only the second has come out behind the rows that they follow
+    /// Reads the rows of two versions of a table that are merged: those that only the second has come out after the rows that they follow
     /// there.
     ///
     /// # Errors
@@ -320,7 +320,7 @@ fn row_order_of(alloc: Global, settings: Settings<'_>) -> RowOrder
     }
 }
 
-// Reads the rows behind those that are there.
+// Reads the rows after those that are there.
 fn read_rows<R: Read + Drop>(
     table: &mut Opened<'_, R>,
     columns: &Columns,
@@ -337,7 +337,7 @@ fn read_rows<R: Read + Drop>(
     Ok(())
 }
 
-// Reads the rows that a source has left, behind those that are there. No input has more of them than a number counts.
+// Reads the rows that a source has left, after those that are there. No input has more of them than a number counts.
 fn read_rest<R: Read + Drop>(
     source: &mut Source<R>,
     places: &Places,
@@ -357,7 +357,7 @@ fn read_rest<R: Read + Drop>(
     Err(Reason::NoMemory)
 }
 
-// Reads the rows that go behind those that are there, and so those that come.
+// Reads the rows that go after those that are there, and so those that come.
 fn read_signed<R: Read + Drop>(
     changes: &mut Opened<'_, R>,
     columns: &Columns,
@@ -374,7 +374,7 @@ fn read_signed<R: Read + Drop>(
     Ok(())
 }
 
-// Reads the changes that a source has left, behind those that are there. No input has more of them than a number counts.
+// Reads the changes that a source has left, after those that are there. No input has more of them than a number counts.
 fn read_signed_rest<R: Read + Drop>(
     source: &mut Source<R>,
     places: &Places,
@@ -396,7 +396,7 @@ fn read_signed_rest<R: Read + Drop>(
     Err(Reason::NoMemory)
 }
 
-// Puts a row of changes behind those that go or those that come.
+// Puts a row of changes after those that go or those that come.
 fn note_and_part(
     order: &mut Order,
     gone: &mut Vec<ReadRow>,
@@ -414,7 +414,7 @@ fn note_and_part(
     }
 }
 
-// Takes the key of a row, and puts the row behind the others.
+// Takes the key of a row, and puts the row after the others.
 fn note_and_push(order: &mut Order, rows: &mut Vec<ReadRow>, row: ReadRow) -> Result<(), AllocError>
     ensures noted { OnOk result
         (IsNoted ⟦<Key as Ord>⟧.cmp ⟦<Key as Eq>⟧.eq row.key (noted order.old) (noted order.new)) }

@@ -1,19 +1,11 @@
 //! What follows of the answers of commands, of tables in memory and of texts. Calling one of these functions does nothing: its contract
 //! gives the caller's proof the law.
-ghost use Rattle.keyed_commands.specs.Laws.{ChangesFitLaw, ChangesMakeLaw, DiffApplyLaw, DiffReadsLaw};
+ghost use Rattle.keyed_commands.specs.Laws.{DiffReadsLaw};
 ghost use Rattle.keyed_commands.specs.OneSide.{OneSideLaw};
 ghost use Rattle.keyed_commands.specs.TextLaws.{DiffSaysLaw, DiffedTextByLaw, DiffedTextLaw};
 ghost use Rattle.keyed_commands.specs.TextLaws.{OneChangesLaw, OneTableLaw};
 
-/// The changes between two tables fit the old one, and made to it they give the new one: what `apply` answers to them is the text of the
-/// new table's rows. Call it where changes that `diff` found are applied.
-pub fn law_diff_apply()
-    ensures fit { ChangesFitLaw }
-    ensures make { ChangesMakeLaw }
-    ensures answer { DiffApplyLaw }
-{}
-
-/// The text that `diff` writes reads as its heading and the rows of the changes, each behind its sign, and as nothing else. Call it where
+/// The text that `diff` writes reads as its heading and the rows of the changes, each after its sign, and as nothing else. Call it where
 /// such a text is read.
 pub fn law_diff_reads()
     ensures { DiffReadsLaw }
@@ -33,9 +25,9 @@ pub fn law_diff_says()
 {}
 
 /// What `apply` answers of the first of two texts, and of what `diff` wrote between both, is the text of the table that the second one
-/// says, in the order of its keys, and no cell is lost. Each text has a header, in which no name stands twice, and both commands read the
-/// first text under the same names and by the same key, as they do where the key is the first column and no column has another name. Call it
-/// where changes that `diff` wrote are applied to the text that they are from.
+/// says under the columns of both, in the order of its keys, and no cell is lost. Each text has a header, in which no name stands twice,
+/// and both commands read the first text under the same names and by the same key, as they do where the key is the first column and no
+/// column has another name. Call it where changes that `diff` wrote are applied to the text that they are from.
 pub fn law_diff_apply_texts()
     ensures by { DiffedTextByLaw }
     ensures plain { DiffedTextLaw }
@@ -43,7 +35,8 @@ pub fn law_diff_apply_texts()
 
 /// What one side alone changed stands in the table that `merge` makes of three texts row by row, whatever the texts are: under each key at
 /// which one version has what the base has, or lacks what it lacks, the table has what the other version has, and lacks what that lacks.
-/// Call it where three texts are merged, and the answer is a table and no report.
+/// Its rows are in the order of their keys, and each key stands once. Call it where three texts are merged, and the answer is a table and
+/// no report.
 pub fn law_one_side()
     ensures { OneSideLaw }
 {}

@@ -83,7 +83,7 @@ pub fn write_marked(
     Ok(job.form.writing.style.finish(job.alloc, given)?)
 }
 
-// A text in the making: bytes that stay as they are, and rows behind them.
+// A text in the making: bytes that stay as they are, and rows after them.
 #[derive(Drop)]
 struct Text {
     bytes: Vec<u8>,
@@ -91,7 +91,7 @@ struct Text {
 }
 
 impl Text {
-    // The text with the rows under a key behind it.
+    // The text with the rows under a key after it.
     fn with_rows(
         mut self,
         job: &Job<'_, Columns>,
@@ -112,7 +112,7 @@ impl Text {
         })
     }
 
-    // The text with a line behind it that is no row, and so has no quotes in any style.
+    // The text with a line after it that is no row, and so has no quotes in any style.
     fn with_line(self, job: &Job<'_, Columns>, line: &str) -> Result<Self, Reason> {
         let mut text = self.flushed(job)?;
         text.bytes.extend_from_slice(line.as_bytes())?;
@@ -121,7 +121,7 @@ impl Text {
         Ok(text)
     }
 
-    // The text with the versions of a row in conflict behind it, each behind a mark.
+    // The text with the versions of a row in conflict after it, each after a mark.
     fn with_versions(
         self,
         job: &Job<'_, Columns>,
@@ -142,7 +142,7 @@ impl Text {
         text.with_line(job, ">>>>>>> theirs")
     }
 
-    // The text with the rows of one version behind it, if it has any.
+    // The text with the rows of one version after it, if it has any.
     fn with_version(
         self,
         job: &Job<'_, Columns>,

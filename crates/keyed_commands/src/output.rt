@@ -1,6 +1,6 @@
 //! Answers that go into files: each is written into a file beside the one that is named, which takes its place once the answer is whole.
 
-use crate::answers::{Answer, Outcome};
+use crate::answer::{Answer, Outcome};
 use crate::draft::Draft;
 use crate::files::{answer_overlay, answer_request, write_command, write_whole};
 use crate::finished::Finished;

@@ -15,11 +15,11 @@ ghost use Rattle.keyed_commands.specs.SortedParts.{IsLesser, ReadsNext, TakesPar
 ghost use Rattle.keyed_commands.specs.TablesRead.{Gathers};
 
 use crate::by_number::changed_by_number;
+use crate::changes::write_changes;
+use crate::commands::join::JoinForm;
+use crate::commands::join_json::write_join;
 use crate::finished::{Finished, SideCounts, StreamCounts};
 use crate::job::{Job, Table};
-use crate::joined::JoinForm;
-use crate::joined_json::write_join;
-use crate::written::write_changes;
 use eob_joins::Change;
 use keyed_files::{
     ColumnChanges, Columns, Content, Decimal, Fault, Heading, JoinColumns, Joining, Layout,

@@ -9,7 +9,7 @@ use Rattle.keyed_files.specs.Names.{repeats}
 use Rattle.keyed_files.specs.Rows.{placed}
 use Rattle.command_callers.proofs.KnownApply.{apply_whole, known_changes}
 use Rattle.command_callers.proofs.KnownTables.{known_text}
-use Rattle.command_callers.proofs.Texts.{change_id_a, from_x_to_y, id_a, minus_one_x, one_x, plus_one_y, with_x}
+use Rattle.command_callers.proofs.LiteralTexts.{change_id_a, from_x_to_y, id_a, minus_one_x, one_x, plus_one_y, with_x}
 use Rattle.command_callers.proofs.applied.Goals as goal
 
 pub returns : goal.returns

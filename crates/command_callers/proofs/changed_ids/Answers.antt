@@ -9,7 +9,7 @@ use Rattle.keyed_files.specs.Names.{repeats}
 use Rattle.keyed_files.specs.Rows.{placed}
 use Rattle.command_callers.proofs.KnownApply.{apply_whole, known_changes}
 use Rattle.command_callers.proofs.KnownTables.{known_text}
-use Rattle.command_callers.proofs.Texts.{change_id, from_two_to_three, id, ids, minus_two, one, plus_three, two}
+use Rattle.command_callers.proofs.LiteralTexts.{change_id, from_two_to_three, id, ids, minus_two, one, plus_three, two}
 use Rattle.command_callers.proofs.changed_ids.Goals as goal
 
 pub returns : goal.returns

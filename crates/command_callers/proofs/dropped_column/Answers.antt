@@ -9,7 +9,7 @@ use Rattle.keyed_files.specs.Names.{repeats}
 use Rattle.keyed_files.specs.Rows.{placed}
 use Rattle.command_callers.proofs.KnownApply.{apply_whole, known_changes}
 use Rattle.command_callers.proofs.KnownTables.{known_text}
-use Rattle.command_callers.proofs.Texts.{change_id_without_a, id_a, minus_one_x, one_x, two_blank, with_x_and_blank, without_column}
+use Rattle.command_callers.proofs.LiteralTexts.{change_id_without_a, id_a, minus_one_x, one_x, two_blank, with_x_and_blank, without_column}
 use Rattle.command_callers.proofs.dropped_column.Goals as goal
 
 pub returns : goal.returns

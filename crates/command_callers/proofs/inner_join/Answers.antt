@@ -10,7 +10,7 @@ use Rattle.keyed_files.specs.Names.{repeats}
 use Rattle.keyed_files.specs.Rows.{placed}
 use Rattle.command_callers.proofs.KnownJoinText.{inner_bytes}
 use Rattle.command_callers.proofs.KnownTables.{known_text}
-use Rattle.command_callers.proofs.Texts.{id_a, id_b, one_x, three_w, two_y, two_z, with_x_and_y, with_z_and_w}
+use Rattle.command_callers.proofs.LiteralTexts.{id_a, id_b, one_x, three_w, two_y, two_z, with_x_and_y, with_z_and_w}
 use Rattle.command_callers.proofs.inner_join.Goals as goal
 
 pub returns-clause-status : goal.returns-clause-status

@@ -7,7 +7,7 @@ use Rattle.keyed_files.specs.ColumnNames.{distinct}
 use Rattle.keyed_files.specs.Names.{repeats}
 use Rattle.command_callers.proofs.KnownApply.{apply_loses, known_changes}
 use Rattle.command_callers.proofs.KnownTables.{known_text}
-use Rattle.command_callers.proofs.Texts.{change_id_without_a, id_a, minus_one_x, one_x, two_y, with_x_and_y, without_column}
+use Rattle.command_callers.proofs.LiteralTexts.{change_id_without_a, id_a, minus_one_x, one_x, two_y, with_x_and_y, without_column}
 use Rattle.command_callers.proofs.lost_cell.Goals as goal
 
 pub returns : goal.returns

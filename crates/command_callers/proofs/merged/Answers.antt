@@ -9,7 +9,7 @@ use Rattle.keyed_files.specs.Names.{repeats}
 use Rattle.keyed_files.specs.Rows.{placed}
 use Rattle.command_callers.proofs.KnownMerge.{merge_whole}
 use Rattle.command_callers.proofs.KnownTables.{known_text}
-use Rattle.command_callers.proofs.Texts.{id_a, one_x, one_y, two_z, with_x, with_x_and_z, with_y}
+use Rattle.command_callers.proofs.LiteralTexts.{id_a, one_x, one_y, two_z, with_x, with_x_and_z, with_y}
 use Rattle.command_callers.proofs.merged.Goals as goal
 
 pub returns : goal.returns

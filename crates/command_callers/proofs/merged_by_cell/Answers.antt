@@ -10,7 +10,7 @@ use Rattle.keyed_files.specs.Rows.{placed}
 use Rattle.keyed_tables.proofs.CellRowLemmas.{merged_map}
 use Rattle.command_callers.proofs.KnownMerge.{merge_cells}
 use Rattle.command_callers.proofs.KnownTables.{known_text}
-use Rattle.command_callers.proofs.Texts.{id_a_b, one_x_w, one_x_y, one_z_y, with_x_w, with_x_y, with_z_y}
+use Rattle.command_callers.proofs.LiteralTexts.{id_a_b, one_x_w, one_x_y, one_z_y, with_x_w, with_x_y, with_z_y}
 use Rattle.command_callers.proofs.merged_by_cell.Goals as goal
 
 pub returns : goal.returns

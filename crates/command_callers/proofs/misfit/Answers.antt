@@ -7,7 +7,7 @@ use Rattle.keyed_files.specs.ColumnNames.{distinct}
 use Rattle.keyed_files.specs.Names.{repeats}
 use Rattle.command_callers.proofs.KnownApply.{apply_stops, known_changes, some_none}
 use Rattle.command_callers.proofs.KnownTables.{known_text}
-use Rattle.command_callers.proofs.Texts.{change_id_a, id_a, minus_two_y, one_x, with_x, without_y}
+use Rattle.command_callers.proofs.LiteralTexts.{change_id_a, id_a, minus_two_y, one_x, with_x, without_y}
 use Rattle.command_callers.proofs.misfit.Goals as goal
 
 pub returns : goal.returns

@@ -9,7 +9,7 @@ use Rattle.keyed_files.specs.Names.{repeats}
 use Rattle.keyed_files.specs.Rows.{placed}
 use Rattle.command_callers.proofs.KnownDiff.{diff_bytes, diff_differs}
 use Rattle.command_callers.proofs.KnownTables.{known_text}
-use Rattle.command_callers.proofs.Texts.{id_a, id_b_a, one__x, one_x, two_z_y, with_column, with_x}
+use Rattle.command_callers.proofs.LiteralTexts.{id_a, id_b_a, one__x, one_x, two_z_y, with_column, with_x}
 use Rattle.command_callers.proofs.new_column.Goals as goal
 
 pub returns-clause-status : goal.returns-clause-status

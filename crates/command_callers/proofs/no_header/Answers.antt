@@ -9,7 +9,7 @@ use Rattle.keyed_files.specs.ColumnNames.{distinct}
 use Rattle.keyed_files.specs.Rows.{placed}
 use Rattle.command_callers.proofs.KnownDiff.{diff_bytes, diff_differs}
 use Rattle.command_callers.proofs.KnownTables.{bare_text}
-use Rattle.command_callers.proofs.Texts.{bare_x, bare_y, first_second, one_x, one_y}
+use Rattle.command_callers.proofs.LiteralTexts.{bare_x, bare_y, first_second, one_x, one_y}
 use Rattle.command_callers.proofs.no_header.Goals as goal
 
 pub returns-clause-status : goal.returns-clause-status

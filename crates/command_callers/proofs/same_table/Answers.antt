@@ -9,7 +9,7 @@ use Rattle.keyed_files.specs.Names.{repeats}
 use Rattle.keyed_files.specs.Rows.{placed}
 use Rattle.command_callers.proofs.KnownDiff.{diff_bytes, diff_same}
 use Rattle.command_callers.proofs.KnownTables.{known_text}
-use Rattle.command_callers.proofs.Texts.{id_a, one_x, with_x}
+use Rattle.command_callers.proofs.LiteralTexts.{id_a, one_x, with_x}
 use Rattle.command_callers.proofs.same_table.Goals as goal
 
 pub returns-clause-status : goal.returns-clause-status

@@ -10,7 +10,7 @@ use Rattle.keyed_files.specs.Names.{repeats}
 use Rattle.keyed_files.specs.Rows.{placed}
 use Rattle.command_callers.proofs.KnownJoinText.{outer_bytes}
 use Rattle.command_callers.proofs.KnownTables.{known_text}
-use Rattle.command_callers.proofs.Texts.{id_a, one_x, one_y, with_x, with_y}
+use Rattle.command_callers.proofs.LiteralTexts.{id_a, one_x, one_y, with_x, with_y}
 use Rattle.command_callers.proofs.shared_column.Goals as goal
 
 pub returns-clause-status : goal.returns-clause-status

@@ -7,7 +7,7 @@ use Rattle.keyed_files.specs.ColumnNames.{distinct}
 use Rattle.keyed_files.specs.Names.{repeats}
 use Rattle.command_callers.proofs.KnownApply.{apply_stops, different, known_changes, same_cell}
 use Rattle.command_callers.proofs.KnownTables.{known_text}
-use Rattle.command_callers.proofs.Texts.{change_id_a, from_z_to_y, id_a, minus_one_z, one_x, plus_one_y, with_x}
+use Rattle.command_callers.proofs.LiteralTexts.{change_id_a, from_z_to_y, id_a, minus_one_z, one_x, plus_one_y, with_x}
 use Rattle.command_callers.proofs.stale_change.Goals as goal
 
 pub returns : goal.returns

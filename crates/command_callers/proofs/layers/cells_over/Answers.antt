@@ -9,7 +9,7 @@ use Rattle.keyed_files.specs.Names.{repeats}
 use Rattle.keyed_files.specs.Rows.{placed}
 use Rattle.command_callers.proofs.KnownLayers.{of_two, overlay_whole}
 use Rattle.command_callers.proofs.KnownTables.{known_text}
-use Rattle.command_callers.proofs.Texts.{id_a_b, one__w, one_x_y, with__w, with_x_y}
+use Rattle.command_callers.proofs.LiteralTexts.{id_a_b, one__w, one_x_y, with__w, with_x_y}
 use Rattle.command_callers.proofs.layers.cells_over.Goals as goal
 
 pub returns : goal.returns

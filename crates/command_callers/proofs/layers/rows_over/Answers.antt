@@ -9,7 +9,7 @@ use Rattle.keyed_files.specs.Names.{repeats}
 use Rattle.keyed_files.specs.Rows.{placed}
 use Rattle.command_callers.proofs.KnownLayers.{of_two, overlay_whole}
 use Rattle.command_callers.proofs.KnownTables.{known_text}
-use Rattle.command_callers.proofs.Texts.{id_a, one_x, one_y, two_z, with_x, with_y_and_z}
+use Rattle.command_callers.proofs.LiteralTexts.{id_a, one_x, one_y, two_z, with_x, with_y_and_z}
 use Rattle.command_callers.proofs.layers.rows_over.Goals as goal
 
 pub returns : goal.returns

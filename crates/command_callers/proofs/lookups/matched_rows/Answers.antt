@@ -7,7 +7,7 @@ use Rattle.keyed_files.specs.Names.{repeats}
 use Rattle.keyed_files.specs.Rows.{placed}
 use Rattle.command_callers.proofs.KnownLookup.{adds_text}
 use Rattle.command_callers.proofs.KnownTables.{known_text}
-use Rattle.command_callers.proofs.Texts.{id_a, id_b, one_x, three_w, two_y, two_z, with_y_then_x, with_z_and_w}
+use Rattle.command_callers.proofs.LiteralTexts.{id_a, id_b, one_x, three_w, two_y, two_z, with_y_then_x, with_z_and_w}
 use Rattle.command_callers.proofs.lookups.matched_rows.Goals as goal
 
 pub returns-clause-bytes : goal.returns-clause-bytes

@@ -1,0 +1,82 @@
+//! Callers of the laws of commands: what a program knows by them of answers to texts that it knows when it is written.
+ghost use Rattle.std.specs.Prelude.{◌≡◌, ◌∷◌, [], IfOk, None, codes};
+ghost use Rattle.keyed_text.specs.Texts.{ReadsAs};
+ghost use Rattle.keyed_commands.specs.declared.answer.Outcome.TheVariants.{Made};
+ghost use Rattle.command_callers.specs.Answered.{IsFileOf, IsTableInStyle};
+
+use crate::{CHANGES, PLAIN};
+use keyed_commands::{
+    Answer, Fault, Merging, Stream, apply, diff, law_diff_apply_texts, law_diff_reads,
+    law_one_side, merge,
+};
+use std::alloc::Global;
+
+/// Returns the changes between two tables: whoever reads their text finds these rows, each after its sign, and no other.
+///
+/// # Errors
+///
+/// Returns the errors of `diff`.
+pub fn changes_read(alloc: Global) -> Result<Answer, Fault<'static>>
+    ensures { IfOk result (λ answer. ReadsAs 44 None answer.bytes.items
+        (codes "change" ∷ codes "id" ∷ codes "a" ∷ [])
+        ((codes "-" ∷ codes "1" ∷ codes "x" ∷ []) ∷ (codes "+" ∷ codes "1" ∷ codes "z" ∷ [])
+        ∷ (codes "-" ∷ codes "2" ∷ codes "y" ∷ []) ∷ (codes "+" ∷ codes "3" ∷ codes "w" ∷ []) ∷ [])) }
+{
+    let old = file!("old.csv", b"id,a\n1,x\n2,y\n");
+    let new = file!("new.csv", b"id,a\n3,w\n1,z\n");
+    law_diff_reads();
+    diff(alloc, PLAIN, CHANGES, old, new)
+}
+
+/// Returns a table with the changes made to it that `diff` wrote between it and another one: the file of the other table, with its rows in
+/// the order of their keys.
+///
+/// # Errors
+///
+/// Returns the errors of `diff` and of `apply`.
+pub fn changes_applied(alloc: Global) -> Result<Answer, Fault<'static>>
+    ensures { IfOk result (IsTableInStyle
+        ((codes "id" ∷ codes "a" ∷ []) ∷ (codes "1" ∷ codes "z" ∷ []) ∷ (codes "3" ∷ codes "w" ∷ []) ∷ [])
+        (codes "id,a\n1,z\n3,w\n")
+        (239 ∷ 187 ∷ 191 ∷ codes "\"id\",\"a\"\r\n\"1\",\"z\"\r\n\"3\",\"w\"")) }
+{
+    let settings = PLAIN;
+    let text = b"id,a\n1,x\n2,y\n".as_slice();
+    let old = Stream {
+        file: "old.csv",
+        delimiter: None,
+        reader: Ok(text),
+    };
+    let new = file!("new.csv", b"id,a\n3,w\n1,z\n");
+    let difference = diff(alloc, settings, CHANGES, old, new)?;
+    law_diff_apply_texts();
+    let table = Stream {
+        file: "old.csv",
+        delimiter: None,
+        reader: Ok(text),
+    };
+    let changes = Stream {
+        file: "changes.csv",
+        delimiter: None,
+        reader: Ok(difference.bytes.as_slice()),
+    };
+    apply(alloc, settings, table, changes)
+}
+
+/// Returns two versions of a table merged over their base, of which ours changed a row, and theirs removed one and added one. Where the
+/// answer is a table, each of these changes stands in it.
+///
+/// # Errors
+///
+/// Returns the errors of `merge`.
+pub fn one_side_each(alloc: Global) -> Result<Answer, Fault<'static>>
+    ensures { IfOk result (λ answer. answer.outcome ≡ Made → IsFileOf
+        ((codes "id" ∷ codes "a" ∷ []) ∷ (codes "1" ∷ codes "z" ∷ []) ∷ (codes "3" ∷ codes "w" ∷ []) ∷ [])
+        answer.bytes.items) }
+{
+    let base = file!("base.csv", b"id,a\n1,x\n2,y\n");
+    let ours = file!("ours.csv", b"id,a\n1,z\n2,y\n");
+    let theirs = file!("theirs.csv", b"id,a\n1,x\n3,w\n");
+    law_one_side();
+    merge(alloc, PLAIN, Merging::PLAIN, base, ours, theirs)
+}

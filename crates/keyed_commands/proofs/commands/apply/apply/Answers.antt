@@ -1,0 +1,25 @@
+use Rattle.std.proofs.Common.{refl, subst, sym}
+use Rattle.std.proofs.lemmas.Result.{IfOk-weaker}
+use Rattle.keyed_files.specs.Keys.{AreChangedColumnsBy}
+use Rattle.keyed_files.specs.Opening.{form_of, text_of_stream}
+use Rattle.keyed_files.specs.declared.columns.Columns.{Columns}
+use Rattle.keyed_commands.specs.AppliedTexts.{AppliesTexts, watched_left}
+use Rattle.keyed_commands.proofs.TextAnswerLemmas.{apply-streams, two-alike}
+use Rattle.keyed_commands.proofs.commands.apply.apply.Goals as goal
+
+pub returns : goal.returns
+returns g c =
+    let settings = c.args.settings in
+    let named = record c.in_ok-inputs.inputs { first = c.rename.new.self } in
+    let P : Columns → Type 0 = λ columns. AreChangedColumnsBy settings.key named.first.source.value.header.names named.next.source.value.header.names
+    named.next.source.value.header.gone columns in
+    IfOk-weaker c.apply_files.result _ _
+    (λ answer read. two-alike (λ f h t u. AppliesTexts settings f h t u answer)
+    (text_of_stream g.R.Read.remaining settings.form c.args.old) _ (text_of_stream g.R.Read.remaining settings.form c.args.changes) _
+    (form_of settings.form c.args.old) _ (form_of settings.form c.args.changes) _
+    c.watch-old.ensures.text c.watch-changes.ensures.text c.watch-old.ensures.form c.watch-changes.ensures.form
+    (apply-streams (watched_left g.R.Read.remaining) settings c.watch-old.result c.watch-changes.result c.in_ok-inputs.inputs
+    (record c.in_ok-inputs.inputs { first = c.rename.new.self }) c.new-2.result answer c.in_ok-inputs.ensures.first c.in_ok-inputs.ensures.next
+    c.in_ok-inputs.ensures.gone
+    c.in_ok-rename.ensures refl c.new-2.ensures.form c.new-2.ensures.groups c.new-2.ensures.unordered
+    (subst P (sym c.new-2.ensures.columns) c.in_ok-columns.ensures) read)) c.apply_files.ensures

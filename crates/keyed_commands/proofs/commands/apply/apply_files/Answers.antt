@@ -1,0 +1,32 @@
+use Rattle.std.proofs.Common.{subst}
+use Rattle.std.specs.Prelude.{is_none}
+use Rattle.std.proofs.lemmas.Result.{IfOk-weaker}
+use Rattle.keyed_files.specs.AnswerForm.{in_style}
+use Rattle.keyed_tables.specs.Arranged.{noted}
+use Rattle.keyed_commands.specs.AppliedTexts.{AnswersApplied}
+use Rattle.keyed_commands.proofs.commands.apply.apply_files.Goals as goal
+
+pub returns : goal.returns
+returns g c =
+    let tables = c.in_ok-tables.tables in
+    let job = c.read_to_change.new.self in
+    let style = c.style_under-style.result in
+    let read = c.in_ok-tables.ensures in
+    IfOk-weaker c.at.result _ _
+    (λ answer is. record {
+      old = tables.0.pairs.items;
+      changes = tables.1.pairs.items;
+      old_read = read.table;
+      changes_read = read.changes;
+      applied = record {
+        style = style;
+        keys = noted job.order;
+        by_cells = is_none job.row_order.files;
+        applied = subst (λ j. AnswersApplied (in_style style j.form) j.columns.now (noted job.order) (is_none job.row_order.files) tables.0.pairs.items tables.1.pairs.items answer)
+            read.same
+            (subst (λ j. AnswersApplied j.form j.columns.now (noted j.order) (is_none j.row_order.files) tables.0.pairs.items tables.1.pairs.items answer)
+            c.in_style-job.ensures
+            (record { fits = rw is at c.apply_tables.ensures.fits; misfits = rw is at c.apply_tables.ensures.misfits }));
+        order = λ unordered. let after = read.unordered unordered in (after.keys, after.rows);
+      };
+    }) c.at.ensures

@@ -1,0 +1,34 @@
+use Rattle.std.proofs.Common.{◌≡◌, ◌∙◌, ap, ap₂, subst}
+use Rattle.std.specs.Prelude.{is_none}
+use Rattle.std.proofs.lemmas.Result.{IfOk-weaker}
+use Rattle.keyed_files.specs.ChangedColumns.{marked_names}
+use Rattle.keyed_files.specs.Names.{compared}
+use Rattle.keyed_tables.specs.Arranged.{noted}
+use Rattle.keyed_commands.specs.Answers.{IsDiffText}
+use Rattle.keyed_commands.proofs.ReadLemmas.{status-between}
+use Rattle.keyed_commands.proofs.commands.diff.diff_files_as_csv.Goals as goal
+
+pub returns : goal.returns
+returns g c =
+    let tables = c.in_ok-tables.tables in
+    let marked = c.in_ok-marked.marked in
+    let job = c.read_both.new.self in
+    let read = c.in_ok-tables.ensures in
+    let headers = c.column_changes.ensures ∙ ap₂ (λ before after. compared before after) (ap (λ header. header.names) read.first_header) (ap (λ header. header.names) read.next_header) in
+    IfOk-weaker c.at.result _ _
+    (λ answer is. record {
+      old = tables.0.pairs.items;
+      new = tables.1.pairs.items;
+      old_read = read.first;
+      new_read = read.next;
+      changes = record {
+        marked = marked;
+        keys = noted job.order;
+        by_cells = is_none job.row_order.files;
+        changes = subst (λ j. IsDiffText j.form j.columns.now (noted job.order) (is_none job.row_order.files) marked tables.0.pairs.items tables.1.pairs.items answer.bytes.items)
+            read.same (rw is at c.diff_as_csv-answer.ensures.text);
+        order = λ unordered. let after = read.unordered unordered in (after.keys, after.rows);
+      };
+      marks = c.in_ok-marked.ensures ∙ ap₂ marked_names (ap (λ header. header.names) read.first_header) (ap (λ header. header.names) read.next_header);
+      status = status-between c.column_changes.result _ _ _ _ answer.status headers (rw is at c.diff_as_csv-answer.ensures.status);
+    }) c.at.ensures

@@ -1,0 +1,27 @@
+use Rattle.std.proofs.Common.{refl, subst}
+use Rattle.std.specs.Prelude.{is_none}
+use Rattle.keyed_tables.specs.Arranged.{noted}
+use Rattle.keyed_commands.specs.JoinAnswers.{IsJoinText}
+use Rattle.keyed_commands.proofs.commands.join.join_files.Goals as goal
+
+pub returns : goal.returns
+returns g c =
+    let tables = c.in_ok-tables.tables in
+    let form = c.args.form.now in
+    let job = c.read_sides.new.self in
+    let read = c.in_ok-tables.ensures in
+    λ csv. record {
+      left = tables.0.pairs.items;
+      right = tables.1.pairs.items;
+      left_read = read.left;
+      right_read = read.right;
+      join = record {
+        keys = noted job.order;
+        by_cells = is_none job.row_order.files;
+        join = subst (λ j. IsJoinText j.form j.columns.now form.header (noted job.order) (is_none job.row_order.files) form.kind tables.0.pairs.items tables.1.pairs.items c.in_ok-bytes.bytes.items)
+            read.same ((rw c.in_ok-bytes.ensures at c.write_join.ensures) csv);
+        order = λ unordered. let after = read.unordered unordered in (after.keys, after.rows);
+      };
+      status = refl;
+      outcome = refl;
+    }

@@ -1,0 +1,18 @@
+use Rattle.std.proofs.lemmas.Result.{on_ok_weaker}
+use Rattle.keyed_commands.specs.JoinAnswers.{heading_of_join}
+use Rattle.keyed_commands.specs.LookupAnswers.{WritesBehind, WritesRest, found_under}
+use Rattle.keyed_commands.proofs.commands.lookup.write_found.Goals as goal
+
+pub returns-clause-text : goal.returns-clause-text
+returns-clause-text g c =
+    let work = c.args.work.now in
+    let columns = work.columns.now in
+    let find = found_under work.found.entries in
+    let heading = heading_of_join work.form c.args.header.now in
+    let old = g.W.Write.contents c.args.output.now in
+    let new = g.W.Write.contents c.write_parts.new.output in
+    let source = c.args.left.now.source.value in
+    let wrote = rw c.in_ok-written.ensures at c.begin_lookup.ensures in
+    let Rest : Type 0 = WritesRest g.R.Read.remaining work.form work.kind columns find c.args.places.now source c.in_ok-written.written old new in
+    let Behind : Type 0 = WritesBehind g.R.Read.remaining work.form work.kind columns find c.args.places.now heading source old new in
+    on_ok_weaker {P = Rest} {Q = Behind} c.write_parts.result (λ rest. rest heading wrote) c.write_parts.ensures.text

@@ -1,0 +1,27 @@
+use Rattle.std.proofs.Common.{subst, sym}
+use Rattle.std.proofs.lemmas.Result.{IfOk-weaker}
+use Rattle.keyed_files.specs.Keys.{AreMergedColumnsBy}
+use Rattle.keyed_files.specs.Opening.{form_of, text_of_stream}
+use Rattle.keyed_files.specs.declared.columns.Columns.{Columns}
+use Rattle.keyed_commands.specs.AppliedTexts.{watched_left}
+use Rattle.keyed_commands.specs.MergedTexts.{MergesTexts}
+use Rattle.keyed_commands.proofs.TextAnswerLemmas.{merge-streams, three-alike}
+use Rattle.keyed_commands.proofs.commands.merge.merge.Goals as goal
+
+pub returns : goal.returns
+returns g c =
+    let settings = c.args.settings in
+    let sides = c.in_ok-sides.sides in
+    let P : Columns → Type 0 = λ columns. AreMergedColumnsBy settings.key c.rename.new.self.source.value.header.names
+    sides.first.source.value.header.names sides.next.source.value.header.names columns in
+    IfOk-weaker c.merge_files.result _ _
+    (λ answer read reported. three-alike (λ f h k t u v. MergesTexts c.args.how.unit settings f h k t u v answer)
+    (text_of_stream g.R.Read.remaining settings.form c.args.base) _ (text_of_stream g.R.Read.remaining settings.form c.args.ours) _
+    (text_of_stream g.R.Read.remaining settings.form c.args.theirs) _
+    (form_of settings.form c.args.base) _ (form_of settings.form c.args.ours) _ (form_of settings.form c.args.theirs) _
+    c.watch-base.ensures.text c.watch-ours.ensures.text c.watch-theirs.ensures.text
+    c.watch-base.ensures.form c.watch-ours.ensures.form c.watch-theirs.ensures.form
+    (merge-streams (watched_left g.R.Read.remaining) c.args.how.unit settings c.watch-base.result c.watch-ours.result c.watch-theirs.result
+    c.in_ok-base.base c.rename.new.self c.in_ok-sides.sides c.new-job.result answer c.in_ok-base.ensures.opened c.in_ok-sides.ensures.first c.in_ok-sides.ensures.next
+    c.in_ok-rename.ensures c.new-job.ensures.form c.new-job.ensures.groups c.new-job.ensures.unordered
+    (subst P (sym c.new-job.ensures.columns) c.in_ok-columns.ensures) (read reported))) c.merge_files.ensures

@@ -1,0 +1,35 @@
+use Rattle.std.proofs.Common.{subst}
+use Rattle.std.specs.Prelude.{is_none}
+use Rattle.std.proofs.lemmas.Result.{IfOk-weaker}
+use Rattle.keyed_files.specs.AnswerForm.{in_style}
+use Rattle.keyed_tables.specs.Arranged.{noted}
+use Rattle.keyed_commands.specs.MergedTexts.{AnswersBy}
+use Rattle.keyed_commands.proofs.commands.merge.merge_files.Goals as goal
+
+pub returns : goal.returns
+returns g c =
+    let versions = c.in_ok-versions.versions in
+    let job = c.read_versions.new.job in
+    let style = c.style_under-style.result in
+    let read = c.in_ok-versions.ensures in
+    IfOk-weaker c.at.result _ _
+    (λ answer is reported. record {
+      base = versions.base.pairs.items;
+      ours = versions.ours.pairs.items;
+      theirs = versions.theirs.pairs.items;
+      base_read = read.base;
+      ours_read = read.ours;
+      theirs_read = read.theirs;
+      merged = record {
+        style = style;
+        keys = noted job.order;
+        by_cells = is_none job.row_order.files;
+        merged = subst (λ j. AnswersBy (in_style style j.form) j.columns.now (noted job.order) (is_none job.row_order.files)
+            versions.base.pairs.items versions.ours.pairs.items versions.theirs.pairs.items answer c.args.how.unit)
+            read.same
+            (subst (λ j. AnswersBy j.form j.columns.now (noted j.order) (is_none j.row_order.files)
+            versions.base.pairs.items versions.ours.pairs.items versions.theirs.pairs.items answer c.args.how.unit)
+            c.in_style-job.ensures ((rw is at c.merge_tables.ensures) reported));
+        order = λ unordered. let after = read.unordered unordered in (after.keys, after.rows);
+      };
+    }) c.at.ensures

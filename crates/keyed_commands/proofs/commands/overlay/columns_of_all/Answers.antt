@@ -1,0 +1,10 @@
+use Rattle.std.proofs.Common.{map, subst}
+use Rattle.keyed_files.specs.Keys.{AreColumnsBy}
+use Rattle.keyed_commands.proofs.commands.overlay.columns_of_all.Goals as goal
+
+pub returns : goal.returns
+returns g c =
+    let key = c.args.settings.key in
+    let columns = c.in_ok-columns.columns in
+    subst (λ names. AreColumnsBy key names names columns) c.in_ok-headers.ensures
+    (subst (λ headers. AreColumnsBy key (map (λ header. header.now) headers) (map (λ header. header.now) headers) columns) c.deref.ensures.value c.in_ok-columns.ensures)

@@ -1,0 +1,27 @@
+use Rattle.std.proofs.Common.{◌≡◌, ◌∷◌, ◌∙◌, [], ap, arith, rules, subst}
+use Rattle.std.proofs.lemmas.Grind.{common_steps}
+use Rattle.keyed_files.specs.declared.columns.Columns.{Columns}
+use Rattle.keyed_commands.specs.declared.job.Job.{Job}
+use Rattle.keyed_commands.specs.OverlayAnswers.{LaysTables, rows_laid}
+use Rattle.keyed_commands.proofs.OverlayLemmas.{lays_none, lays_then}
+use Rattle.keyed_commands.proofs.commands.overlay.lay_all.Goals as goal
+
+pub loop-table-preserved : goal.loop-table-preserved
+loop-table-preserved g c =
+    let job = c.args.job.now in
+    let before = c.loop-table.invariant in
+    let one = c.in_ok-laid.ensures in
+    let laid = subst (λ j. LaysTables g.R.Read.remaining c.args.layer j.groups j.columns.now (rows_laid c.loop-table.laid) (c.in-Some.table ∷ []) (rows_laid c.in_ok-laid.laid)) before.same one.laid in
+    let set : Job Columns → Job Columns = λ j. record j { order = c.lay.new.job.order; row_order = c.lay.new.job.row_order } in
+    record {
+      laid = λ rows more. before.laid rows (lays_then g.R.Read.remaining c.args.layer job.groups job.columns.now _ _ c.in-Some.table _ _ rows c.in-Some.ensures.steps.0 laid more);
+      rises = laid.2.rises;
+      same = one.same ∙ ap set before.same;
+      unordered = λ unordered. one.unordered (before.unordered unordered);
+    }
+
+pub returns-clause-laid : goal.returns-clause-laid
+returns-clause-laid g c =
+    let job = c.args.job.now in
+    let none : c.loop-table.table-iterator.rest.items ≡ [] = first_of (search rules, grind (arith, common_steps)) in
+    c.loop-table.invariant.laid _ (lays_none g.R.Read.remaining c.args.layer job.groups job.columns.now (rows_laid c.loop-table.laid) _ none c.loop-table.invariant.rises)

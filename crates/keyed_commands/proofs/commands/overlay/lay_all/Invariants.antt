@@ -1,0 +1,15 @@
+use Rattle.std.proofs.Common.{◌≡◌, []}
+use Rattle.either_or_both.specs.Join.{Rising}
+use Rattle.keyed_commands.specs.Answers.{TableRows, key_cmp}
+use Rattle.keyed_commands.specs.OverlayAnswers.{LaysTables, rows_laid}
+use Rattle.keyed_commands.specs.TablesRead.{IsUnordered}
+use Rattle.keyed_commands.proofs.commands.overlay.lay_all.Given as goal
+
+abbrev pub invariant-loop-table : goal.invariant-loop-table
+invariant-loop-table g l = record {
+  laid : (rows : TableRows) → LaysTables g.R.Read.remaining l.layer l.fn.job.groups l.fn.job.columns.now (rows_laid l.laid) l.table-iterator.rest.items rows
+      → LaysTables g.R.Read.remaining l.layer l.fn.job.groups l.fn.job.columns.now [] l.fn.tables.items rows;
+  rises : Rising key_cmp (rows_laid l.laid);
+  same : l.job ≡ record l.fn.job { order = l.job.order; row_order = l.job.row_order };
+  unordered : IsUnordered l.fn.job → IsUnordered l.job;
+}

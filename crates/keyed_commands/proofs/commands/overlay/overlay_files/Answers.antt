@@ -1,0 +1,36 @@
+use Rattle.std.proofs.Common.{subst}
+use Rattle.std.specs.Prelude.{is_none}
+use Rattle.std.proofs.lemmas.Result.{IfOk-weaker}
+use Rattle.keyed_files.specs.AnswerForm.{in_style}
+use Rattle.keyed_tables.specs.Arranged.{noted}
+use Rattle.keyed_commands.specs.Answers.{IsTableText}
+use Rattle.keyed_commands.specs.OverlayAnswers.{rows_laid}
+use Rattle.keyed_commands.proofs.commands.overlay.overlay_files.Goals as goal
+
+pub returns : goal.returns
+returns g c =
+    let laid = c.in_ok-laid.laid in
+    let job = c.lay_all.new.job in
+    let style = c.style_under-style.result in
+    let read = c.in_ok-laid.ensures in
+    IfOk-weaker c.at.result _ _
+    (λ answer is. record {
+      tables = read.laid.0;
+      read = read.laid.1;
+      overlaid = record {
+        rows = rows_laid laid;
+        keys = noted job.order;
+        by_cells = is_none job.row_order.files;
+        laid = read.laid.2;
+        answers = record {
+          style = style;
+          text = subst (λ j. IsTableText (in_style style j.form) j.columns.now (noted job.order) (is_none job.row_order.files) (rows_laid laid) answer.bytes.items)
+              read.same
+              (subst (λ j. IsTableText j.form j.columns.now (noted j.order) (is_none j.row_order.files) (rows_laid laid) answer.bytes.items)
+              c.in_style-job.ensures (rw is at c.answer_laid.ensures.text));
+          status = rw is at c.answer_laid.ensures.status;
+          outcome = rw is at c.answer_laid.ensures.outcome;
+        };
+        order = λ unordered. let after = read.unordered unordered in (after.keys, after.rows);
+      };
+    }) c.at.ensures

@@ -1,0 +1,170 @@
+//! The answer to `apply`, of streams: a table with changes made to it, or a report of those that do not fit.
+ghost use Rattle.std.specs.Prelude.{◌≡◌, ◌↔◌, IfOk, IsTrue, MatchBool, is_none, option_map};
+ghost use Rattle.either_or_both.specs.Prelude.{left_place, right_place};
+ghost use Rattle.keyed_tables.specs.Arranged.{noted};
+ghost use Rattle.keyed_commands.specs.AppliedTexts.{AppliesSources, AppliesStreams, watched_left};
+ghost use Rattle.keyed_commands.specs.Answers.{AllFit, AnswersPatched, Stops, fits_place, key_cmp, rows_eq};
+
+use crate::answer::{Answer, stopped};
+use crate::job::{Changes, Job, Table};
+use crate::made_table::answer_of_rows;
+use crate::styles::{Watched, style_under, watch};
+use either_or_both::EitherOrBoth;
+use either_or_both::join::{outer_join, outer_join_slices};
+use eob_joins::Change;
+use keyed_files::{Columns, Content, Fault, Reason, Settings, Stream, Two, at};
+use keyed_reports::{Stopped, Version, write_stopped};
+use keyed_rows::{Group, Key};
+use keyed_tables::patched;
+use std::alloc::{AllocError, Global};
+use std::io::Read;
+
+/// The answer to `apply`, with its rows written as the old table is.
+///
+/// # Errors
+///
+/// Returns the fault of a table that can't be opened or read, that lacks a column of the key, or in which a key stands twice where keys may
+/// not repeat; of changes in which a row begins with no sign; also want of memory, as the fault of one of them.
+pub fn apply<'a, R: Read + Drop>(
+    alloc: Global,
+    settings: Settings<'a>,
+    old: Stream<'a, R>,
+    changes: Stream<'a, R>,
+) -> Result<Answer, Fault<'a>>
+    ensures { IfOk result (AppliesStreams R.remaining settings.entry old.entry changes.entry) }
+{
+    let old = watch(settings.form, old);
+    let changes = watch(settings.form, changes);
+    let mut inputs = Two::new(alloc, settings.form, Content::Changes, old, changes)?;
+    inputs.first.rename(alloc, settings)?;
+    let columns = inputs.changed_columns(alloc, settings.key)?;
+    apply_files(Job::new(alloc, settings, &columns), &mut inputs)
+}
+
+fn apply_files<'a, R: Read + Drop>(
+    mut job: Job<'_, Columns>,
+    inputs: &mut Two<'a, Watched<R>>,
+) -> Result<Answer, Fault<'a>>
+    ensures { IfOk result (AppliesSources (watched_left R.remaining) job.entry inputs.old) }
+{
+    let tables = job.read_to_change(inputs)?;
+    let (old, changes) = tables;
+    let noted = inputs.first.source.get_ref().style();
+    let style = style_under(job.form.writing.heading, noted);
+    let job = job.in_style(style);
+    at(inputs.next.file, apply_tables(&job, old, changes))
+}
+
+// The answer to `apply`: the table with the changes made to it, where each of them fits, and else a report of those that do not.
+fn apply_tables(job: &Job<'_, Columns>, old: Table, changes: Changes) -> Result<Answer, Reason>
+    ensures fits { IfOk result (λ answer. AllFit key_cmp old.pairs.items changes.pairs.items
+        → AnswersPatched job.now.form job.now.columns.now (noted job.now.order)
+        (is_none job.now.row_order.files) old.pairs.items changes.pairs.items answer) }
+    ensures misfits { IfOk result (λ answer.
+        (AllFit key_cmp old.pairs.items changes.pairs.items → ⊥) → Stops answer) }
+{
+    let fit = all_fit(&old, &changes);
+    let answer = apply_if(job, fit, old, changes)?;
+    Ok(answer)
+}
+
+// The table with the changes made to it if they fit, and else a report.
+fn apply_if(
+    job: &Job<'_, Columns>,
+    fit: bool,
+    old: Table,
+    changes: Changes,
+) -> Result<Answer, Reason>
+    ensures { IfOk result (λ answer. MatchBool fit
+        (AnswersPatched job.now.form job.now.columns.now (noted job.now.order)
+        (is_none job.now.row_order.files) old.pairs.items changes.pairs.items answer) (Stops answer)) }
+{
+    if fit {
+        let answer = apply_fitting(job, old, changes)?;
+        Ok(answer)
+    } else {
+        let answer = report_misfits(job, old, changes)?;
+        Ok(answer)
+    }
+}
+
+// The table with changes made to it that fit.
+fn apply_fitting(job: &Job<'_, Columns>, old: Table, changes: Changes) -> Result<Answer, Reason>
+    ensures { IfOk result (AnswersPatched job.now.form job.now.columns.now (noted job.now.order)
+        (is_none job.now.row_order.files) old.pairs.items changes.pairs.items) }
+{
+    let rows = patched(job.alloc, old, changes)?;
+    let answer = answer_of_rows(job, "table", rows)?;
+    Ok(answer)
+}
+
+// Changes that do not fit, as a report.
+fn report_misfits(job: &Job<'_, Columns>, old: Table, changes: Changes) -> Result<Answer, Reason>
+    ensures { IfOk result Stops }
+{
+    let text = render_misfits(job, (old, changes))?;
+    Ok(stopped(text))
+}
+
+// Whether each change fits: the rows that it is from are those that the table has under its key.
+fn all_fit(old: &Table, changes: &Changes) -> bool
+    ensures { IsTrue result ↔ AllFit key_cmp old.now.pairs.items changes.now.pairs.items }
+{
+    outer_join_slices(&old.pairs, &changes.pairs).all(fits)
+}
+
+// Whether a change fits what the table has there, if there is one.
+fn fits(row: (&Key, EitherOrBoth<&Group, &Change<Group>>)) -> bool
+    ensures { result ≡ fits_place rows_eq (option_map (λ group. group.now) (left_place row.entry.1))
+        (option_map (λ change. change.now) (right_place row.entry.1)) }
+{
+    let (has, change) = row.1.unzip();
+    match change {
+        Some(change) => change.as_ref().left() == has,
+        None => true,
+    }
+}
+
+// The changes whose old row is not what the table has, in the order in which rows come out.
+fn render_misfits(job: &Job<'_, Columns>, tables: (Table, Changes)) -> Result<Vec<u8>, AllocError> {
+    let (old, changes) = tables;
+    let rows = outer_join(job.alloc, old.pairs, changes.pairs)?;
+    let rows = job.arrange(rows)?;
+    let mut versions = Vec::new(job.alloc);
+    for (key, row) in &rows {
+        put_misfit(&mut versions, key, row)?;
+    }
+    let stopped = Stopped {
+        said: "",
+        columns: job.columns,
+        versions: &versions,
+    };
+    write_stopped(job.alloc, job.look, &stopped)
+}
+
+// Puts what the table has under a key beside what a change wants there, unless they are the same or there is no change.
+fn put_misfit<'a>(
+    versions: &mut Vec<Version<'a>>,
+    key: &'a Key,
+    row: &'a EitherOrBoth<Group, Change<Group>>,
+) -> Result<(), AllocError> {
+    let (has, change) = row.as_ref().unzip();
+    if let Some(change) = change {
+        let wants = change.as_ref().left();
+        if has != wants {
+            versions.push(no_fit("table", key, has))?;
+            versions.push(no_fit("change", key, wants))?;
+        }
+    }
+    Ok(())
+}
+
+// A version of a row that a change does not fit.
+fn no_fit<'a>(word: &'a str, key: &'a Key, rows: Option<&'a Group>) -> Version<'a> {
+    Version {
+        why: "misfit",
+        word,
+        key,
+        rows,
+    }
+}

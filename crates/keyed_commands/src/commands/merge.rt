@@ -1,0 +1,292 @@
+//! The answer to `merge`, of streams: two versions of a table merged over their base, or a report of the rows in conflict.
+ghost use Rattle.std.specs.Prelude.{◌≡◌, ◌==◌, IfOk, OnOk, is_none, length};
+ghost use Rattle.keyed_files.specs.Keys.{AreMergedColumnsBy};
+ghost use Rattle.keyed_files.specs.Opening.{first_header, next_header};
+ghost use Rattle.keyed_tables.specs.Arranged.{noted};
+ghost use Rattle.keyed_tables.specs.Parted.{merged_of};
+ghost use Rattle.keyed_commands.specs.AppliedTexts.{watched_left};
+ghost use Rattle.keyed_commands.specs.MergedTexts.{AnswersBy, IsReported, MergesSources, MergesStreams};
+ghost use Rattle.keyed_commands.specs.TablesRead.{IsUnordered, ReadsTable};
+ghost use Rattle.keyed_commands.specs.Answers.{AnswersMerge, AnswersMerged, AnswersMergedByCell, HasConflict};
+ghost use Rattle.keyed_commands.specs.Answers.{HasNoConflict, HasNoneStuck, HasStuck, Stops};
+
+use crate::answer::{Answer, Outcome, stopped};
+use crate::by_number::settled_by_number;
+use crate::conflict_cells::told_conflicts;
+use crate::conflicts::render_conflicts;
+use crate::job::{Job, Table};
+use crate::lost_cells::lose_cells;
+use crate::made_table::answer_of_rows;
+use crate::marks::{has_conflict, parted, write_marked};
+use crate::styles::{Watched, style_under, watch};
+use keyed_files::{
+    Columns, Conflicts, Content, Decimal, Fault, Merging, Opened, Reason, Settings, Stream, Two,
+    Unit, at, columns_of, merged_columns,
+};
+use keyed_reports::Report;
+use keyed_rows::{Group, Key};
+use keyed_tables::{
+    Marked, Parted, marked_merge_by_cell_of, marked_merge_of, parted_merge_by_cell_of,
+    parted_merge_of,
+};
+use std::alloc::{AllocError, Global};
+use std::io::Read;
+
+/// The answer to `merge`, with its rows written as ours are.
+///
+/// # Errors
+///
+/// Returns the fault of a table that can't be opened or read, that lacks a column of the key, or in which a key stands twice where keys may
+/// not repeat; also want of memory, as the fault of one of them.
+pub fn merge<'a, R: Read + Drop>(
+    alloc: Global,
+    settings: Settings<'a>,
+    how: Merging<'_>,
+    base: Stream<'a, R>,
+    ours: Stream<'a, R>,
+    theirs: Stream<'a, R>,
+) -> Result<Answer, Fault<'a>>
+    ensures { IfOk result (λ answer. IsReported how.entry →
+        MergesStreams R.remaining how.entry.unit settings.entry base.entry ours.entry theirs.entry answer) }
+{
+    let base = watch(settings.form, base);
+    let ours = watch(settings.form, ours);
+    let theirs = watch(settings.form, theirs);
+    let mut base = Opened::new(alloc, settings.form, Content::Rows, base)?;
+    let mut sides = Two::new(alloc, settings.form, Content::Rows, ours, theirs)?;
+    base.rename(alloc, settings)?;
+    let columns = columns_of_merge(alloc, settings, &base, &sides)?;
+    let job = Job::new(alloc, settings, &columns);
+    merge_files(job, how, &mut base, &mut sides)
+}
+
+// The columns of the three tables.
+fn columns_of_merge<'a, R>(
+    alloc: Global,
+    settings: Settings<'a>,
+    base: &Opened<'a, R>,
+    sides: &Two<'a, R>,
+) -> Result<Columns, Fault<'a>>
+    ensures { IfOk result (AreMergedColumnsBy settings.entry.key base.now.source.value.header.names
+        (first_header sides.now) (next_header sides.now)) }
+{
+    let (base_names, ours, theirs) = (base.header(), sides.first.header(), sides.next.header());
+    let all = at(
+        base.file,
+        columns_of(alloc, settings.key, &[base_names, ours, theirs]),
+    )?;
+    let merged = merged_columns(alloc, all.key, base_names, ours, theirs);
+    at(base.file, merged)
+}
+
+fn merge_files<'a, R: Read + Drop>(
+    mut job: Job<'_, Columns>,
+    how: Merging<'_>,
+    base: &mut Opened<'a, Watched<R>>,
+    sides: &mut Two<'a, Watched<R>>,
+) -> Result<Answer, Fault<'a>>
+    ensures { IfOk result (λ answer. IsReported how.entry →
+        MergesSources (watched_left R.remaining) how.entry.unit job.entry base.old sides.old answer) }
+{
+    let versions = read_versions(&mut job, base, sides)?;
+    let noted = sides.first.source.get_ref().style();
+    let style = style_under(job.form.writing.heading, noted);
+    let job = job.in_style(style);
+    at(sides.next.file, merge_tables(&job, how, versions))
+}
+
+// The rows of three versions of a table.
+#[derive(Drop)]
+struct ThreeVersions {
+    base: Table,
+    ours: Table,
+    theirs: Table,
+}
+
+// Reads three versions. The base is not written: rows come out in the order of ours, and those that theirs adds after the rows that they
+// follow there.
+fn read_versions<'a, R: Read + Drop>(
+    job: &mut Job<'_, Columns>,
+    base: &mut Opened<'a, R>,
+    sides: &mut Two<'a, R>,
+) -> Result<ThreeVersions, Fault<'a>>
+    ensures base { IfOk result (λ read. ReadsTable R.remaining job.old.groups job.old.columns.now
+        base.old.source.value read.base.pairs.items) }
+    ensures ours { IfOk result (λ read. ReadsTable R.remaining job.old.groups job.old.columns.now
+        sides.old.first.source.value read.ours.pairs.items) }
+    ensures theirs { IfOk result (λ read. ReadsTable R.remaining job.old.groups job.old.columns.now
+        sides.old.next.source.value read.theirs.pairs.items) }
+    ensures same { job.new ≡ record job.old { order = job.new.order; row_order = job.new.row_order } }
+    ensures unordered { OnOk result (IsUnordered job.old → IsUnordered job.new) }
+{
+    let (ours, theirs) = job.read_merged(sides)?;
+    let base = job.unordered().read_table(job.columns, base)?;
+    Ok(ThreeVersions { base, ours, theirs })
+}
+
+fn merge_tables(
+    job: &Job<'_, Columns>,
+    how: Merging<'_>,
+    versions: ThreeVersions,
+) -> Result<Answer, Reason>
+    ensures { IfOk result (λ answer. IsReported how.entry → AnswersBy job.now.form job.now.columns.now
+        (noted job.now.order) (is_none job.now.row_order.files)
+        versions.base.pairs.items versions.ours.pairs.items versions.theirs.pairs.items
+        answer how.entry.unit) }
+{
+    match how.tolerance {
+        Some(tolerance) => merge_by_number(job, how, tolerance, versions),
+        None => match how.conflicts {
+            Conflicts::Report => merge_reported(job, how, versions),
+            Conflicts::Marks => {
+                let rows = marked_rows(job.alloc, how.unit, versions)?;
+                mark_conflicts(job, how, rows)
+            }
+        },
+    }
+}
+
+// The same where cells that are numbers are compared by value, which settles rows in conflict.
+fn merge_by_number(
+    job: &Job<'_, Columns>,
+    how: Merging<'_>,
+    tolerance: Decimal<'_>,
+    versions: ThreeVersions,
+) -> Result<Answer, Reason> {
+    let rows = marked_rows(job.alloc, how.unit, versions)?;
+    let rows = settled_by_number(job.alloc, tolerance, how.unit, rows)?;
+    match how.conflicts {
+        Conflicts::Marks => mark_conflicts(job, how, rows),
+        Conflicts::Report => answer_of_merge(job, how, parted(job.alloc, rows)?),
+    }
+}
+
+// The merged table, with rows in conflict between marks. Where there are some and a column goes, which may be what they differ by, these
+// rows are reported.
+fn mark_conflicts(
+    job: &Job<'_, Columns>,
+    how: Merging<'_>,
+    rows: Vec<(Key, Marked<Group>)>,
+) -> Result<Answer, Reason> {
+    if has_conflict(&rows) && job.columns.count_written() == job.columns.rest.len() {
+        return Ok(Answer {
+            bytes: write_marked(job, how, job.arrange(rows)?)?,
+            status: 1,
+            outcome: Outcome::Made,
+        });
+    }
+    answer_of_merge(job, how, parted(job.alloc, rows)?)
+}
+
+// The merged table, or a report of the rows in conflict.
+fn merge_reported(
+    job: &Job<'_, Columns>,
+    how: Merging<'_>,
+    versions: ThreeVersions,
+) -> Result<Answer, Reason>
+    ensures { IfOk result (λ answer. AnswersBy job.now.form job.now.columns.now
+        (noted job.now.order) (is_none job.now.row_order.files)
+        versions.base.pairs.items versions.ours.pairs.items versions.theirs.pairs.items
+        answer how.entry.unit) }
+{
+    let ThreeVersions { base, ours, theirs } = versions;
+    match how.unit {
+        Unit::Row => merge_by_row(job, how, base, ours, theirs),
+        Unit::Cell => merge_by_cell(job, how, base, ours, theirs),
+    }
+}
+
+// The rows of three versions merged, with rows in conflict in their places.
+fn marked_rows(
+    alloc: Global,
+    unit: Unit,
+    versions: ThreeVersions,
+) -> Result<Vec<(Key, Marked<Group>)>, AllocError> {
+    let ThreeVersions { base, ours, theirs } = versions;
+    match unit {
+        Unit::Row => marked_merge_of(alloc, base, ours, theirs),
+        Unit::Cell => marked_merge_by_cell_of(alloc, base, ours, theirs),
+    }
+}
+
+// The answer to `merge` that takes each row whole: the merged table, or a report of the rows in conflict.
+fn merge_by_row(
+    job: &Job<'_, Columns>,
+    how: Merging<'_>,
+    base: Table,
+    ours: Table,
+    theirs: Table,
+) -> Result<Answer, Reason>
+    ensures whole { IfOk result (λ answer. HasNoConflict base.pairs.items ours.pairs.items theirs.pairs.items
+        → AnswersMerged job.now.form job.now.columns.now (noted job.now.order)
+        (is_none job.now.row_order.files) base.pairs.items ours.pairs.items theirs.pairs.items answer) }
+    ensures conflict { IfOk result (λ answer.
+        HasConflict base.pairs.items ours.pairs.items theirs.pairs.items → Stops answer) }
+{
+    let parted = parted_merge_of(job.alloc, base, ours, theirs)?;
+    let answer = answer_of_merge(job, how, parted)?;
+    Ok(answer)
+}
+
+// The answer to `merge` that merges a row of each version cell by cell: the merged table, or a report of the rows in conflict.
+fn merge_by_cell(
+    job: &Job<'_, Columns>,
+    how: Merging<'_>,
+    base: Table,
+    ours: Table,
+    theirs: Table,
+) -> Result<Answer, Reason>
+    ensures whole { IfOk result (λ answer. HasNoneStuck base.pairs.items ours.pairs.items theirs.pairs.items
+        → AnswersMergedByCell job.now.form job.now.columns.now (noted job.now.order)
+        (is_none job.now.row_order.files) base.pairs.items ours.pairs.items theirs.pairs.items answer) }
+    ensures conflict { IfOk result (λ answer.
+        HasStuck base.pairs.items ours.pairs.items theirs.pairs.items → Stops answer) }
+{
+    let parted = parted_merge_by_cell_of(job.alloc, base, ours, theirs)?;
+    let answer = answer_of_merge(job, how, parted)?;
+    Ok(answer)
+}
+
+// The merged table, or a report of the rows in conflict.
+fn answer_of_merge(
+    job: &Job<'_, Columns>,
+    how: Merging<'_>,
+    parted: Parted<Key, Group>,
+) -> Result<Answer, Reason>
+    ensures { IfOk result (AnswersMerge job.now.form job.now.columns.now (noted job.now.order)
+        (is_none job.now.row_order.files) (merged_of parted)) }
+{
+    if is_whole(&parted) {
+        let answer = answer_of_rows(job, "merged", parted.settled)?;
+        Ok(answer)
+    } else {
+        let answer = report_conflicts(job, how, parted)?;
+        Ok(answer)
+    }
+}
+
+// Whether no row is in conflict.
+fn is_whole(parted: &Parted<Key, Group>) -> bool
+    ensures { result ≡ (length parted.now.stuck.items == 0) }
+{
+    parted.stuck.is_empty()
+}
+
+// Rows in conflict as a report, and with them the merged rows that have cells in columns that go.
+fn report_conflicts(
+    job: &Job<'_, Columns>,
+    how: Merging<'_>,
+    parted: Parted<Key, Group>,
+) -> Result<Answer, Reason>
+    ensures { IfOk result Stops }
+{
+    let Parted { settled, stuck } = parted;
+    let stuck = job.arrange(told_conflicts(job.alloc, how, stuck)?)?;
+    let settled = if lose_cells(job.columns, &settled) {
+        job.arrange(settled)?
+    } else {
+        Vec::new(job.alloc)
+    };
+    let text = render_conflicts(job, &stuck, &settled)?;
+    Ok(stopped(text))
+}

@@ -1,0 +1,233 @@
+//! Tables that are laid one over the other, the last one on top.
+ghost use Rattle.std.specs.Prelude.{◌≡◌, ◌∷◌, [], IfOk, OnOk, is_none, map, option_map, unwrap_or};
+ghost use Rattle.keyed_files.specs.Keys.{AreColumnsBy};
+ghost use Rattle.keyed_tables.specs.Arranged.{noted};
+ghost use Rattle.keyed_commands.specs.Answers.{IsTableText};
+ghost use Rattle.keyed_commands.specs.OverlayAnswers.{AreLaidOver, AreLayers, IsLayer, LaysTables};
+ghost use Rattle.keyed_commands.specs.OverlayAnswers.{OverlaysSources, OverlaysStreams, rows_laid};
+ghost use Rattle.keyed_commands.specs.TablesRead.{IsUnordered};
+ghost use Rattle.keyed_commands.specs.declared.answer.Outcome.TheVariants.{Made};
+
+use crate::answer::Answer;
+use crate::files::put;
+use crate::job::{Job, Table};
+use crate::made_table::table_as_csv;
+use crate::styles::{Watched, style_under, watch};
+use keyed_files::{
+    Columns, Content, Fault, Form, Layer, Opened, Reason, Settings, Stream, at, columns_of,
+};
+use keyed_rows::{Cells, Group, Key};
+use keyed_tables::{filled_over, laid_over};
+use keyed_text::Style;
+use std::alloc::{AllocError, Global};
+use std::io::Read;
+
+/// The answer to `overlay`: the rows of all tables, and under a key those of the last table that has it; or, by cell, each cell of the last
+/// table that has one there which is not empty. They are written as the first table is.
+///
+/// # Errors
+///
+/// Returns the fault of a table that can't be opened or read, that lacks a column of the key, or in which a key stands twice where keys may
+/// not repeat; also want of memory, as the fault of one of them.
+pub fn overlay<'a, R: Read + Drop>(
+    alloc: Global,
+    settings: Settings<'a>,
+    layer: Layer,
+    tables: Vec<Stream<'a, R>>,
+) -> Result<Answer, Fault<'a>>
+    ensures { IfOk result (OverlaysStreams R.remaining settings.entry layer tables.entry.items) }
+{
+    let opened = open_all(alloc, settings, tables)?;
+    let file = first_file(&opened);
+    let columns = at(file, columns_of_all(alloc, settings, &opened))?;
+    overlay_files(Job::new(alloc, settings, &columns), layer, file, opened)
+}
+
+fn overlay_files<'a, R: Read + Drop>(
+    mut job: Job<'_, Columns>,
+    layer: Layer,
+    file: &'a str,
+    tables: Vec<Opened<'a, Watched<R>>>,
+) -> Result<Answer, Fault<'a>>
+    ensures { IfOk result (OverlaysSources R.remaining layer job.entry tables.entry.items) }
+{
+    let laid = lay_all(&mut job, layer, tables)?;
+    let noted = laid.style.unwrap_or(job.form.writing.style);
+    let style = style_under(job.form.writing.heading, noted);
+    let job = job.in_style(style);
+    at(file, answer_laid(&job, laid.table))
+}
+
+// Reads the headers of all tables. The columns of the key have in the first one the names that they have in the others.
+fn open_all<'a, R: Read + Drop>(
+    alloc: Global,
+    settings: Settings<'a>,
+    tables: Vec<Stream<'a, R>>,
+) -> Result<Vec<Opened<'a, Watched<R>>>, Fault<'a>>
+    ensures { IfOk result (λ opened. AreLayers R.remaining settings.entry.form settings.entry.key
+        tables.entry.items opened.items) }
+{
+    let mut opened = Vec::new(alloc);
+    let mut key = settings.key;
+    for stream in tables {
+        let file = stream.file;
+        let table = open_layer(alloc, settings.form, key, stream)?;
+        at(file, put(&mut opened, table))?;
+        key = None;
+    }
+    Ok(opened)
+}
+
+// Reads the header of a table whose columns of the key, where it is set, get the names that they have in the others.
+fn open_layer<'a, R: Read + Drop>(
+    alloc: Global,
+    form: Form,
+    key: Option<&str>,
+    stream: Stream<'a, R>,
+) -> Result<Opened<'a, Watched<R>>, Fault<'a>>
+    ensures { IfOk result (IsLayer R.remaining form key.entry stream.entry) }
+{
+    let stream = watch(form, stream);
+    let mut table = Opened::new(alloc, form, Content::Rows, stream)?;
+    table.rename_key(alloc, key)?;
+    Ok(table)
+}
+
+// The file of the first table, if there is one.
+fn first_file<'a, R>(opened: &[Opened<'a, R>]) -> &'a str {
+    match opened.first() {
+        Some(table) => table.file,
+        None => "-",
+    }
+}
+
+// The columns of all tables.
+fn columns_of_all<R>(
+    alloc: Global,
+    settings: Settings<'_>,
+    opened: &[Opened<'_, R>],
+) -> Result<Columns, Reason>
+    ensures { IfOk result (AreColumnsBy settings.entry.key
+        (map (λ table. table.source.value.header.names) opened.now)
+        (map (λ table. table.source.value.header.names) opened.now)) }
+{
+    let headers = headers_of(alloc, opened)?;
+    let columns = columns_of(alloc, settings.key, &headers)?;
+    Ok(columns)
+}
+
+fn headers_of<'o, R>(
+    alloc: Global,
+    opened: &'o [Opened<'_, R>],
+) -> Result<Vec<&'o Cells>, AllocError>
+    ensures { IfOk result (λ headers. map (λ header. header.now) headers.items
+        ≡ map (λ table. table.source.value.header.names) opened.now) }
+{
+    let mut headers = Vec::new(alloc);
+    for table in opened {
+        headers.push(table.header())?;
+    }
+    Ok(headers)
+}
+
+// Tables that are laid one over the other, if there is one, and how the first one is written.
+#[derive(Drop)]
+struct Laid {
+    table: Option<Table>,
+    style: Option<Style>,
+}
+
+// Reads the tables one after the other, each laid over those before it.
+#[tactic(auto, using(crate::proofs::OverlayLemmas::none_rises))]
+fn lay_all<'a, R: Read + Drop>(
+    job: &mut Job<'_, Columns>,
+    layer: Layer,
+    tables: Vec<Opened<'a, Watched<R>>>,
+) -> Result<Laid, Fault<'a>>
+    ensures laid { IfOk result (λ laid. LaysTables R.remaining layer job.old.groups job.old.columns.now []
+        tables.entry.items (rows_laid laid)) }
+    ensures same { job.new ≡ record job.old { order = job.new.order; row_order = job.new.row_order } }
+    ensures unordered { OnOk result (IsUnordered job.old → IsUnordered job.new) }
+{
+    let mut laid = Laid {
+        table: None,
+        style: None,
+    };
+    for table in tables {
+        laid = lay(job, layer, laid, table)?;
+    }
+    Ok(laid)
+}
+
+// Reads a table, and lays it over what stands below.
+fn lay<'a, R: Read + Drop>(
+    job: &mut Job<'_, Columns>,
+    layer: Layer,
+    below: Laid,
+    mut table: Opened<'a, Watched<R>>,
+) -> Result<Laid, Fault<'a>>
+    ensures laid { IfOk result (λ laid. LaysTables R.remaining layer job.old.groups job.old.columns.now
+        (rows_laid below) (table.entry ∷ []) (rows_laid laid)) }
+    ensures same { job.new ≡ record job.old { order = job.new.order; row_order = job.new.row_order } }
+    ensures unordered { OnOk result (IsUnordered job.old → IsUnordered job.new) }
+{
+    let above = job.read_table(job.columns, &mut table)?;
+    let style = below.style.unwrap_or(table.source.get_ref().style());
+    let laid = at(table.file, lay_over(job.alloc, layer, below.table, above))?;
+    Ok(Laid {
+        table: Some(laid),
+        style: Some(style),
+    })
+}
+
+// A table over another, if there is one.
+fn lay_over(
+    alloc: Global,
+    layer: Layer,
+    below: Option<Table>,
+    above: Table,
+) -> Result<Table, AllocError>
+    ensures { IfOk result (λ laid. AreLaidOver layer
+        (unwrap_or (option_map (λ table. table.pairs.items) below) [])
+        (above.pairs.items ∷ []) laid.pairs.items) }
+{
+    match below {
+        Some(below) => {
+            let laid = laid_by(alloc, layer, below, above)?;
+            Ok(laid)
+        }
+        None => Ok(above),
+    }
+}
+
+fn laid_by(alloc: Global, layer: Layer, below: Table, above: Table) -> Result<Table, AllocError>
+    ensures { IfOk result (λ laid.
+        AreLaidOver layer below.pairs.items (above.pairs.items ∷ []) laid.pairs.items) }
+{
+    match layer {
+        Layer::Rows => laid_over(alloc, below, above),
+        Layer::Cells => filled_over(alloc, below, above),
+    }
+}
+
+// The rows of a table, if there is one.
+fn answer_laid(job: &Job<'_, Columns>, table: Option<Table>) -> Result<Answer, Reason>
+    ensures text { IfOk result (λ answer. IsTableText job.now.form job.now.columns.now (noted job.now.order)
+        (is_none job.now.row_order.files)
+        (unwrap_or (option_map (λ table. table.pairs.items) table) []) answer.bytes.items) }
+    ensures status { IfOk result (λ answer. answer.status ≡ 0) }
+    ensures outcome { IfOk result (λ answer. answer.outcome ≡ Made) }
+{
+    let answer = table_as_csv(job, rows_of(job.alloc, table))?;
+    Ok(answer)
+}
+
+// The rows of a table, if there is one.
+fn rows_of(alloc: Global, table: Option<Table>) -> Vec<(Key, Group)>
+    ensures { result.items ≡ unwrap_or (option_map (λ table. table.pairs.items) table) [] }
+{
+    match table {
+        Some(table) => table.pairs,
+        None => Vec::new(alloc),
+    }
+}

@@ -1,6 +1,0 @@
-use Rattle.std.proofs.Common.{[]}
-use Rattle.text_callers.proofs.KnownText.{if-some}
-use Rattle.text_callers.proofs.rows_of.Goals as goal
-
-pub returns : goal.returns
-returns g c = if-some _ (λ text h. c.in_ok-rows.ensures _ _ text [] h) c.new-reader.ensures
