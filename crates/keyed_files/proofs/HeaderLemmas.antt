@@ -7,8 +7,9 @@ use Rattle.std.proofs.lemmas.List.{append-nil, drop_more, get_or-drop, get_or-ma
 use Rattle.std.proofs.lemmas.Grind.{flat_map-append}
 use Rattle.csv.specs.Records.{field_at}
 use Rattle.keyed_files.specs.Going.{GoneSaid, going_behind, name_if_goes, names_going, with_going}
-use Rattle.keyed_files.specs.Headers.{HeaderOf, NamesOf, cells_before, name_in, names_behind}
+use Rattle.keyed_files.specs.Headers.{HeaderOf, NamesOf, cells_before, name_in, names_behind, names_said}
 use Rattle.keyed_files.specs.Names.{repeats}
+use Rattle.keyed_files.specs.Spelled.{SpelledFirst}
 use Rattle.keyed_files.specs.declared.fate.Fate.{Fate}
 use Rattle.keyed_files.specs.declared.fate.Fate.TheVariants as fate
 use Rattle.keyed_files.specs.declared.source.Content.{Content}
@@ -64,6 +65,14 @@ one-more names i j old new name lt next is puts before h =
     let fresh : list_any (pointwise nat_eq name) old ≡ false = rw (is, before) (name-is-new names i lt h) in
     rw next (puts fresh ∙ rw (is, before) (sym (take_more names i [] lt)), names-behind names i lt h)
 
+-- names that are put as they stand: none yet, and one more
+pub names-from : (names : List (List ℕ)) (i : ℕ) (put : List (List ℕ)) → i ≡ 0 → put ≡ [] → put ≡ take i names
+names-from names i put none is = rw none is
+
+pub put-name : (names : List (List ℕ)) (i j : ℕ) (old new : List (List ℕ)) (name : List ℕ) → i < length names → j ≡ i + 1 → name ≡ get_or names i []
+    → new ≡ old ++ (name ∷ []) → old ≡ take i names → new ≡ take j names
+put-name names i j old new name lt next is puts before = puts ∙ rw (next, is, before) (sym (take_more names i [] lt))
+
 -- no name of a record is marked where no cell stands before the names
 pub names-plain : (fields : List (List ℕ)) → names_behind 0 fields ≡ fields
 names-plain [] = refl
@@ -80,6 +89,18 @@ pub header-read : (kind : Content) (has_header has_first : Bool) (fields names :
 header-read kind has_header false fields names e h said = absurd (cc e)
 header-read kind false true fields names e h said = absurd (cc h)
 header-read kind true true fields names e h said = said
+
+-- the names that a header spells are those that the record says
+names-spelled : (kind : Content) (before : ℕ) (fields spelled : List (List ℕ)) → before ≡ cells_before kind → spelled ≡ names_behind before fields
+    → spelled ≡ names_said kind fields
+names-spelled content.Rows before fields spelled is read = read ∙ ap (λ n. names_behind n fields) is ∙ names-plain fields
+names-spelled content.Changes before fields spelled is read = read ∙ ap (λ n. names_behind n fields) is
+
+pub spelled-read : (kind : Content) (has_header has_first : Bool) (before : ℕ) (fields spelled : List (List ℕ)) → has_first ≡ true → has_header ≡ true
+    → before ≡ cells_before kind → spelled ≡ names_behind before fields → SpelledFirst has_header has_first kind fields spelled
+spelled-read kind has_header false before fields spelled e h is read = absurd (cc e)
+spelled-read kind false true before fields spelled e h is read = absurd (cc h)
+spelled-read kind true true before fields spelled e h is read = names-spelled kind before fields spelled is read
 
 -- the names of the columns that go, one after the other
 with-going : (f : Fate) (name : List ℕ) (gone : List (List ℕ)) → with_going f name gone ≡ gone ++ name_if_goes f name

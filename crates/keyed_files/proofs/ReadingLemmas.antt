@@ -19,6 +19,7 @@ use Rattle.keyed_files.specs.Gone.{KnowsGone}
 use Rattle.keyed_files.specs.Headers.{HeaderOf, NamesOf}
 use Rattle.keyed_files.specs.Lines.{Begins, checked_left, lines_left, where_strict}
 use Rattle.keyed_files.specs.Reading.{GivesRecord, HasGiven, HasGivenIn, HeadedBy, IsHeader, IsOpen, next_of, text_lined, text_read}
+use Rattle.keyed_files.specs.Spelled.{SpelledBy, SpelledFirst}
 use Rattle.keyed_files.specs.Writing.{comment_of, delimiter_of}
 use Rattle.keyed_files.specs.declared.by_line.ByLine.{ByLine}
 use Rattle.keyed_files.specs.declared.checked.Checked.{Checked}
@@ -106,28 +107,36 @@ module _ {R : Type 0} (rem : R → Option (List ℕ)) (form : Form) (kind : Cont
     (content : source.content ≡ kind) (begun : HasRead (delimiter_of form) (comment_of form) (checked_left rem) text [] old) where
   opened-if : (has_header has_first : Bool) → form.has_header ≡ has_header
       → GivesRow (checked_left rem) old source.reader has_first (fields_of source.last) → source.next ≡ next_of has_first has_header
-      → HeaderOf has_header kind has_first (fields_of source.last) source.header.names → IsOpen form kind rem text source.header.names source
-  opened-if true false same reads is header =
+      → HeaderOf has_header kind has_first (fields_of source.last) source.header.names → source.header.spelling.names ≡ source.header.names
+      → SpelledFirst has_header has_first kind (fields_of source.last) source.header.spelling.spelled → IsOpen form kind rem text source.header.names source
+  opened-if true false same reads is header named spelled =
       let none = reads _ _ text [] begun in
-      record { content = content; first = []; header = rw same (none, header); given = rw is none }
-  opened-if false false same reads is header =
+      record { content = content; first = []; header = rw same (none, header); given = rw is none; named = named; spelled = rw same spelled }
+  opened-if false false same reads is header named spelled =
       let none = reads _ _ text [] begun in
-      let named : (records : List (List (List ℕ))) → AreRows (delimiter_of form) (comment_of form) text records → HeadedBy false kind records source.header.names =
+      let headed : (records : List (List (List ℕ))) → AreRows (delimiter_of form) (comment_of form) text records → HeadedBy false kind records source.header.names =
       λ records all. subst (λ r. HeadedBy false kind r source.header.names) (rows-once _ _ text [] records none all) header in
-      record { content = content; first = []; header = rw same named; given = rw is none }
-  opened-if true true same reads is header =
-      record { content = content; first = fields_of source.last ∷ []; header = rw same header; given = rw is (reads _ _ text [] begun) }
-  opened-if false true same reads is header =
+      record { content = content; first = []; header = rw same headed; given = rw is none; named = named; spelled = rw same tt }
+  opened-if true true same reads is header named spelled = record {
+    content = content;
+    first = fields_of source.last ∷ [];
+    header = rw same header;
+    given = rw is (reads _ _ text [] begun);
+    named = named;
+    spelled = rw same spelled;
+  }
+  opened-if false true same reads is header named spelled =
       let one = reads _ _ text [] begun in
-      let named : (records : List (List (List ℕ))) → AreRows (delimiter_of form) (comment_of form) text records → HeadedBy false kind records source.header.names =
+      let headed : (records : List (List (List ℕ))) → AreRows (delimiter_of form) (comment_of form) text records → HeadedBy false kind records source.header.names =
       λ records all. let first = first-read _ _ _ text (fields_of source.last) source.reader one records all in
       subst (λ r. HeadedBy false kind r source.header.names) (sym first.1) header in
-      record { content = content; first = []; header = rw same named; given = rw is one }
+      record { content = content; first = []; header = rw same headed; given = rw is one; named = named; spelled = rw same tt }
 
   pub opened : (has_first : Bool) → GivesRow (checked_left rem) old source.reader has_first (fields_of source.last)
       → source.next ≡ next_of has_first form.has_header → HeaderOf form.has_header kind has_first (fields_of source.last) source.header.names
+      → source.header.spelling.names ≡ source.header.names → SpelledFirst form.has_header has_first kind (fields_of source.last) source.header.spelling.spelled
       → IsOpen form kind rem text source.header.names source
-  opened has_first reads is header = opened-if form.has_header has_first refl reads is header
+  opened has_first reads is header named spelled = opened-if form.has_header has_first refl reads is header named spelled
 
 -- the same of a text that is known or not
 pub opened-known : {R : Type 0} (rem : R → Option (List ℕ)) (form : Form) (kind : Content) (known : Option (List ℕ)) (old : RowReader (Checked R))
@@ -135,10 +144,11 @@ pub opened-known : {R : Type 0} (rem : R → Option (List ℕ)) (form : Form) (k
     → IfSome known (λ text. HasRead (delimiter_of form) (comment_of form) (checked_left rem) text [] old)
     → (has_first : Bool) → GivesRow (checked_left rem) old made.reader has_first (fields_of made.last)
     → made.next ≡ next_of has_first form.has_header → HeaderOf form.has_header kind has_first (fields_of made.last) made.header.names
+    → made.header.spelling.names ≡ made.header.names → SpelledFirst form.has_header has_first kind (fields_of made.last) made.header.spelling.spelled
     → IfSome known (λ text. IsOpen form kind rem text source.header.names source)
-opened-known rem form kind None old source made same content begun has_first reads is header = tt
-opened-known rem form kind (Some text) old source made same content begun has_first reads is header =
-    rw same (opened rem form kind text old made content begun has_first reads is header)
+opened-known rem form kind None old source made same content begun has_first reads is header named spelled = tt
+opened-known rem form kind (Some text) old source made same content begun has_first reads is header named spelled =
+    rw same (opened rem form kind text old made content begun has_first reads is header named spelled)
 
 -- the columns that go, of a source of changes whose first record is read
 module _ {R : Type 0} (rem : R → Option (List ℕ)) (form : Form) (text : List ℕ) (old : RowReader (Checked R)) (source : Source R)

@@ -9,6 +9,7 @@ use Rattle.keyed_files.specs.Opening.{IsNamedAnew, IsRenamed}
 use Rattle.keyed_files.specs.Headers.{ArePlaces, NamesOf, place_under}
 use Rattle.keyed_files.specs.Picked.{cell_at}
 use Rattle.keyed_files.specs.Reading.{GivesRecord, HasGiven, IsHeader, IsOpen, IsPicked, IsTable, PlacesOf, ReadBehind, ReadsOn, ReadsRest, ReadsRows, behind_header, last_record, parts_of, picked, row_under}
+use Rattle.keyed_files.specs.Spelled.{SpelledBy}
 use Rattle.keyed_files.specs.Writing.{comment_of, delimiter_of}
 use Rattle.keyed_files.specs.declared.columns.Columns.{Columns}
 use Rattle.keyed_files.specs.declared.request.Form.{Form}
@@ -85,7 +86,14 @@ pub open-renamed : {R A : Type 0} (rem : R → Option (List ℕ)) (key : Option 
 open-renamed rem None form kind text header old new same begun = subst (IsOpen form kind rem text header) (sym same) begun
 open-renamed rem (Some key) form kind text header old new same begun =
     let other : IsOpen form kind rem text header (record old { header = new.header }) =
-    record { content = begun.content; first = begun.first; header = begun.header; given = begun.given } in
+    record {
+      content = begun.content;
+      first = begun.first;
+      header = begun.header;
+      given = begun.given;
+      named = ap (λ s. s.names) same.4 ∙ begun.named;
+      spelled = subst (λ s. SpelledBy form.has_header kind begun.first s.spelled) (sym same.4) begun.spelled;
+    } in
     subst (IsOpen form kind rem text header) (sym same.2) other
 
 pub open-anew : {R : Type 0} (rem : R → Option (List ℕ)) (settings : Settings) (form : Form) (kind : Content) (text : List ℕ) (header : List (List ℕ)) (old new : Source R)

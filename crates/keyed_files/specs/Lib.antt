@@ -22,4 +22,5 @@ pub mod Parts
 pub mod Picked
 pub mod Reading
 pub mod Rows
+pub mod Spelled
 pub mod Writing

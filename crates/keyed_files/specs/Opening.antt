@@ -35,6 +35,7 @@ abbrev pub IsRenamed : {R A : Type 0} → Option A → Source R → Source R →
 IsRenamed None old new = new ≡ old
 IsRenamed (Some key) old new = (first : List (List ℕ)) × (others : List (List ℕ))
     × (new ≡ record old { header = new.header }) × (new.header.names ≡ map (renamed first others) old.header.names)
+    × (new.header.spelling ≡ old.header.spelling)
 
 -- the same of the columns of a key, and then of those that are renamed
 abbrev pub IsNamedAnew : {R : Type 0} → Settings → Source R → Source R → Type 0

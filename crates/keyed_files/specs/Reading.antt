@@ -8,6 +8,7 @@ use Rattle.keyed_files.specs.Lines.{checked_left, where_strict}
 use Rattle.keyed_files.specs.Headers.{ArePlaces, HeaderOf, NamesOf, place_under}
 use Rattle.keyed_files.specs.Picked.{cell_at}
 use Rattle.keyed_files.specs.Rows.{shown_sign}
+use Rattle.keyed_files.specs.Spelled.{SpelledBy}
 use Rattle.keyed_files.specs.Writing.{comment_of, delimiter_of}
 use Rattle.keyed_files.specs.declared.columns.Columns.{Columns}
 use Rattle.keyed_files.specs.declared.request.Form.{Form}
@@ -108,6 +109,8 @@ pub record IsOpen {R : Type 0} (form : Form) (kind : Content) (remaining : R →
   pub first : List (List (List ℕ))
   pub header : IsHeader form kind text names form.has_header first
   pub given : HasGiven (delimiter_of form) (comment_of form) remaining text first source
+  pub named : source.header.spelling.names ≡ names
+  pub spelled : SpelledBy form.has_header kind first source.header.spelling.spelled
 
 -- rows that stand after others are those of records at the places of columns
 pub record ReadBehind (places : Places) (old new : List ReadRow) (records : List (List (List ℕ))) : Type 0 where

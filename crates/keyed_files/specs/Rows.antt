@@ -46,9 +46,17 @@ rows_under first order key rows = map (λ rest. first_cells first ++ placed orde
 abbrev pub table_rows : List Place → List (List (List ℕ) × List (List (List ℕ))) → List (List (List ℕ))
 table_rows order rows = flat_map (λ group. rows_under None order group.0 group.1) rows
 
--- the names of columns in their order, after a first cell if there is one
+-- the names of columns in their order
+abbrev pub names_placed : Columns → List (List ℕ)
+names_placed columns = placed columns.order.items columns.key columns.rest
+
+-- the same as a heading spells them
+abbrev pub names_headed : Columns → List (List ℕ)
+names_headed columns = unwrap_or columns.spelled (names_placed columns)
+
+-- these after a first cell if there is one
 abbrev pub names_row : Option (List ℕ) → Columns → List (List ℕ)
-names_row first columns = first_cells first ++ placed columns.order.items columns.key columns.rest
+names_row first columns = first_cells first ++ names_headed columns
 
 -- whether a table has a heading, after a first cell if there is one: not where answers have none, and not where it would have no cell
 abbrev pub has_heading : Form → Option (List ℕ) → Columns → Bool

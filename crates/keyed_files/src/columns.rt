@@ -21,6 +21,8 @@ pub struct Columns {
     pub key: Cells,
     pub rest: Cells,
     pub order: Vec<Place>,
+    /// The names of those that are written as their heading spells them, where it does so in another way.
+    pub spelled: Option<Cells>,
 }
 
 /// Where the cell of a column stands in a row.
@@ -75,6 +77,7 @@ impl NewColumns {
                 key,
                 rest: Cells::new(alloc),
                 order: Vec::new(alloc),
+                spelled: None,
             },
             seen: Names::new(alloc),
         }
@@ -214,6 +217,7 @@ fn columns_among(
         key: columns.key,
         rest,
         order,
+        spelled: None,
     })
 }
 

@@ -21,6 +21,8 @@ use std::alloc::{AllocError, Global};
 #[derive(Drop)]
 pub struct Header {
     pub names: Cells,
+    /// How the header spells them.
+    pub spelling: Spelling,
     // The same, each found in one step.
     found: Names,
     /// In a table of changes, those of columns that go.
@@ -31,14 +33,28 @@ pub struct Header {
     ghost found_is_names: { names_in found ≡ names },
 }
 
+/// The names of the columns of a table as its header spells them, the same name as often as it stands there, and those by which they are
+/// told apart as the header is read.
+#[derive(Drop)]
+pub struct Spelling {
+    pub names: Cells,
+    pub spelled: Cells,
+}
+
 impl Header {
     /// No column, as of a file with no row.
     pub fn none(alloc: Global) -> Self
         ensures names { result.names ≡ [] }
+        ensures spelled_names { result.spelling.names ≡ [] }
+        ensures spelled { result.spelling.spelled ≡ [] }
         ensures gone { result.gone ≡ [] }
     {
         Header {
             names: Cells::new(alloc),
+            spelling: Spelling {
+                names: Cells::new(alloc),
+                spelled: Cells::new(alloc),
+            },
             found: Names::new(alloc),
             gone: Cells::new(alloc),
             repeated: Names::new(alloc),
@@ -61,8 +77,12 @@ impl Header {
     ) -> Result<Self, AllocError>
         ensures names { IfOk result (λ header. repeats [] (names_behind before (fields_of row.now)) ≡ false
             → header.names ≡ names_behind before (fields_of row.now)) }
+        ensures spelled_names { IfOk result (λ header. header.spelling.names ≡ header.names) }
+        ensures spelled { IfOk result
+            (λ header. header.spelling.spelled ≡ names_behind before (fields_of row.now)) }
         ensures gone { IfOk result (λ header. header.gone ≡ names_going before (fields_of row.now)) }
     {
+        let spelled = spelled_names(alloc, row, before)?;
         let there = names_there(alloc, row, before)?;
         let mut told = Told::new(alloc);
         // Of each name of the header the number that the last column of this name has, or 0 where none has come.
@@ -74,7 +94,7 @@ impl Header {
             note_number(&mut numbers, there.place_of(name), number);
             told.note_fate(fate, name)?;
         }
-        told.into_header(alloc, line)
+        told.into_header(alloc, spelled, line)
     }
 
     /// The names of columns that have no header, of which there are so many: 1, 2 and so on.
@@ -84,13 +104,14 @@ impl Header {
     /// Returns `AllocError` if a request for memory was refused.
     pub fn numbers(alloc: Global, count: usize, line: u64) -> Result<Self, AllocError>
         ensures names { IfOk result (λ header. header.names ≡ numbered_names count) }
+        ensures spelled_names { IfOk result (λ header. header.spelling.names ≡ header.names) }
     {
         let mut told = Told::new(alloc);
         for number in 0..count {
             let name = format!(in alloc; "{}", number.saturating_add(1))?;
             told.found.add(alloc, name.as_bytes())?;
         }
-        told.into_header(alloc, line)
+        told.into_header(alloc, Cells::new(alloc), line)
     }
 
     /// Gives the columns of a key, which have the first of their names, the others. A header with no name, as of an empty file, stays so.
@@ -100,7 +121,9 @@ impl Header {
     /// Returns `NoColumn` if the header lacks a column that gets another name, `RepeatedColumn` if it has one more than once, `NamedTwice`
     /// if two columns would have one name, and `NoMemory` if a request for memory was refused.
     pub fn rename(&mut self, alloc: Global, key: &KeyNames) -> Result<(), Reason>
-        ensures { OnOk result (self.new.names ≡ map (renamed key.now.first key.now.others) self.old.names) }
+        ensures names { OnOk result
+            (self.new.names ≡ map (renamed key.now.first key.now.others) self.old.names) }
+        ensures spelling { self.new.spelling ≡ self.old.spelling }
     {
         self.check_key(alloc, &renamed_of(alloc, key)?)?;
         let mut found = Names::new(alloc);
@@ -217,13 +240,19 @@ impl Told {
         Ok(())
     }
 
-    // The header on a line with these names.
-    fn into_header(self, alloc: Global, line: u64) -> Result<Header, AllocError>
+    // The header on a line with these names, which it spells so.
+    fn into_header(self, alloc: Global, spelled: Cells, line: u64) -> Result<Header, AllocError>
         ensures names { IfOk result (λ header. header.names ≡ names_in self.found) }
+        ensures spelled_names { IfOk result (λ header. header.spelling.names ≡ header.names) }
+        ensures spelled { IfOk result (λ header. header.spelling.spelled ≡ spelled) }
         ensures gone { IfOk result (λ header. header.gone ≡ self.gone) }
     {
         Ok(Header {
             names: self.found.to_cells(alloc)?,
+            spelling: Spelling {
+                names: self.found.to_cells(alloc)?,
+                spelled,
+            },
             found: self.found,
             gone: self.gone,
             repeated: self.repeated,
@@ -232,7 +261,18 @@ impl Told {
     }
 }
 
-// The names that a record has after the cells that stand before them.
+// The names that a record has after the cells that stand before them, as it has them.
+fn spelled_names(alloc: Global, record: &ByteRecord, before: usize) -> Result<Cells, AllocError>
+    ensures { IfOk result (λ names. names ≡ names_behind before (fields_of record.now)) }
+{
+    let mut names = Cells::new(alloc);
+    for place in before..record.len() {
+        names.push(fate_of(before, cell_of(record, place)).1)?;
+    }
+    Ok(names)
+}
+
+// The same, each once, to be found.
 fn names_there(alloc: Global, record: &ByteRecord, before: usize) -> Result<Names, AllocError> {
     let mut there = Names::new(alloc);
     for cell in record.iter().skip(before) {

@@ -122,7 +122,11 @@ fn names_found(
 }
 
 // The names of the key of columns and these others, in the order of the columns.
-fn names_placed(alloc: Global, columns: &Columns, rest: &Cells) -> Result<Cells, AllocError>
+pub(crate) fn names_placed(
+    alloc: Global,
+    columns: &Columns,
+    rest: &Cells,
+) -> Result<Cells, AllocError>
     ensures { IfOk result (λ names. names ≡ placed columns.now.order.items columns.now.key rest.now) }
 {
     let key = Key::copied(&columns.key)?;

@@ -34,6 +34,7 @@ mod request;
 mod shown;
 mod sign;
 mod source;
+mod spelled;
 mod writing;
 mod written;
 
@@ -46,6 +47,7 @@ pub use encoding::Encoding;
 pub use fate::Fate;
 pub use fault::{Fault, Reason};
 pub use first_cell::quote_first;
+pub use header::Spelling;
 pub use joined_names::{join_header, lookup_header};
 pub use joined_rows::Sides;
 pub use key_record::{KeyNames, key_names};

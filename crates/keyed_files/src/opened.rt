@@ -6,6 +6,7 @@ ghost use Rattle.keyed_files.specs.Keys.{AreChangeColumns, AreChangedColumnsBy, 
 ghost use Rattle.keyed_files.specs.Names.{compared};
 ghost use Rattle.keyed_files.specs.Opening.{IsNamedAnew, IsOpened, IsRenamed, first_header, headers_of};
 ghost use Rattle.keyed_files.specs.Opening.{next_header};
+ghost use Rattle.keyed_files.specs.Spelled.{IsSpelledAs};
 ghost use Rattle.keyed_files.specs.declared.source.Content.TheVariants.{Rows};
 
 use crate::column_changes::ColumnChanges;
@@ -166,19 +167,24 @@ impl<'a, R> Two<'a, R> {
         at(self.next.file, marked)
     }
 
-    /// The columns of the table that the next one, which is of changes, makes of the first.
+    /// The columns of the table that the next one, which is of changes, makes of the first, with a heading that spells them as the first
+    /// one does.
     ///
     /// # Errors
     ///
     /// Returns the errors of `columns_of`, as a fault of the first file.
     pub fn changed_columns(&self, alloc: Global, key: Option<&str>) -> Result<Columns, Fault<'a>>
-        ensures { IfOk result (AreChangedColumnsBy key.entry (first_header self.now) (next_header self.now)
-            self.now.next.source.value.header.gone) }
+        ensures columns { IfOk result (AreChangedColumnsBy key.entry (first_header self.now)
+            (next_header self.now) self.now.next.source.value.header.gone) }
+        ensures spelled { IfOk result (IsSpelledAs self.now.first.source.value.header.spelling.names
+            self.now.first.source.value.header.spelling.spelled) }
     {
         let key = self.columns(alloc, key)?.key;
         let (old, changes) = (self.first.header(), self.next.header());
         let columns = changed_columns(alloc, key, old, changes, self.next.source.gone());
-        at(self.first.file, columns)
+        let columns = at(self.first.file, columns)?;
+        let spelling = self.first.source.spelling();
+        at(self.first.file, columns.spell_as(alloc, spelling))
     }
 
     /// The columns of each, for a join of both.

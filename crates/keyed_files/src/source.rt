@@ -16,6 +16,7 @@ ghost use Rattle.keyed_files.specs.Picked.{cell_at};
 ghost use Rattle.keyed_files.specs.Reading.{GivesRecord, HasSign, IsOpen, IsPicked, IsSigned, PlacesOf};
 ghost use Rattle.keyed_files.specs.Reading.{key_in, last_record, next_of, text_lined, text_read};
 ghost use Rattle.keyed_files.specs.Rows.{shown_sign};
+ghost use Rattle.keyed_files.specs.Spelled.{SpelledFirst};
 ghost use Rattle.keyed_files.specs.Writing.{comment_of, delimiter_of};
 ghost use Rattle.keyed_files.specs.declared.source.Content.TheVariants.{Changes};
 ghost use Rattle.keyed_files.specs.declared.source.Next.TheVariants.{Read};
@@ -25,7 +26,7 @@ use crate::checked::{Checked, marks_of};
 use crate::columns::Columns;
 use crate::encoding::Encoding;
 use crate::fault::Reason;
-use crate::header::Header;
+use crate::header::{Header, Spelling};
 use crate::key_record::KeyNames;
 use crate::request::{Form, Lengths, Quotes};
 use crate::sign::{Sign, SignedRow};
@@ -78,6 +79,13 @@ impl<R> Source<R> {
         &self.header.names
     }
 
+    /// The names of the columns as the header spells them, and those by which they are told apart.
+    pub fn spelling(&self) -> &Spelling
+        ensures { result.now ≡ self.now.header.spelling }
+    {
+        &self.header.spelling
+    }
+
     /// In a table of changes, the names of the columns that go.
     pub fn gone(&self) -> &Cells
         ensures { result.now ≡ self.now.header.gone }
@@ -94,6 +102,7 @@ impl<R> Source<R> {
         ensures same { self.new ≡ record self.old { header = self.new.header } }
         ensures names { OnOk result
             (self.new.header.names ≡ map (renamed key.now.first key.now.others) self.old.header.names) }
+        ensures spelling { self.new.header.spelling ≡ self.old.header.spelling }
     {
         self.header.rename(self.alloc, key)
     }
@@ -327,6 +336,9 @@ fn header_of(
 ) -> Result<Header, AllocError>
     ensures names { IfOk result (λ header. HeaderOf form.has_header content has_first
         (fields_of row.now) header.names) }
+    ensures spelled_names { IfOk result (λ header. header.spelling.names ≡ header.names) }
+    ensures spelled { IfOk result (λ header. SpelledFirst form.has_header has_first content
+        (fields_of row.now) header.spelling.spelled) }
     ensures gone { content ≡ Changes → IfOk result
         (λ header. GoneSaid has_first form.has_header (fields_of row.now) header.gone) }
 {

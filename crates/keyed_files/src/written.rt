@@ -132,8 +132,23 @@ impl Written {
         ensures { OnOk result (PutsRows self.old self.new
             (names_row (option_map (λ cell. cell.now) first.entry) columns.now ∷ [])) }
     {
-        let key = Key::copied(&columns.key)?;
-        self.put_row(first, &columns.order, &key, &columns.rest)?;
+        match &columns.spelled {
+            Some(names) => self.put_names(first, names),
+            None => {
+                let key = Key::copied(&columns.key)?;
+                self.put_row(first, &columns.order, &key, &columns.rest)
+            }
+        }
+    }
+
+    // Puts names, after a first cell if there is one, and ends the row.
+    fn put_names(&mut self, first: Option<&[u8]>, names: &Cells) -> Result<(), Reason>
+        ensures { OnOk result (PutsRows self.old self.new
+            ((first_cells (option_map (λ cell. cell.now) first.entry) ++ names.now) ∷ [])) }
+    {
+        self.put_first(first)?;
+        self.put(names)?;
+        self.end_row()?;
         Ok(())
     }
 

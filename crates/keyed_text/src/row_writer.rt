@@ -50,7 +50,8 @@ impl<W: Write + Drop> RowWriter<W> {
     /// assert!(rt; rows.finish()?.as_slice() == b"\"id\",\"price\"\r\n".as_slice());
     /// ```
     pub fn in_style(writer: W, marks: Marks, style: Style) -> Self
-        ensures { HasNoRow (writer_in style marks.delimiter marks.comment) W.contents (W.contents writer) result }
+        ensures { HasNoRow (writer_in style marks.delimiter marks.comment)
+            W.contents (W.contents writer) result }
     {
         RowWriter {
             writer: WriterBuilder::new()

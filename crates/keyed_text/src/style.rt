@@ -63,7 +63,7 @@ impl Style {
     {
         let rows = self.ended(rows);
         if self.has_mark {
-            let text = behind_mark(alloc, &rows)?;
+            let text = after_mark(alloc, &rows)?;
             Ok(text)
         } else {
             Ok(rows)
@@ -94,7 +94,7 @@ impl LineEnd {
 }
 
 // A text after a byte order mark.
-fn behind_mark(alloc: Global, text: &[u8]) -> Result<Vec<u8>, AllocError>
+fn after_mark(alloc: Global, text: &[u8]) -> Result<Vec<u8>, AllocError>
     ensures { IfOk result (λ marked. marked.items ≡ 239 ∷ 187 ∷ 191 ∷ text.now) }
 {
     let mut marked = Vec::new(alloc);

@@ -3,7 +3,7 @@ use Rattle.std.proofs.lemmas.Result.{IfOk-weaker}
 use Rattle.csv.specs.Records.{fields_of}
 use Rattle.keyed_files.specs.Going.{names_going}
 use Rattle.keyed_files.specs.Headers.{cells_before}
-use Rattle.keyed_files.proofs.HeaderLemmas.{gone-read, header-read, names-said}
+use Rattle.keyed_files.proofs.HeaderLemmas.{gone-read, header-read, names-said, spelled-read}
 use Rattle.keyed_files.proofs.NumberLemmas.{header-counted}
 use Rattle.keyed_files.proofs.source.header_of.Goals as goal
 
@@ -14,6 +14,10 @@ returns-then-form c =
       names = IfOk-weaker c.of_record.result _ _
           (λ header said. header-read c.args.content c.args.form.has_header c.args.has_first fields header.names c.if-not-has_first.false c.if-form.true
           (names-said c.args.content c.cells_before-before.result fields header.names c.cells_before-before.ensures.value said)) c.of_record.ensures.names;
+      spelled_names = c.of_record.ensures.spelled_names;
+      spelled = IfOk-weaker c.of_record.result _ _
+          (λ header said. spelled-read c.args.content c.args.form.has_header c.args.has_first c.cells_before-before.result fields header.spelling.spelled c.if-not-has_first.false c.if-form.true
+          c.cells_before-before.ensures.value said) c.of_record.ensures.spelled;
       gone = λ changes. IfOk-weaker c.of_record.result _ _
           (λ header said. gone-read c.args.has_first c.args.form.has_header fields header.gone c.if-not-has_first.false c.if-form.true
           (said ∙ ap (λ before. names_going before fields) (c.cells_before-before.ensures.value ∙ ap cells_before changes))) c.of_record.ensures.gone;

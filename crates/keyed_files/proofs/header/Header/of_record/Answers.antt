@@ -40,6 +40,8 @@ returns c =
     record {
       names = IfOk-weaker c.into_header.result _ _
           (λ header made once. made ∙ (c.loop-place.invariant.0 once).0 ∙ take_all (c.loop-place.place - before) (names_behind before fields) all) c.into_header.ensures.names;
+      spelled_names = c.into_header.ensures.spelled_names;
+      spelled = IfOk-weaker c.into_header.result _ _ (λ header made. made ∙ c.in_ok-spelled.ensures) c.into_header.ensures.spelled;
       gone = IfOk-weaker c.into_header.result _ _
           (λ header made. made ∙ c.loop-place.invariant.1 ∙ ap (flat_map (going_behind before)) (take_all (c.loop-place.place - before) (drop before fields) whole)) c.into_header.ensures.gone;
     }

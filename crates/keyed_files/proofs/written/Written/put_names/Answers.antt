@@ -1,0 +1,10 @@
+use Rattle.std.proofs.Common.{◌++◌}
+use Rattle.std.specs.Prelude.{option_map}
+use Rattle.keyed_files.specs.Rows.{first_cells}
+use Rattle.keyed_files.proofs.WritingLemmas.{then-cells, then-end}
+use Rattle.keyed_files.proofs.written.Written.put_names.Goals as goal
+
+pub returns : goal.returns
+returns c =
+    let first = first_cells (option_map (λ cell. cell.now) c.args.first) in
+    then-end _ _ _ (first ++ c.args.names.now) (then-cells _ _ _ first c.args.names.now c.in_ok-put_first.ensures c.in_ok-put.ensures) c.in_ok-end_row.ensures
