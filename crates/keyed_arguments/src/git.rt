@@ -139,7 +139,8 @@ fn diff_asked<'a>(
             let look = Look::Table {
                 colours: colours_of(matches, terminal),
             };
-            versions_asked(alloc, matches, Format::Report(look), diff)
+            let how = Comparing::whole(Format::Report(look));
+            versions_asked(alloc, matches, how, diff)
         }
         _ => Ok(Asked::GitUnmerged { path }),
     }
@@ -148,17 +149,17 @@ fn diff_asked<'a>(
 fn versions_asked<'a>(
     alloc: Global,
     matches: &ArgMatches<'a>,
-    format: Format,
+    how: Comparing<'a>,
     diff: GitDiff<'a>,
 ) -> Result<Asked<'a>, ParseError> {
     let named = Request::Diff {
         old: diff.path,
         new: diff.renamed.unwrap_or(diff.path),
-        how: Comparing::whole(format),
+        how,
     };
     Ok(Asked::GitDiff {
         settings: settings_in_order(alloc, matches, named)?,
-        format,
+        how,
         diff,
     })
 }

@@ -3,7 +3,9 @@
 use crate::numbers::tolerance_of;
 use crate::{ParseError, flag, put, text};
 use clap::{Arg, ArgMatches};
-use keyed_files::{Colours, Comparing, Decimal, Format, Look, Picked, RowsShown, View, key_names};
+use keyed_files::{
+    Colours, ColumnsShown, Comparing, Decimal, Format, Look, Picked, RowsShown, View, key_names,
+};
 use std::alloc::{AllocError, Global};
 
 // The options that leave something out and take a text: the name of each, what stands for the text in the help, and its help.
@@ -60,7 +62,9 @@ pub fn comparing_of<'a>(
     }
     let view = View {
         columns: picked_of(alloc, matches)?,
+        shown: ColumnsShown::Changed,
         rows: rows_of(matches)?,
+        width: None,
     };
     if matches.get_str("format") == Some("json") {
         check_each_row(view.rows)?;

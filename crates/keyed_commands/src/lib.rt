@@ -40,9 +40,9 @@ pub use commands::overlay::overlay;
 pub use files::{answer_request, stream_request, write_command, write_request, write_whole};
 pub use finished::{Finished, SideCounts, StreamCounts};
 pub use keyed_files::{
-    Asked, Colours, Command, Comment, Comparing, Conflicts, Decimal, Delimiter, Encoding, Fault,
-    Finding, Form, Format, GitDiff, GitMerge, Heading, JoinNames, Joining, Kind, Layer, Layout,
-    Lengths, Look, Lookup as LookupRequest, LookupKind, Merging, NamedFile,
+    Asked, Colours, ColumnsShown, Command, Comment, Comparing, Conflicts, Decimal, Delimiter,
+    Encoding, Fault, Finding, Form, Format, GitDiff, GitMerge, Heading, JoinNames, Joining, Kind,
+    Layer, Layout, Lengths, Look, Lookup as LookupRequest, LookupKind, Merging, NamedFile,
     Overlay as OverlayRequest, Picked, Quotes, Reading, Reason, Request, RowFormat, RowsShown,
     Settings, Shown, ShownCell, ShownName, SortedChanges, SortedRequest, Stream, Unit, View,
     Wanted, Writing, at,

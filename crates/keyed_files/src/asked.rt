@@ -1,6 +1,6 @@
 //! What a whole command line wants: the answer to a command, or what git does with tables.
 
-use crate::request::{Command, Format, Settings};
+use crate::request::{Command, Comparing, Settings};
 
 /// What a command line wants.
 #[derive(Drop, Debug)]
@@ -13,7 +13,7 @@ pub enum Asked<'a> {
     /// What git shows of a table that changed.
     GitDiff {
         settings: Settings<'a>,
-        format: Format,
+        how: Comparing<'a>,
         diff: GitDiff<'a>,
     },
     /// What git shows of a table that changed and can't be opened, since the name of its file is not UTF-8.

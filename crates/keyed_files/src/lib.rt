@@ -65,9 +65,9 @@ pub use opened::{Opened, Stream, Two, at};
 pub use overlays::{Layer, NamedFile, Overlay};
 pub use parts::Parts;
 pub use request::{
-    Colours, Command, Comment, Comparing, Delimiter, Form, Format, JoinNames, Joining, Kind,
-    Layout, Lengths, Look, Picked, Quotes, Reading, Request, RowFormat, RowsShown, Settings,
-    SortedChanges, SortedRequest, View, Wanted,
+    Colours, ColumnsShown, Command, Comment, Comparing, Delimiter, Form, Format, JoinNames,
+    Joining, Kind, Layout, Lengths, Look, Picked, Quotes, Reading, Request, RowFormat, RowsShown,
+    Settings, SortedChanges, SortedRequest, View, Wanted,
 };
 pub use shown::{Shown, ShownCell, ShownInList, ShownName};
 pub use sign::{Sign, SignedRow};

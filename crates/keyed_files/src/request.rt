@@ -271,18 +271,31 @@ pub enum RowsShown {
     Nothing,
 }
 
+/// Which of the columns that are compared a table on a terminal and a page of HTML show, beside those of the key.
+#[derive(Clone, Copy, Debug)]
+pub enum ColumnsShown {
+    /// Those in which a row that is shown changed; or all, where one is shown that came or went, so that nothing of it is left out.
+    Changed,
+    All,
+}
+
 /// What of the changes a report shows. Its counts are of all rows.
 #[derive(Clone, Copy, Debug)]
 pub struct View<'a> {
     pub columns: Picked<'a>,
+    pub shown: ColumnsShown,
     pub rows: RowsShown,
+    /// How many columns of a terminal the lines of a table may take, where they are cut into blocks of columns that do not take more.
+    pub width: Option<usize>,
 }
 
 impl View<'static> {
-    /// All columns, and all rows.
+    /// All that changed, of all columns and all rows, on lines of any length.
     pub const WHOLE: View<'static> = View {
         columns: Picked::All,
+        shown: ColumnsShown::Changed,
         rows: RowsShown::All,
+        width: None,
     };
 }
 

@@ -246,9 +246,9 @@ fn write_asked<'a, R: Files + Input + AllocGlobal, W: Write>(
         }
         Asked::GitDiff {
             settings,
-            format,
+            how,
             diff,
-        } => write_git_diff(rt, settings, format, diff, output)?,
+        } => write_git_diff(rt, settings, how, diff, output)?,
         Asked::GitUnopened { diff } => write_git_unopened(rt, diff, output)?,
         Asked::GitUnmerged { path } => write_git_unmerged(rt, path, output)?,
         Asked::GitMerge { settings, merge } => write_git_merge(rt, settings, merge, output)?,

@@ -97,14 +97,14 @@ impl ShownWords {
         match asked {
             Asked::GitDiff {
                 settings,
-                format,
+                how,
                 diff,
             } => Some(if self.has_escaped(diff.old) || self.has_escaped(diff.new) {
                 Asked::GitUnopened { diff }
             } else {
                 Asked::GitDiff {
                     settings,
-                    format,
+                    how,
                     diff,
                 }
             }),

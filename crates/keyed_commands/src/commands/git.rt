@@ -4,7 +4,7 @@ use crate::files::{answer_request, write_whole};
 use crate::line_diff::{Versions, render_line_diff};
 use crate::output::write_answer;
 use keyed_files::{
-    Comparing, Fault, Format, GitDiff, GitMerge, Merging, Reason, Request, Settings, Shown, at,
+    Comparing, Fault, GitDiff, GitMerge, Merging, Reason, Request, Settings, Shown, at,
 };
 use std::alloc::{AllocError, Global};
 use std::fmt::Write as WriteText;
@@ -21,14 +21,14 @@ use std::rt::Files;
 pub fn write_git_diff<'a, R: Files + Input + AllocGlobal, W: Write>(
     rt: &R,
     settings: Settings<'a>,
-    format: Format,
+    how: Comparing<'a>,
     diff: GitDiff<'a>,
     output: &mut W,
 ) -> Result<u8, Fault<'a>> {
     let request = Request::Diff {
         old: diff.old,
         new: diff.new,
-        how: Comparing::whole(format),
+        how,
     };
     let bytes = match answer_request(rt, settings, request) {
         Ok(answer) => answer.bytes,
