@@ -36,6 +36,9 @@ pub struct Line {
     pub cells: Vec<String>,
 }
 
+/// How many spaces stand between columns.
+pub const GAP: usize = 2;
+
 /// Lines of cells.
 pub type Grid = Vec<Line>;
 
@@ -60,6 +63,25 @@ fn put_cells_of(alloc: Global, line: &mut Line, cells: Iter<'_>) -> Result<(), A
     Ok(())
 }
 
+/// Puts those cells after those of a line that are picked, of which each has its flag.
+///
+/// # Errors
+///
+/// Returns `AllocError` if a request for memory was refused.
+pub fn put_picked(
+    alloc: Global,
+    line: &mut Line,
+    picked: &[bool],
+    cells: &Cells,
+) -> Result<(), AllocError> {
+    for (cell, is_picked) in cells.iter().zip(picked.iter()) {
+        if *is_picked {
+            line.cells.push(show_cell(alloc, cell)?)?;
+        }
+    }
+    Ok(())
+}
+
 /// The names of the columns, after an empty cell.
 ///
 /// # Errors
@@ -69,6 +91,22 @@ pub fn heading(alloc: Global, columns: &Columns) -> Result<Line, AllocError> {
     let mut line = line_of_word(alloc, "")?;
     put_shown(alloc, &mut line, &columns.key)?;
     put_shown(alloc, &mut line, &columns.rest)?;
+    Ok(line)
+}
+
+/// The names of the key's columns and of those others that are picked, after an empty cell.
+///
+/// # Errors
+///
+/// Returns `AllocError` if a request for memory was refused.
+pub fn heading_of_picked(
+    alloc: Global,
+    columns: &Columns,
+    picked: &[bool],
+) -> Result<Line, AllocError> {
+    let mut line = line_of_word(alloc, "")?;
+    put_shown(alloc, &mut line, &columns.key)?;
+    put_picked(alloc, &mut line, picked, &columns.rest)?;
     Ok(line)
 }
 
@@ -93,8 +131,8 @@ fn line_of_word(alloc: Global, word: &str) -> Result<Line, AllocError> {
     })
 }
 
-/// Puts the cells of both versions of a row after those of a line, each pair as one cell. Where numbers are compared by value, two that are
-/// as near as may be count as the same, and the new one is put.
+/// Puts the picked cells of both versions of a row after those of a line, each pair as one cell. Where numbers are compared by value, two
+/// that are as near as may be count as the same, and the new one is put.
 ///
 /// # Errors
 ///
@@ -103,18 +141,30 @@ pub fn put_both(
     alloc: Global,
     line: &mut Line,
     tolerance: Option<Decimal<'_>>,
+    picked: &[bool],
     old: &Cells,
     new: &Cells,
 ) -> Result<(), AllocError> {
-    for (cell, next) in old.iter().zip(new.iter()) {
-        let shown = if is_same_cell(tolerance, cell, next) {
-            show_cell(alloc, next)?
-        } else {
-            both_cells(alloc, cell, next)?
-        };
-        line.cells.push(shown)?;
+    for ((cell, next), is_picked) in old.iter().zip(new.iter()).zip(picked.iter()) {
+        if *is_picked {
+            line.cells.push(both_shown(alloc, tolerance, cell, next)?)?;
+        }
     }
     Ok(())
+}
+
+// Two cells as one: the new one where they are the same.
+fn both_shown(
+    alloc: Global,
+    tolerance: Option<Decimal<'_>>,
+    old: &[u8],
+    new: &[u8],
+) -> Result<String, AllocError> {
+    if is_same_cell(tolerance, old, new) {
+        show_cell(alloc, new)
+    } else {
+        both_cells(alloc, old, new)
+    }
 }
 
 // Two cells that differ, of which an empty one is `""`.
@@ -160,15 +210,25 @@ fn put_no_row(alloc: Global, grid: &mut Grid, name: &str, key: &Key) -> Result<(
 ///
 /// Returns `AllocError` if a request for memory was refused.
 pub fn line_up(alloc: Global, grid: &[Line]) -> Result<String, AllocError> {
-    let mut widths: Vec<usize> = Vec::new(alloc);
-    for line in grid {
-        widen(&mut widths, &line.cells)?;
-    }
+    let widths = widths_of(alloc, grid)?;
     let mut text = String::new(alloc);
     for line in grid {
         put_line(&mut text, line, &widths)?;
     }
     Ok(text)
+}
+
+/// How many columns of a terminal the widest cell of each column takes.
+///
+/// # Errors
+///
+/// Returns `AllocError` if a request for memory was refused.
+pub fn widths_of(alloc: Global, grid: &[Line]) -> Result<Vec<usize>, AllocError> {
+    let mut widths: Vec<usize> = Vec::new(alloc);
+    for line in grid {
+        widen(&mut widths, &line.cells)?;
+    }
+    Ok(widths)
 }
 
 // Makes columns as wide as the cells of a line.
@@ -209,7 +269,7 @@ fn put_cells(text: &mut String, cells: &[String], widths: &[usize]) -> Result<()
             gap = 0;
         }
         let width = cell.as_str().width();
-        let behind = widest.saturating_sub(width).saturating_add(2);
+        let behind = widest.saturating_sub(width).saturating_add(GAP);
         gap = gap.saturating_add(behind);
     }
     Ok(())

@@ -6,8 +6,9 @@ ghost use Rattle.keyed_reports.specs.Escapes.{html_byte};
 
 use crate::changed_rows::{RowChange, word_of};
 use crate::report::Report;
+use crate::shown_columns::{columns_of, left_out};
 use either_or_both::EitherOrBoth;
-use keyed_files::{ShownCell, ShownName, is_same_cell};
+use keyed_files::{Columns, Decimal, ShownCell, ShownName, is_same_cell};
 use keyed_rows::{Cells, Iter};
 use std::alloc::{AllocError, Global};
 
@@ -22,7 +23,7 @@ const HEAD: &[u8] = b"<!DOCTYPE html>\n<html lang=\"en\">\n<head>\n<meta charset
     del { background: #e0000044; } ins { background: #00a00044; text-decoration: none; font-weight: bold; }\n\
     </style>\n</head>\n<body>\n";
 
-/// What became of the columns, the rows with both versions side by side, and the counts.
+/// What became of the columns, the rows with both versions side by side, how many columns are not shown, if any are not, and the counts.
 ///
 /// # Errors
 ///
@@ -31,10 +32,11 @@ pub fn html(alloc: Global, report: &Report<'_>) -> Result<Vec<u8>, AllocError> {
     let mut text = begin_page(alloc)?;
     let said = format!(in alloc; "{}", report.column_changes)?;
     put_lines(&mut text, &said)?;
+    let shown = columns_of(alloc, report)?;
     if !report.rows.is_empty() {
-        put_heading(alloc, &mut text, report)?;
+        put_heading(alloc, &mut text, report.columns, &shown)?;
         for row in report.rows {
-            put_row(alloc, &mut text, report, row)?;
+            put_row(alloc, &mut text, report.tolerance, &shown, row)?;
         }
         text.extend_from_slice(b"</tbody>\n</table>\n")?;
     }
@@ -42,6 +44,7 @@ pub fn html(alloc: Global, report: &Report<'_>) -> Result<Vec<u8>, AllocError> {
         let more = format!(in alloc; "<p>and {} more</p>\n", report.more)?;
         text.extend_from_slice(more.as_bytes())?;
     }
+    put_lines(&mut text, &left_out(alloc, report, &shown)?)?;
     let counts = format!(in alloc; "<p>{}</p>\n", report.counts)?;
     text.extend_from_slice(counts.as_bytes())?;
     end_page(&mut text)?;
@@ -80,12 +83,16 @@ pub fn put_lines(text: &mut Vec<u8>, said: &str) -> Result<(), AllocError> {
     Ok(())
 }
 
-// Puts the names of the columns: those of the key once, and the others below each version.
-fn put_heading(alloc: Global, text: &mut Vec<u8>, report: &Report<'_>) -> Result<(), AllocError> {
-    let columns = report.columns;
+// Puts the names of the columns: those of the key once, and those of the others that are shown below each version.
+fn put_heading(
+    alloc: Global,
+    text: &mut Vec<u8>,
+    columns: &Columns,
+    shown: &[bool],
+) -> Result<(), AllocError> {
     text.extend_from_slice(b"<table>\n<thead>\n<tr><th></th>")?;
     put_elements(alloc, text, "th", columns.key.iter())?;
-    let count = columns.rest.len();
+    let count = shown.iter().filter(|is_shown| **is_shown).count();
     if count > 0 {
         let sides = format!(in alloc;
             "<th colspan=\"{count}\">old</th><th colspan=\"{count}\">new</th>"
@@ -96,17 +103,18 @@ fn put_heading(alloc: Global, text: &mut Vec<u8>, report: &Report<'_>) -> Result
     for _ in &columns.key {
         text.extend_from_slice(b"<th></th>")?;
     }
-    put_elements(alloc, text, "th", columns.rest.iter())?;
-    put_elements(alloc, text, "th", columns.rest.iter())?;
+    put_picked(alloc, text, "th", shown, &columns.rest)?;
+    put_picked(alloc, text, "th", shown, &columns.rest)?;
     text.extend_from_slice(b"</tr>\n</thead>\n<tbody>\n")?;
     Ok(())
 }
 
-// Puts the line of a row.
+// Puts the line of a row, of the columns that are shown.
 fn put_row(
     alloc: Global,
     text: &mut Vec<u8>,
-    report: &Report<'_>,
+    tolerance: Option<Decimal<'_>>,
+    shown: &[bool],
     row: &RowChange<'_>,
 ) -> Result<(), AllocError> {
     let (key, change) = *row;
@@ -116,16 +124,16 @@ fn put_row(
     put_elements(alloc, text, "th", key.iter())?;
     match change {
         EitherOrBoth::Left(old) => {
-            put_elements(alloc, text, "td", old.iter())?;
-            put_none(text, report)?;
+            put_picked(alloc, text, "td", shown, old)?;
+            put_none(text, shown)?;
         }
         EitherOrBoth::Right(new) => {
-            put_none(text, report)?;
-            put_elements(alloc, text, "td", new.iter())?;
+            put_none(text, shown)?;
+            put_picked(alloc, text, "td", shown, new)?;
         }
         EitherOrBoth::Both(old, new) => {
-            put_marked(alloc, text, report, "del", (old, new))?;
-            put_marked(alloc, text, report, "ins", (new, old))?;
+            put_marked(alloc, text, tolerance, shown, "del", (old, new))?;
+            put_marked(alloc, text, tolerance, shown, "ins", (new, old))?;
         }
     }
     text.extend_from_slice(b"</tr>\n")?;
@@ -150,31 +158,54 @@ pub fn put_elements(
     Ok(())
 }
 
-// Puts an empty cell for each column after the key.
-fn put_none(text: &mut Vec<u8>, report: &Report<'_>) -> Result<(), AllocError> {
-    for _ in &report.columns.rest {
-        text.extend_from_slice(b"<td></td>")?;
+// Puts each cell of a column that is shown as an element of this name.
+fn put_picked(
+    alloc: Global,
+    text: &mut Vec<u8>,
+    element: &str,
+    shown: &[bool],
+    cells: &Cells,
+) -> Result<(), AllocError> {
+    for (cell, is_shown) in cells.iter().zip(shown.iter()) {
+        if *is_shown {
+            let said = format!(in alloc; "{}", ShownCell(cell))?;
+            put_element(text, element, &said)?;
+        }
     }
     Ok(())
 }
 
-// Puts the cells of one version of a row, those that the other has otherwise within a mark, which is an element too.
+// Puts an empty cell for each column that is shown.
+fn put_none(text: &mut Vec<u8>, shown: &[bool]) -> Result<(), AllocError> {
+    for is_shown in shown {
+        if *is_shown {
+            text.extend_from_slice(b"<td></td>")?;
+        }
+    }
+    Ok(())
+}
+
+// Puts the cells that are shown of one version of a row, those that the other has otherwise within a mark, which is an element too.
 fn put_marked(
     alloc: Global,
     text: &mut Vec<u8>,
-    report: &Report<'_>,
+    tolerance: Option<Decimal<'_>>,
+    shown: &[bool],
     mark: &str,
     rows: (&Cells, &Cells),
 ) -> Result<(), AllocError> {
     let (cells, others) = rows;
-    for (cell, other) in cells.iter().zip(others.iter()) {
-        if is_same_cell(report.tolerance, cell, other) {
-            let shown = format!(in alloc; "{}", ShownCell(cell))?;
-            put_element(text, "td", &shown)?;
+    for ((cell, other), is_shown) in cells.iter().zip(others.iter()).zip(shown.iter()) {
+        if !*is_shown {
+            continue;
+        }
+        if is_same_cell(tolerance, cell, other) {
+            let said = format!(in alloc; "{}", ShownCell(cell))?;
+            put_element(text, "td", &said)?;
         } else {
-            let shown = format!(in alloc; "{}", ShownName(cell))?;
+            let said = format!(in alloc; "{}", ShownName(cell))?;
             text.extend_from_slice(b"<td>")?;
-            put_element(text, mark, &shown)?;
+            put_element(text, mark, &said)?;
             text.extend_from_slice(b"</td>")?;
         }
     }

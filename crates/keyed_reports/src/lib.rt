@@ -5,6 +5,7 @@
 //! would be lost. Which rows these are is found elsewhere, in `keyed_tables` and `keyed_commands`.
 #![tactic(auto)]
 
+mod blocks;
 mod changed_rows;
 mod column_counts;
 mod counts;
@@ -14,6 +15,7 @@ mod json_lines;
 mod laws;
 mod markdown;
 mod report;
+mod shown_columns;
 mod stopped;
 mod summary;
 mod table;

@@ -10,7 +10,7 @@ use crate::json_lines::{json_columns, json_rows};
 use crate::markdown::markdown;
 use crate::summary::{summary_json, summary_table};
 use crate::table::table;
-use keyed_files::{ColumnChanges, Columns, Decimal, Look, RowsShown};
+use keyed_files::{ColumnChanges, Columns, Decimal, Look, RowsShown, View};
 use std::alloc::{AllocError, Global};
 
 /// What there is to say of two tables that were compared.
@@ -20,8 +20,8 @@ pub struct Report<'r> {
     pub columns: &'r Columns,
     /// What became of columns.
     pub column_changes: ColumnChanges<'r>,
-    /// Which of the rows are shown.
-    pub which: RowsShown,
+    /// Which columns and rows are shown, and how wide a table may be.
+    pub view: View<'r>,
     /// All rows that changed.
     pub all: &'r [RowChange<'r>],
     /// Those that are shown.
@@ -35,27 +35,28 @@ pub struct Report<'r> {
 }
 
 impl<'r> Report<'r> {
-    /// What there is to say of these changed rows, of which a part is shown. The old table had this many rows. With a tolerance, cells that
+    /// What there is to say of these changed rows, of which this part is shown. The old table had this many rows. With a tolerance, cells that
     /// are numbers are compared by value.
     pub fn new(
         columns: &'r Columns,
         column_changes: ColumnChanges<'r>,
-        which: RowsShown,
+        view: View<'r>,
         tolerance: Option<Decimal<'r>>,
         old_rows: usize,
         rows: &'r [RowChange<'r>],
     ) -> Self
         ensures all { result.all.now ≡ rows.now }
-        ensures rows { result.rows.now ≡ shown_rows which rows.now }
-        ensures more { result.more ≡ count_more which (length rows.now) }
+        ensures view { result.view ≡ view.entry }
+        ensures rows { result.rows.now ≡ shown_rows view.entry.rows rows.now }
+        ensures more { result.more ≡ count_more view.entry.rows (length rows.now) }
     {
         Report {
             columns,
             column_changes,
-            which,
+            view,
             all: rows,
-            rows: shown_rows(which, rows),
-            more: count_more(which, rows.len()),
+            rows: shown_rows(view.rows, rows),
+            more: count_more(view.rows, rows.len()),
             counts: count(old_rows, rows),
             tolerance,
         }
@@ -91,7 +92,7 @@ fn count_more(which: RowsShown, all: usize) -> usize
 ///
 /// Returns `AllocError` if a request for memory was refused.
 pub fn write_report(alloc: Global, look: Look, report: &Report<'_>) -> Result<Vec<u8>, AllocError> {
-    match report.which {
+    match report.view.rows {
         RowsShown::Nothing => write_summary(alloc, look, report),
         RowsShown::All | RowsShown::First(_) => write_rows(alloc, look, report),
     }

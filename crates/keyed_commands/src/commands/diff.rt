@@ -167,7 +167,7 @@ fn diff_as_report<'a>(
     let report = Report::new(
         job.columns,
         column_changes,
-        how.view.rows,
+        how.view,
         how.tolerance,
         old_rows,
         &rows,
