@@ -15,6 +15,7 @@ pub mod NotedStyles
 pub mod OneSide
 pub mod OverlayAnswers
 pub mod PartAnswers
+pub mod Preferred
 pub mod SortedParts
 pub mod TablesRead
 pub mod TextLaws

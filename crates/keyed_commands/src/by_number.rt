@@ -226,7 +226,7 @@ fn right_in(sides: &EitherOrBoth<Group, Group>) -> Option<&Group>
 }
 
 // The rows of each side, of which the others are dropped.
-fn ours_of(versions: Versions<Group>) -> Option<Group>
+pub(crate) fn ours_of(versions: Versions<Group>) -> Option<Group>
     ensures { result ≡ item_left (right_place versions) }
 {
     match versions.right() {
@@ -235,7 +235,7 @@ fn ours_of(versions: Versions<Group>) -> Option<Group>
     }
 }
 
-fn theirs_of(versions: Versions<Group>) -> Option<Group>
+pub(crate) fn theirs_of(versions: Versions<Group>) -> Option<Group>
     ensures { result ≡ item_right (right_place versions) }
 {
     match versions.right() {

@@ -22,6 +22,7 @@ mod lost_cells;
 mod made_table;
 mod marks;
 mod output;
+mod preferred;
 mod row_order;
 mod sorted;
 mod styles;
@@ -44,7 +45,7 @@ pub use keyed_files::{
     Encoding, Fault, Finding, Form, Format, GitDiff, GitMerge, Heading, JoinNames, Joining, Kind,
     Layer, Layout, Lengths, Look, Lookup as LookupRequest, LookupKind, Merging, NamedFile,
     Overlay as OverlayRequest, Picked, Quotes, Reading, Reason, Request, RowFormat, RowsShown,
-    Settings, Shown, ShownCell, ShownName, SortedChanges, SortedRequest, Stream, Unit, View,
+    Settings, Shown, ShownCell, ShownName, Side, SortedChanges, SortedRequest, Stream, Unit, View,
     Wanted, Writing, at,
 };
 pub use keyed_reports::Counts;

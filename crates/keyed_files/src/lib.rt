@@ -60,7 +60,7 @@ pub use lined_up::{
     put_shown, put_version, widths_of,
 };
 pub use lookups::{Finding, Lookup, LookupKind};
-pub use merging::{Conflicts, Merging, Unit};
+pub use merging::{Conflicts, Merging, Side, Unit};
 pub use new_columns::{changed_columns, marked_names, merged_columns};
 pub use opened::{Opened, Stream, Two, at};
 pub use overlays::{Layer, NamedFile, Overlay};

@@ -11,6 +11,13 @@ pub enum Unit {
     Cell,
 }
 
+/// A side of a merge.
+#[derive(Clone, Copy, Debug)]
+pub enum Side {
+    Ours,
+    Theirs,
+}
+
 /// What is written where rows are in conflict.
 #[derive(Clone, Copy, Debug)]
 pub enum Conflicts {
@@ -18,6 +25,9 @@ pub enum Conflicts {
     Report,
     /// The merged table, with the versions of each of these rows between marks, as git writes them.
     Marks,
+    /// The merged table, with the version that this side has of each of these rows; of a row that is merged by cell, with its version of the
+    /// cells in conflict. A row that this side does not have goes.
+    Prefer(Side),
 }
 
 /// How two versions of a table are merged over their base.

@@ -6,9 +6,10 @@ ghost use Rattle.keyed_tables.specs.Arranged.{noted};
 ghost use Rattle.keyed_tables.specs.Parted.{merged_of};
 ghost use Rattle.keyed_commands.specs.AppliedTexts.{watched_left};
 ghost use Rattle.keyed_commands.specs.MergedTexts.{AnswersBy, IsReported, MergesSources, MergesStreams};
+ghost use Rattle.keyed_commands.specs.Preferred.{rows_by_side};
 ghost use Rattle.keyed_commands.specs.TablesRead.{IsUnordered, ReadsTable};
 ghost use Rattle.keyed_commands.specs.Answers.{AnswersMerge, AnswersMerged, AnswersMergedByCell, HasConflict};
-ghost use Rattle.keyed_commands.specs.Answers.{HasNoConflict, HasNoneStuck, HasStuck, Stops};
+ghost use Rattle.keyed_commands.specs.Answers.{AnswersTable, HasNoConflict, HasNoneStuck, HasStuck, Stops};
 
 use crate::answer::{Answer, Outcome, stopped};
 use crate::by_number::settled_by_number;
@@ -18,10 +19,11 @@ use crate::job::{Job, Table};
 use crate::lost_cells::lose_cells;
 use crate::made_table::answer_of_rows;
 use crate::marks::{has_conflict, parted, write_marked};
+use crate::preferred::rows_by_side;
 use crate::styles::{Watched, style_under, watch};
 use keyed_files::{
-    Columns, Conflicts, Content, Decimal, Fault, Merging, Opened, Reason, Settings, Stream, Two,
-    Unit, at, columns_of, merged_columns,
+    Columns, Conflicts, Content, Decimal, Fault, Merging, Opened, Reason, Settings, Side, Stream,
+    Two, Unit, at, columns_of, merged_columns,
 };
 use keyed_reports::Report;
 use keyed_rows::{Group, Key};
@@ -142,6 +144,10 @@ fn merge_tables(
                 let rows = marked_rows(job.alloc, how.unit, versions)?;
                 mark_conflicts(job, how, rows)
             }
+            Conflicts::Prefer(side) => {
+                let rows = marked_rows(job.alloc, how.unit, versions)?;
+                merge_by_side(job, how, side, rows)
+            }
         },
     }
 }
@@ -157,6 +163,7 @@ fn merge_by_number(
     let rows = settled_by_number(job.alloc, tolerance, how.unit, rows)?;
     match how.conflicts {
         Conflicts::Marks => mark_conflicts(job, how, rows),
+        Conflicts::Prefer(side) => merge_by_side(job, how, side, rows),
         Conflicts::Report => answer_of_merge(job, how, parted(job.alloc, rows)?),
     }
 }
@@ -176,6 +183,21 @@ fn mark_conflicts(
         });
     }
     answer_of_merge(job, how, parted(job.alloc, rows)?)
+}
+
+// The merged table, with rows in conflict as this side has them.
+fn merge_by_side(
+    job: &Job<'_, Columns>,
+    how: Merging<'_>,
+    side: Side,
+    rows: Vec<(Key, Marked<Group>)>,
+) -> Result<Answer, Reason>
+    ensures { IfOk result (AnswersTable job.now.form job.now.columns.now (noted job.now.order)
+        (is_none job.now.row_order.files) (rows_by_side how.entry.unit how.entry.tolerance side rows.items)) }
+{
+    let settled = rows_by_side(job.alloc, how, side, rows)?;
+    let answer = answer_of_rows(job, "merged", settled)?;
+    Ok(answer)
 }
 
 // The merged table, or a report of the rows in conflict.
