@@ -2,13 +2,15 @@
 
 use crate::form::files_of;
 use crate::help::example_of;
+use crate::texts::Text;
 use crate::view::colours_of;
 use crate::{
     COLOR, FLAGS, KEY, ParseError, TEXTS, choice, file_of, flag, put, put_texts, settings_of,
 };
 use clap::{Arg, ArgMatches, Command};
 use keyed_files::{
-    Asked, Colours, Comparing, Format, GitDiff, GitMerge, Look, Merging, Request, Settings,
+    Asked, Colours, Comparing, Format, GitDiff, GitMerge, GitSetup, Look, Merging, Request,
+    Settings,
 };
 use std::alloc::{AllocError, Global};
 
@@ -97,7 +99,7 @@ fn git_command<'a>(alloc: Global, command: &GitCommand) -> Result<Command<'a>, A
         .args(args)
 }
 
-/// What a command for git asks for, if it is one. The words are all of the command line.
+/// What a command for git asks for, if it is one.
 ///
 /// # Errors
 ///
@@ -106,20 +108,51 @@ pub fn git_asked<'a>(
     alloc: Global,
     name: &str,
     matches: &ArgMatches<'a>,
-    words: &'a [String],
     terminal: Colours,
 ) -> Result<Option<Asked<'a>>, ParseError> {
     match name {
         "git-diff" => Ok(Some(diff_asked(alloc, matches, terminal)?)),
         "git-merge" => Ok(Some(merge_asked(alloc, matches)?)),
         "git-setup" => {
-            settings_in_order(alloc, matches, merge_of_path("-"))?;
-            Ok(Some(Asked::GitSetup {
-                options: words.get(2..).unwrap_or(&[]),
-            }))
+            settings_in_order(alloc, matches, merge_of_path("-", Merging::AS_GIT))?;
+            let setup = GitSetup {
+                diff: options_of(alloc, matches)?,
+                merge: options_of(alloc, matches)?,
+                patterns: Vec::new(alloc),
+            };
+            Ok(Some(Asked::GitSetup { setup }))
         }
         _ => Ok(None),
     }
+}
+
+// The options that both commands take and that are given, as words of a command line.
+fn options_of(alloc: Global, matches: &ArgMatches<'_>) -> Result<Vec<String>, AllocError> {
+    let mut words = Vec::new(alloc);
+    put_given(alloc, &mut words, matches, &KEY)?;
+    put_given(alloc, &mut words, matches, &TEXTS)?;
+    for (name, _) in &FLAGS {
+        if matches.get_flag(name) {
+            words.push(format!(in alloc; "--{name}")?)?;
+        }
+    }
+    Ok(words)
+}
+
+// Puts those of these options that are given, each with its text, after others.
+fn put_given(
+    alloc: Global,
+    words: &mut Vec<String>,
+    matches: &ArgMatches<'_>,
+    texts: &'static [Text],
+) -> Result<(), AllocError> {
+    for (name, _, _) in texts {
+        if let Some(text) = matches.get_str(name) {
+            words.push(format!(in alloc; "--{name}")?)?;
+            words.push(String::from_str(alloc, text)?)?;
+        }
+    }
+    Ok(())
 }
 
 fn diff_asked<'a>(
@@ -152,6 +185,7 @@ fn versions_asked<'a>(
     how: Comparing<'a>,
     diff: GitDiff<'a>,
 ) -> Result<Asked<'a>, ParseError> {
+    let how = Comparing::whole(format);
     let named = Request::Diff {
         old: diff.path,
         new: diff.renamed.unwrap_or(diff.path),
@@ -167,9 +201,11 @@ fn versions_asked<'a>(
 fn merge_asked<'a>(alloc: Global, matches: &ArgMatches<'a>) -> Result<Asked<'a>, ParseError> {
     let ours = file_of(matches, "OURS");
     let path = matches.get_str("PATH");
-    let named = merge_of_path(path.unwrap_or(ours));
+    let how = Merging::AS_GIT;
+    let named = merge_of_path(path.unwrap_or(ours), how);
     Ok(Asked::GitMerge {
         settings: settings_in_order(alloc, matches, named)?,
+        how,
         merge: GitMerge {
             base: file_of(matches, "BASE"),
             ours,
@@ -180,12 +216,12 @@ fn merge_asked<'a>(alloc: Global, matches: &ArgMatches<'a>) -> Result<Asked<'a>,
 }
 
 // A merge of three files of this name, which says what stands between their cells. Those that git hands over have names of their own.
-fn merge_of_path(path: &str) -> Request<'_> {
+fn merge_of_path<'a>(path: &'a str, how: Merging<'a>) -> Request<'a> {
     Request::Merge {
         base: path,
         ours: path,
         theirs: path,
-        how: Merging::AS_GIT,
+        how,
     }
 }
 

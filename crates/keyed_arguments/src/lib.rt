@@ -149,7 +149,7 @@ pub fn parse<'a>(
             cut: cut_of(alloc, matches)?,
             progress: progress_of(matches),
         }),
-        Some((name, matches)) => match git_asked(alloc, name, matches, words, terminal)? {
+        Some((name, matches)) => match git_asked(alloc, name, matches, terminal)? {
             Some(asked) => Ok(Line::Asked {
                 asked,
                 progress: Progress::LeftOut,

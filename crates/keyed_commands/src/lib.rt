@@ -42,7 +42,7 @@ pub use files::{answer_request, stream_request, write_command, write_request, wr
 pub use finished::{Finished, SideCounts, StreamCounts};
 pub use keyed_files::{
     Asked, Colours, ColumnsShown, Command, Comment, Comparing, Conflicts, Decimal, Delimiter,
-    Encoding, Fault, Finding, Form, Format, GitDiff, GitMerge, Heading, JoinNames, Joining, Kind,
+    Encoding, Fault, Finding, Form, Format, GitDiff, GitMerge, GitSetup, Heading, JoinNames, Joining, Kind,
     Layer, Layout, Lengths, Look, Lookup as LookupRequest, LookupKind, Merging, NamedFile,
     Overlay as OverlayRequest, Picked, Quotes, Reading, Reason, Request, RowFormat, RowsShown,
     Settings, Shown, ShownCell, ShownName, Side, SortedChanges, SortedRequest, Stream, Unit, View,

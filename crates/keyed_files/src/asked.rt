@@ -1,5 +1,6 @@
 //! What a whole command line wants: the answer to a command, or what git does with tables.
 
+use crate::merging::Merging;
 use crate::request::{Command, Comparing, Settings};
 
 /// What a command line wants.
@@ -27,11 +28,12 @@ pub enum Asked<'a> {
     /// Two versions merged over their base, into the file of ours, as git wants it of a driver of merges.
     GitMerge {
         settings: Settings<'a>,
+        how: Merging<'a>,
         merge: GitMerge<'a>,
     },
-    /// How git is told of both, with these options of theirs.
+    /// How git is told of both.
     GitSetup {
-        options: &'a [String],
+        setup: GitSetup<'a>,
     },
 }
 
@@ -51,4 +53,15 @@ pub struct GitMerge<'a> {
     pub ours: &'a str,
     pub theirs: &'a str,
     pub path: Option<&'a str>,
+}
+
+/// How git is told of the commands that it calls, and for which tables.
+#[derive(Drop, Debug)]
+pub struct GitSetup<'a> {
+    /// The options with which it compares versions, as words of a command line.
+    pub diff: Vec<String>,
+    /// Those with which it merges them.
+    pub merge: Vec<String>,
+    /// The patterns of the paths of these tables, as git reads them; none stands for all files of CSV.
+    pub patterns: Vec<&'a str>,
 }

@@ -38,7 +38,7 @@ mod spelled;
 mod writing;
 mod written;
 
-pub use asked::{Asked, GitDiff, GitMerge};
+pub use asked::{Asked, GitDiff, GitMerge, GitSetup};
 pub use column_changes::{ColumnChanges, LoneColumns};
 pub use columns::{
     Columns, JoinColumns, Place, columns_of, join_columns, names_among, picked_columns,

@@ -87,7 +87,7 @@ fn run_shown_words<
         &words.words,
         colours_of(rt, output),
     ) {
-        if let Some(asked) = words.asked_by_git(asked) {
+        if let Some(asked) = words.asked_by_git(&asked) {
             let line = ProgressLine::new(rt, progress, errors);
             return answer_counted(rt, &line, asked, output);
         }
@@ -251,8 +251,12 @@ fn write_asked<'a, R: Files + Input + AllocGlobal, W: Write>(
         } => write_git_diff(rt, settings, how, diff, output)?,
         Asked::GitUnopened { diff } => write_git_unopened(rt, diff, output)?,
         Asked::GitUnmerged { path } => write_git_unmerged(rt, path, output)?,
-        Asked::GitMerge { settings, merge } => write_git_merge(rt, settings, merge, output)?,
-        Asked::GitSetup { options } => write_git_setup(rt, options, output)?,
+        Asked::GitMerge {
+            settings,
+            how,
+            merge,
+        } => write_git_merge(rt, settings, how, merge, output)?,
+        Asked::GitSetup { setup } => write_git_setup(rt, &setup, output)?,
     };
     Ok(Finished::of(status))
 }

@@ -93,30 +93,38 @@ impl ShownWords {
 
     /// What git asks for by these words, if it asks. The path of a table may be any bytes, and is shown; a file whose name is not UTF-8
     /// can't be opened: then there is nothing to compare, and nothing to merge.
-    pub fn asked_by_git<'a>(&self, asked: Asked<'a>) -> Option<Asked<'a>> {
+    pub fn asked_by_git<'a>(&self, asked: &Asked<'a>) -> Option<Asked<'a>> {
         match asked {
             Asked::GitDiff {
                 settings,
                 how,
                 diff,
             } => Some(if self.has_escaped(diff.old) || self.has_escaped(diff.new) {
-                Asked::GitUnopened { diff }
+                Asked::GitUnopened { diff: *diff }
             } else {
                 Asked::GitDiff {
-                    settings,
-                    how,
-                    diff,
+                    settings: *settings,
+                    how: *how,
+                    diff: *diff,
                 }
             }),
-            Asked::GitMerge { settings, merge } => {
+            Asked::GitMerge {
+                settings,
+                how,
+                merge,
+            } => {
                 let files = [merge.base, merge.ours, merge.theirs];
                 if files.iter().any(|file| self.has_escaped(file)) {
                     None
                 } else {
-                    Some(Asked::GitMerge { settings, merge })
+                    Some(Asked::GitMerge {
+                        settings: *settings,
+                        how: *how,
+                        merge: *merge,
+                    })
                 }
             }
-            Asked::GitUnmerged { path } => Some(Asked::GitUnmerged { path }),
+            Asked::GitUnmerged { path } => Some(Asked::GitUnmerged { path: *path }),
             _ => None,
         }
     }

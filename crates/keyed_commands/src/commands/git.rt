@@ -4,7 +4,7 @@ use crate::files::{answer_request, write_whole};
 use crate::line_diff::{Versions, render_line_diff};
 use crate::output::write_answer;
 use keyed_files::{
-    Comparing, Fault, GitDiff, GitMerge, Merging, Reason, Request, Settings, Shown, at,
+    Comparing, Fault, GitDiff, GitMerge, GitSetup, Merging, Reason, Request, Settings, Shown, at,
 };
 use std::alloc::{AllocError, Global};
 use std::fmt::Write as WriteText;
@@ -146,6 +146,7 @@ pub fn write_git_unmerged<'a, R: AllocGlobal, W: Write>(
 pub fn write_git_merge<'a, R: Files + Input + AllocGlobal, W: Write>(
     rt: &R,
     settings: Settings<'a>,
+    how: Merging<'a>,
     merge: GitMerge<'a>,
     output: &mut W,
 ) -> Result<u8, Fault<'a>> {
@@ -153,7 +154,7 @@ pub fn write_git_merge<'a, R: Files + Input + AllocGlobal, W: Write>(
         base: merge.base,
         ours: merge.ours,
         theirs: merge.theirs,
-        how: Merging::AS_GIT,
+        how,
     };
     let answer = answer_request(rt, settings, request)?;
     write_answer(rt, answer, merge.ours, output)
@@ -193,10 +194,10 @@ fn version_of(merge: GitMerge<'_>, file: &str) -> Option<&'static str> {
 /// Returns the fault of the output, and want of memory as one of the output too.
 pub fn write_git_setup<'a, R: AllocGlobal, W: Write>(
     rt: &R,
-    options: &[String],
+    setup: &GitSetup<'_>,
     output: &mut W,
 ) -> Result<u8, Fault<'a>> {
-    let text = at("the standard output", setup_text(rt.alloc(), options))?;
+    let text = at("the standard output", setup_text(rt.alloc(), setup))?;
     at("the standard output", write_whole(output, text.as_bytes()))?;
     Ok(0)
 }
@@ -212,13 +213,10 @@ done
 
 // The words that git puts after the options stand after `--`, so that the name of a file may begin as an option does. Where both branches
 // were merged before, git merges their bases first: a conflict there takes one side whole, since marks in it would be no table.
-fn setup_text(alloc: Global, options: &[String]) -> Result<String, AllocError> {
-    let mut words = String::new(alloc);
-    for option in without_end(options) {
-        words.push(' ')?;
-        words.push_str(&quoted(alloc, option)?)?;
-    }
+fn setup_text(alloc: Global, setup: &GitSetup<'_>) -> Result<String, AllocError> {
+    let words = words_of(alloc, &setup.diff)?;
     let diff = quoted(alloc, &format!(in alloc; "keyed git-diff{words} --")?)?;
+    let words = words_of(alloc, &setup.merge)?;
     let merge = quoted(
         alloc,
         &format!(in alloc; "keyed git-merge{words} -- %O %A %B %P")?,
@@ -231,12 +229,14 @@ fn setup_text(alloc: Global, options: &[String]) -> Result<String, AllocError> {
     Ok(text)
 }
 
-// Options without a `--` that ends them: git's words follow one of our own.
-fn without_end(options: &[String]) -> &[String] {
-    match options.split_last() {
-        Some((last, rest)) if last.as_str() == "--" => rest,
-        _ => options,
+// Options as a shell reads them, each after a space.
+fn words_of(alloc: Global, options: &[String]) -> Result<String, AllocError> {
+    let mut words = String::new(alloc);
+    for option in options {
+        words.push(' ')?;
+        words.push_str(&quoted(alloc, option)?)?;
     }
+    Ok(words)
 }
 
 // A word as a shell reads it: in single quotes, unless it is plain.
