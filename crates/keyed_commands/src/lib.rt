@@ -42,11 +42,11 @@ pub use files::{answer_request, stream_request, write_command, write_request, wr
 pub use finished::{Finished, SideCounts, StreamCounts};
 pub use keyed_files::{
     Asked, Colours, ColumnsShown, Command, Comment, Comparing, Conflicts, Decimal, Delimiter,
-    Encoding, Fault, Finding, Form, Format, GitDiff, GitMerge, GitSetup, Heading, JoinNames, Joining, Kind,
-    Layer, Layout, Lengths, Look, Lookup as LookupRequest, LookupKind, Merging, NamedFile,
-    Overlay as OverlayRequest, Picked, Quotes, Reading, Reason, Request, RowFormat, RowsShown,
-    Settings, Shown, ShownCell, ShownName, Side, SortedChanges, SortedRequest, Stream, Unit, View,
-    Wanted, Writing, at,
+    Encoding, Fault, Finding, Form, Format, GitDiff, GitMerge, GitSetup, Heading, JoinNames,
+    Joining, Kind, Layer, Layout, Lengths, Look, Lookup as LookupRequest, LookupKind, Merging,
+    NamedFile, Overlay as OverlayRequest, Picked, Quotes, Reading, Reason, Request, RowFormat,
+    RowsShown, Settings, Shown, ShownCell, ShownName, Side, SortedChanges, SortedRequest, Stream,
+    Unit, View, Wanted, Writing, at,
 };
 pub use keyed_reports::Counts;
 pub use keyed_text::{CellQuotes, LineEnd, Style};

@@ -56,7 +56,7 @@ pub use laws::{
     law_keeps_names, law_names_once, law_places_cells, law_puts_back, law_writes_names,
 };
 pub use lined_up::{
-    Colour, GAP, Grid, Line, heading, heading_of_picked, line_under, line_up, put_both, put_picked,
+    Colour, Grid, Line, heading, heading_of_picked, line_under, line_up, put_both, put_picked,
     put_shown, put_version, widths_of,
 };
 pub use lookups::{Finding, Lookup, LookupKind};

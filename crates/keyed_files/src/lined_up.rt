@@ -36,8 +36,10 @@ pub struct Line {
     pub cells: Vec<String>,
 }
 
-/// How many spaces stand between columns.
-pub const GAP: usize = 2;
+impl Line {
+    /// How many spaces stand between columns.
+    pub const GAP: usize = 2;
+}
 
 /// Lines of cells.
 pub type Grid = Vec<Line>;
@@ -269,7 +271,7 @@ fn put_cells(text: &mut String, cells: &[String], widths: &[usize]) -> Result<()
             gap = 0;
         }
         let width = cell.as_str().width();
-        let behind = widest.saturating_sub(width).saturating_add(GAP);
+        let behind = widest.saturating_sub(width).saturating_add(Line::GAP);
         gap = gap.saturating_add(behind);
     }
     Ok(())

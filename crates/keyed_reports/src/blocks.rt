@@ -1,6 +1,6 @@
 //! Columns cut into blocks, so that no line of a table takes more columns of a terminal than it may.
 
-use keyed_files::GAP;
+use keyed_files::Line;
 use std::alloc::{AllocError, Global};
 
 /// The columns of a table, each with its flag, in blocks: of each block the flags of its columns, which are among them. The columns that
@@ -23,7 +23,11 @@ pub fn blocks(
     let mut widths = widths.iter();
     for is_shown in shown {
         if *is_shown {
-            let width = widths.next().copied().unwrap_or(0).saturating_add(GAP);
+            let width = widths
+                .next()
+                .copied()
+                .unwrap_or(0)
+                .saturating_add(Line::GAP);
             if taken > lead && taken.saturating_add(width) > most {
                 let next = none_of(alloc, block.len())?;
                 blocks.push(block)?;
@@ -51,7 +55,7 @@ fn none_of(alloc: Global, count: usize) -> Result<Vec<bool>, AllocError> {
 pub fn lead_of(widths: &[usize], count: usize) -> usize {
     let mut taken: usize = 0;
     for width in widths.get(..count).unwrap_or(widths) {
-        taken = taken.saturating_add(*width).saturating_add(GAP);
+        taken = taken.saturating_add(*width).saturating_add(Line::GAP);
     }
-    taken.saturating_sub(GAP)
+    taken.saturating_sub(Line::GAP)
 }
