@@ -13,7 +13,7 @@ use Rattle.keyed_files.specs.Gone.{GoneBy}
 use Rattle.keyed_files.specs.Keys.{AreKeyNames, first_name}
 use Rattle.keyed_files.specs.Names.{repeats}
 use Rattle.keyed_files.specs.Reading.{HeadedBy, behind_header, cell_under, row_under}
-use Rattle.keyed_files.specs.Rows.{change_name}
+use Rattle.keyed_files.specs.Rows.{change_name, names_headed, names_placed, placed}
 use Rattle.keyed_files.specs.Writing.{comment_of, delimiter_of}
 use Rattle.keyed_files.specs.declared.columns.Columns.{Columns}
 use Rattle.keyed_files.specs.declared.request.Form.{Form}
@@ -32,6 +32,7 @@ use Rattle.keyed_commands.specs.declared.answer.Answer.{Answer}
 use Rattle.keyed_commands.proofs.ColumnsBackLemmas.{WritesOf, gone-apart, gone_between, header-within, marked-gone, writes-alike, written-once}
 use Rattle.keyed_commands.proofs.LossLemmas.{loses-none}
 use Rattle.keyed_commands.proofs.LawLemmas.{diff_apply, has-header}
+use Rattle.keyed_commands.proofs.SpelledLemmas.{spelled-once, spells-plainly}
 use Rattle.keyed_commands.proofs.TableBackLemmas.{says-only}
 use Rattle.keyed_commands.proofs.TextLawLemmas.{all_of, changes-header, diff-says, groups-are, one-table-law, read_back, table-rises}
 
@@ -192,16 +193,28 @@ module _ (settings : Settings) (old_form new_form : Form) (old_text new_text : L
     written_once : repeats [] (or_header diffs.next_header diffs.names) ≡ false
     written_once = written-once diffs.names diffs.next_header old_once new_once
 
+    -- the heading has the names that are written, since the old header has each of its names once
+    spells : names_headed applies.columns ≡ names_placed applies.columns
+    spells =
+        spells-plainly applies.header applies.spelled applies.columns applies.spells
+        (spelled-once old_form old_text applies.header applies.spelled applies.old_says.1.0 has_old applies.old_says.1.1 applies.old_says.1.2 applies.spelled_said
+        (first_once old_form old_text applies.old_says.1.0 applies.old_says.1.1 once_old))
+
+    names_are_written : placed applies.columns.order.items applies.columns.key applies.columns.rest ≡ or_header diffs.next_header diffs.names
+    names_are_written =
+        (writes-names diffs.columned.others (or_header diffs.next_header diffs.names) (all ∷ diffs.names ∷ applies.gone ∷ []) applies.columns writes_names written_once).0
+
     pub diffed-text : AnswersTableOf settings applies.applied.style applies.columns new_form new_text diffs.names answer
     diffed-text = record {
       header = diffs.next_header;
       table = diffs.new;
-      names = (writes-names diffs.columned.others (or_header diffs.next_header diffs.names) (all ∷ diffs.names ∷ applies.gone ∷ []) applies.columns writes_names written_once).0;
+      names = names_are_written;
+      spells = spells ∙ names_are_written;
       says = new_says;
       answers = made_is;
       reads = λ some unmarked. says-only diffs.next_header diffs.columned.others (or_header diffs.next_header diffs.names) (all ∷ diffs.names ∷ applies.gone ∷ []) applies.columns
           (header-within diffs.next_header diffs.names) writes_names written_once made_in new_form settings.groups answer.bytes.items new_text diffs.next_header diffs.new
-          has parts begins new_says made_is.2 some unmarked;
+          has parts begins spells new_says made_is.2 some unmarked;
     }
 
   -- where no key is set and no column has another name

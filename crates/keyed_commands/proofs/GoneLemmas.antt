@@ -1,4 +1,4 @@
--- The columns that go, from the header of a source of changes to its text.
+-- The columns that go, and how a header spells its names, from the header of a source to its text.
 use Rattle.std.proofs.Common.{◌≡◌, ◌∙◌, ℕ, Bool, true, false, List, [], ◌∷◌, ◌++◌, None, Option, Some, sym, ap, subst}
 use Rattle.std.specs.Prelude.{IfSome}
 use Rattle.csv.specs.Machine.{Read, next_record}
@@ -7,9 +7,11 @@ use Rattle.csv.specs.declared.parser.Config.{Config}
 use Rattle.csv.specs.declared.parser.State.{State}
 use Rattle.csv.specs.declared.parser.State.TheVariants as st
 use Rattle.keyed_files.specs.Gone.{GoneBy, GoneOf, IsGoneHeader, KnowsGone}
-use Rattle.keyed_files.specs.Reading.{HasGiven, HasGivenIn, last_record}
+use Rattle.keyed_files.specs.Reading.{HasGiven, HasGivenIn, IsHeader, IsOpen, last_record}
+use Rattle.keyed_files.specs.Spelled.{SpelledBy, SpelledOf}
 use Rattle.keyed_files.specs.Writing.{comment_of, delimiter_of}
 use Rattle.keyed_files.specs.declared.request.Form.{Form}
+use Rattle.keyed_files.specs.declared.source.Content.{Content}
 use Rattle.keyed_files.specs.declared.source.Next.{Next}
 use Rattle.keyed_files.specs.declared.source.Next.TheVariants as next
 use Rattle.keyed_files.specs.declared.source.Source.{Source}
@@ -52,6 +54,24 @@ module _ {R : Type 0} (rem : R → Option (List ℕ)) (form : Form) (text : List
 
   pub gone-of : KnowsGone form rem text source → GoneOf form text source.header.gone
   gone-of known = (records, are, gone_if form.has_header known.first known.header known.given)
+
+-- the names as a header spells them, of a source that is open
+module _ {R : Type 0} (rem : R → Option (List ℕ)) (form : Form) (kind : Content) (text : List ℕ) (names : List (List ℕ)) (source : Source R) (records : List (List (List ℕ)))
+    (are : AreRows (delimiter_of form) (comment_of form) text records) where
+  spelled_if : (has_header : Bool) (first : List (List (List ℕ))) → IsHeader form kind text names has_header first
+      → HasGiven (delimiter_of form) (comment_of form) rem text first source → SpelledBy has_header kind first source.header.spelling.spelled
+      → SpelledBy has_header kind records source.header.spelling.spelled
+  spelled_if true [] head given said =
+      let none : records ≡ [] = rows-once (delimiter_of form) (comment_of form) text records [] are head.0 in
+      subst (λ r. SpelledBy true kind r source.header.spelling.spelled) (sym none) said
+  spelled_if true (fields ∷ []) head given said =
+      let at = given_first rem (delimiter_of form) (comment_of form) text source fields [] records are source.next given in
+      subst (λ r. SpelledBy true kind r source.header.spelling.spelled) (sym at.1) said
+  spelled_if true (fields ∷ more ∷ rest) head given said = absurd head
+  spelled_if false first head given said = tt
+
+  pub spelled-of : IsOpen form kind rem text names source → SpelledOf form kind text source.header.spelling.spelled
+  spelled-of begun = (records, are, spelled_if form.has_header begun.first begun.header begun.given begun.spelled)
 
 -- what holds of a text that is known, beside what else holds
 pub both-of : (P Q : List ℕ → Type 0) (m : Option (List ℕ)) → IfSome m P → IfSome m Q → IfSome m (λ t. P t × Q t)

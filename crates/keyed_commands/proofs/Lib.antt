@@ -18,6 +18,7 @@ pub mod OverlayLemmas
 pub mod ReadLemmas
 pub mod SignedLemmas
 pub mod SortedLemmas
+pub mod SpelledLemmas
 pub mod TableBackLemmas
 pub mod TextAnswerLemmas
 pub mod TextLawLemmas

@@ -8,6 +8,7 @@ use Rattle.eob_lists.proofs.MergeLemmas.{rising}
 use Rattle.keyed_files.specs.Keys.{AreColumnsBy}
 use Rattle.keyed_files.specs.Opening.{IsRenamed, form_of, text_of_stream}
 use Rattle.keyed_files.specs.Reading.{IsOpen}
+use Rattle.keyed_files.specs.Spelled.{IsSpelledAs}
 use Rattle.keyed_files.specs.declared.columns.Columns.{Columns}
 use Rattle.keyed_files.specs.declared.opened.Opened.{Opened}
 use Rattle.keyed_files.specs.declared.opened.Stream.{Stream}
@@ -20,11 +21,12 @@ use Rattle.keyed_files.specs.declared.source.Source.{Source}
 use Rattle.keyed_files.proofs.TableLemmas.{open-renamed}
 use Rattle.keyed_commands.specs.Answers.{TableRows, key_cmp}
 use Rattle.keyed_commands.specs.AppliedTexts.{watched_left}
-use Rattle.keyed_commands.specs.OverlayAnswers.{AnswersRows, AreLaidOver, AreLayers, AreNamed, IsLayer, LaysTables, OverlaysSources, OverlaysStreams, ReadTables, Said, SaysRows, laid_rows, laid_under}
+use Rattle.keyed_commands.specs.OverlayAnswers.{AnswersRows, AreLaidOver, AreLayers, AreNamed, IsLayer, IsSpelledAsFirst, LaysTables, OverlaysSources, OverlaysStreams, ReadTables, Said, SaysRows, SpellsFirst, laid_rows, laid_under}
 use Rattle.keyed_commands.specs.TablesRead.{IsUnordered}
 use Rattle.keyed_commands.specs.declared.answer.Answer.{Answer}
 use Rattle.keyed_commands.specs.declared.job.Job.{Job}
 use Rattle.keyed_commands.specs.declared.styles.Watched.{Watched}
+use Rattle.keyed_commands.proofs.GoneLemmas.{spelled-of}
 
 on_none : (layer : Layer) (m : Option (List (List (List ℕ)))) → option_map (laid_rows layer) (from_places None m) ≡ m
 on_none layer.Rows None = refl
@@ -68,6 +70,13 @@ module _ {R : Type 0} (rem : R → Option (List ℕ)) (layer : Layer) (groups : 
   pub lays_none : (rows : TableRows) (left : List (Opened (Watched R))) → left ≡ [] → Rising key_cmp rows → LaysTables rem layer groups columns rows left rows
   lays_none rows left is rises = subst (λ l. LaysTables rem layer groups columns rows l rows) (sym is) ([], tt, none_laid layer rows rises)
 
+-- columns whose heading is spelled in another way are those of the same headers
+pub columns_spelled : (key : Option (Bor (List ℕ))) (tables headers : List (List (List ℕ))) (old new : Columns) (spelled : Option (List (List ℕ))) → new ≡ record old { spelled = spelled }
+    → AreColumnsBy key tables headers old → AreColumnsBy key tables headers new
+columns_spelled key tables headers old new spelled same are =
+    subst (AreColumnsBy key tables headers) (sym same)
+    (record { first = are.first; others = are.others; names = are.names; are = record { key = are.are.key; rest = are.are.rest; order = are.are.order } })
+
 -- columns of the headers of tables, under another word for these
 pub columns_alike : {R : Type 0} (key : Option (Bor (List ℕ))) (opened others : List (Opened R)) (columns : Columns) → others ≡ opened
     → AreColumnsBy key (map (λ source. source.source.value.header.names) others) (map (λ source. source.source.value.header.names) others) columns
@@ -107,19 +116,28 @@ module _ {R : Type 0} (rem : R → Option (List ℕ)) where
         → AreLayers rem settings.form key streams opened → ReadTables rem settings.groups columns opened tables
         → (said : List Said) × AreNamed key said × (map (λ table. table.names) said ≡ map (λ source. source.source.value.header.names) opened)
         × (map (λ table. table.rows) said ≡ tables) × AllZip (SaysRows rem settings columns) streams said
-    says_all key [] [] [] layers read = ([], tt, refl, refl, tt)
+        × (IsSpelledAsFirst opened columns → SpellsFirst rem settings columns streams said)
+    says_all key [] [] [] layers read = ([], tt, refl, refl, tt, λ spells. tt)
     says_all key [] [] (table ∷ tables) layers read = absurd read
     says_all key [] (source ∷ opened) tables layers read = absurd layers
     says_all key (stream ∷ streams) [] tables layers read = absurd layers
     says_all key (stream ∷ streams) (source ∷ opened) [] layers read = absurd read
     says_all {A} key (stream ∷ streams) (source ∷ opened) (table ∷ tables) layers read =
         let rest = says_all {A = A} None streams opened tables layers.1 read.1 in
-        let header = layers.0.0 in (
-          record { header = header; names = source.source.value.header.names; rows = table } ∷ rest.0,
+        let header = layers.0.0 in
+        let spelled = source.source.value.header.spelling.spelled in
+        let form = form_of settings.form stream in (
+          record { header = header; spelled = spelled; names = source.source.value.header.names; rows = table } ∷ rest.0,
           (layers.0.1, rest.1),
           ap (λ l. source.source.value.header.names ∷ l) rest.2,
           ap (λ l. table ∷ l) rest.3,
-          (known_says (text_of_stream rem settings.form stream) (λ text begun. read.0 (form_of settings.form stream) Rows text header begun) layers.0.2, rest.4),
+          (
+            known_says (text_of_stream rem settings.form stream)
+                (λ text begun. let says = read.0 form Rows text header begun in (says, spelled-of (watched_left rem) form Rows text header source.source.value says.1.0 says.1.1 begun))
+                layers.0.2,
+            rest.4,
+          ),
+          λ spells. known_says (text_of_stream rem settings.form stream) (λ text begun. subst (λ names. IsSpelledAs names spelled columns) begun.named spells) layers.0.2,
         )
 
   -- several streams that are laid one over the other, of their texts
@@ -127,8 +145,8 @@ module _ {R : Type 0} (rem : R → Option (List ℕ)) where
       → AreLayers rem settings.form settings.key streams opened
       → job.form ≡ settings.form → job.groups ≡ settings.groups → (settings.keeps_order ≡ false → IsUnordered job)
       → AreColumnsBy settings.key (map (λ source. source.source.value.header.names) opened) (map (λ source. source.source.value.header.names) opened) job.columns.now
-      → OverlaysSources rem layer job opened answer → OverlaysStreams rem settings layer streams answer
-  overlay_streams settings layer streams opened job answer layers form groups unordered columned read =
+      → IsSpelledAsFirst opened job.columns.now → OverlaysSources rem layer job opened answer → OverlaysStreams rem settings layer streams answer
+  overlay_streams settings layer streams opened job answer layers form groups unordered columned spells read =
       let said = says_all settings job.columns.now settings.key streams opened read.tables layers
       (subst (λ g. ReadTables rem g job.columns.now opened read.tables) groups read.read) in
       record {
@@ -137,6 +155,7 @@ module _ {R : Type 0} (rem : R → Option (List ℕ)) where
         named = said.1;
         columned = subst (λ names. AreColumnsBy settings.key names names job.columns.now) (sym said.2) columned;
         says = said.4;
+        spells = said.5 spells;
         overlaid = record {
           rows = read.overlaid.rows;
           keys = read.overlaid.keys;

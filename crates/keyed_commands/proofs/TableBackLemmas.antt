@@ -12,7 +12,7 @@ use Rattle.keyed_files.specs.Encodings.{begins, is_marked}
 use Rattle.keyed_files.specs.Names.{place_in, repeats}
 use Rattle.keyed_files.specs.Picked.{cell_at}
 use Rattle.keyed_files.specs.Reading.{behind_header, cell_under, parts_of, row_under}
-use Rattle.keyed_files.specs.Rows.{heading, names_row, placed, rows_under, table_rows}
+use Rattle.keyed_files.specs.Rows.{heading, names_headed, names_placed, names_row, placed, rows_under, table_rows}
 use Rattle.keyed_files.specs.Writing.{comment_of, delimiter_of, file_text, quoted, text_of}
 use Rattle.keyed_files.specs.declared.columns.Columns.{Columns}
 use Rattle.keyed_files.specs.declared.columns.Place.{Place}
@@ -129,7 +129,7 @@ module _ (names key written : List (List ℕ)) (headers : List (List (List ℕ))
   -- what is written of a table that a text says is read as this table
   module _ (form from : Form) (groups : Bool) (text from_text : List ℕ) (header : List (List ℕ)) (table : TableRows) (has : writes_heading form ≡ true)
       (parts : PartsCells (delimiter_of form)) (begins_comments : BeginsComments (delimiter_of form) (comment_of form))
-      (says : SaysTable from Rows groups from_text header names columns table) (is : IsTableText form columns None true table text) (some : written ≢ [])
+      (spells : names_headed columns ≡ names_placed columns) (says : SaysTable from Rows groups from_text header names columns table) (is : IsTableText form columns None true table text) (some : written ≢ [])
       (unmarked : is_marked (text_of form (table_text_rows form columns table)) ≡ false) where
     header_is : placed order columns.key columns.rest ≡ written
     header_is = (writes-names key written headers columns writes once).0
@@ -140,7 +140,7 @@ module _ (names key written : List (List ℕ)) (headers : List (List (List ℕ))
     heading_is : heading form None columns ≡ written ∷ []
     heading_is =
         ap₂ (λ a b. if a && (false || not b) then names_row None columns ∷ [] else []) has (length_some order order_some)
-        ∙ ap (λ names. names ∷ []) header_is
+        ∙ ap (λ names. names ∷ []) (spells ∙ header_is)
 
     rows_are : table_text_rows form columns table ≡ written ∷ table_rows order table
     rows_are = ap (λ l. l ++ table_rows order table) heading_is

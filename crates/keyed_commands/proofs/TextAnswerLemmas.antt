@@ -6,6 +6,7 @@ use Rattle.keyed_files.specs.Gone.{GoneOf, IsGoneRead}
 use Rattle.keyed_files.specs.Keys.{AreChangedColumnsBy, AreMergedColumnsBy}
 use Rattle.keyed_files.specs.Opening.{IsNamedAnew, IsOpened, form_of, text_of_stream}
 use Rattle.keyed_files.specs.Reading.{IsOpen}
+use Rattle.keyed_files.specs.Spelled.{IsSpelledAs}
 use Rattle.keyed_files.proofs.TableLemmas.{open-anew}
 use Rattle.keyed_files.specs.declared.merging.Unit.{Unit}
 use Rattle.keyed_files.specs.declared.opened.Opened.{Opened}
@@ -21,7 +22,7 @@ use Rattle.keyed_commands.specs.MergedTexts.{AnswersBy, MergedIn, MergesSources,
 use Rattle.keyed_commands.specs.TablesRead.{IsUnordered, ReadsTable, SaysTable}
 use Rattle.keyed_commands.specs.declared.answer.Answer.{Answer}
 use Rattle.keyed_commands.specs.declared.job.Job.{Job}
-use Rattle.keyed_commands.proofs.GoneLemmas.{both-of, gone-of}
+use Rattle.keyed_commands.proofs.GoneLemmas.{both-of, gone-of, spelled-of}
 use Rattle.keyed_commands.proofs.ReadLemmas.{are-names, both-known}
 
 -- what holds of two texts, where these are known under other words
@@ -63,10 +64,13 @@ module _ {R : Type 0} (rem : R → Option (List ℕ)) (settings : Settings) (old
       → IsGoneRead rem settings.form Changes changes inputs.next → IsNamedAnew settings inputs.first.source.value named.first.source.value → named.next ≡ inputs.next
       → job.form ≡ settings.form → job.groups ≡ settings.groups → (settings.keeps_order ≡ false → IsUnordered job)
       → AreChangedColumnsBy settings.key named.first.source.value.header.names named.next.source.value.header.names named.next.source.value.header.gone job.columns.now
+      → IsSpelledAs named.first.source.value.header.spelling.names named.first.source.value.header.spelling.spelled job.columns.now
       → AppliesSources rem job named answer → AppliesStreams rem settings old changes answer
-  apply-streams first next goes renamed same form groups unordered columned read =
+  apply-streams first next goes renamed same form groups unordered columned spells read =
       both-known {T = λ t u. AppliesTexts settings (form_of settings.form old) (form_of settings.form changes) t u answer} _ _ first
-      (both-of _ _ (text_of_stream rem settings.form changes) next (goes refl)) (λ t u opened beside. record {
+      (both-of _ _ (text_of_stream rem settings.form changes) next (goes refl)) (λ t u opened beside.
+      let begun = open-anew rem settings (form_of settings.form old) Rows t inputs.first.source.value.header.names inputs.first.source.value named.first.source.value renamed opened in
+      let old_says = says rem settings job (form_of settings.form old) t inputs.first.source.value.header.names named.first read.old groups read.old_read begun in record {
         columns = job.columns.now;
         header = inputs.first.source.value.header.names;
         names = named.first.source.value.header.names;
@@ -76,7 +80,10 @@ module _ {R : Type 0} (rem : R → Option (List ℕ)) (settings : Settings) (old
         named = (renamed.0.header.names, are-names settings.key _ renamed.0 renamed.1, are-names settings.renames renamed.0 _ renamed.2);
         old = read.old;
         changes = read.changes;
-        old_says = says rem settings job _ t _ named.first read.old groups read.old_read (open-anew rem settings _ _ t _ _ named.first.source.value renamed opened);
+        old_says = old_says;
+        spelled = named.first.source.value.header.spelling.spelled;
+        spelled_said = spelled-of rem (form_of settings.form old) Rows t _ named.first.source.value old_says.1.0 old_says.1.1 begun;
+        spells = subst (λ names. IsSpelledAs names named.first.source.value.header.spelling.spelled job.columns.now) begun.named spells;
         changes_say = subst (λ g. SaysChanges (form_of settings.form changes) g u named.next.source.value.header.names named.next.source.value.header.names job.columns.now read.changes)
             groups (read.changes_read _ u _ (subst (λ two. IsOpen (form_of settings.form changes) Changes rem u two.source.value.header.names two.source.value) (sym same) beside.0));
         gone_said = subst (λ two. GoneOf (form_of settings.form changes) u two.source.value.header.gone) (sym same)
@@ -97,10 +104,12 @@ module _ {R : Type 0} (rem : R → Option (List ℕ)) (by : Unit) (settings : Se
       → IsNamedAnew settings opened.source.value named.source.value
       → job.form ≡ settings.form → job.groups ≡ settings.groups → (settings.keeps_order ≡ false → IsUnordered job)
       → AreMergedColumnsBy settings.key named.source.value.header.names sides.first.source.value.header.names sides.next.source.value.header.names job.columns.now
+      → IsSpelledAs sides.first.source.value.header.spelling.names sides.first.source.value.header.spelling.spelled job.columns.now
       → MergesSources rem by job named sides answer → MergesStreams rem by settings base ours theirs answer
-  merge-streams first second third renamed form groups unordered columned read =
+  merge-streams first second third renamed form groups unordered columned spells read =
       three-known {T = λ t u v. MergesTexts by settings (form_of settings.form base) (form_of settings.form ours) (form_of settings.form theirs) t u v answer}
-      _ _ _ first second third (λ t u v one two three. record {
+      _ _ _ first second third (λ t u v one two three.
+      let ours_say = says rem settings job (form_of settings.form ours) u sides.first.source.value.header.names sides.first read.ours groups read.ours_read two in record {
         columns = job.columns.now;
         header = opened.source.value.header.names;
         names = named.source.value.header.names;
@@ -112,7 +121,10 @@ module _ {R : Type 0} (rem : R → Option (List ℕ)) (by : Unit) (settings : Se
         ours = read.ours;
         theirs = read.theirs;
         base_says = says rem settings job _ t _ named read.base groups read.base_read (open-anew rem settings _ _ t _ _ named.source.value renamed one);
-        ours_say = says rem settings job _ u _ sides.first read.ours groups read.ours_read two;
+        ours_say = ours_say;
+        spelled = sides.first.source.value.header.spelling.spelled;
+        spelled_said = spelled-of rem (form_of settings.form ours) Rows u _ sides.first.source.value ours_say.1.0 ours_say.1.1 two;
+        spells = subst (λ names. IsSpelledAs names sides.first.source.value.header.spelling.spelled job.columns.now) two.named spells;
         theirs_say = says rem settings job _ v _ sides.next read.theirs groups read.theirs_read three;
         merged = record {
           style = read.merged.style;

@@ -5,6 +5,7 @@ use Rattle.keyed_files.specs.AnswerForm.{in_style}
 use Rattle.keyed_files.specs.Gone.{GoneOf}
 use Rattle.keyed_files.specs.Keys.{AreChangedColumnsBy}
 use Rattle.keyed_files.specs.Opening.{form_of, text_of_stream}
+use Rattle.keyed_files.specs.Spelled.{IsSpelledAs, SpelledOf}
 use Rattle.keyed_files.specs.declared.columns.Columns.{Columns}
 use Rattle.keyed_files.specs.declared.opened.Stream.{Stream}
 use Rattle.keyed_files.specs.declared.opened.Two.{Two}
@@ -37,7 +38,7 @@ pub record AppliedIn (form : Form) (columns : Columns) (unordered : Type 0) (old
   pub order : unordered → (keys ≡ None) × (by_cells ≡ true)
 
 -- what `apply` answers of two texts: the first says a table and the second one changes, under the columns of the table that they make, of
--- which those go that the header of changes says
+-- which those go that the header of changes says, and whose heading is spelled as the header of the first text is
 pub record AppliesTexts (settings : Settings) (old_form changes_form : Form) (old_text changes_text : List ℕ) (answer : Answer) : Type 0 where
   pub columns : Columns
   pub header : List (List ℕ)
@@ -51,6 +52,9 @@ pub record AppliesTexts (settings : Settings) (old_form changes_form : Form) (ol
   pub old_says : SaysTable old_form Rows settings.groups old_text header names columns old
   pub changes_say : SaysChanges changes_form settings.groups changes_text changes_header changes_header columns changes
   pub gone_said : GoneOf changes_form changes_text gone
+  pub spelled : List (List ℕ)
+  pub spelled_said : SpelledOf old_form Rows old_text spelled
+  pub spells : IsSpelledAs header spelled columns
   pub applied : AppliedIn settings.form columns (settings.keeps_order ≡ false) old changes answer
 
 module _ {R : Type 0} (remaining : R → Option (List ℕ)) where

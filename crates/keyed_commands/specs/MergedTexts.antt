@@ -4,6 +4,7 @@ use Rattle.keyed_text.specs.declared.style.Style.{Style}
 use Rattle.keyed_files.specs.AnswerForm.{in_style}
 use Rattle.keyed_files.specs.Keys.{AreMergedColumnsBy}
 use Rattle.keyed_files.specs.Opening.{form_of, text_of_stream}
+use Rattle.keyed_files.specs.Spelled.{IsSpelledAs, SpelledOf}
 use Rattle.keyed_files.specs.declared.columns.Columns.{Columns}
 use Rattle.keyed_files.specs.declared.merging.Conflicts.TheVariants.{Report}
 use Rattle.keyed_files.specs.declared.merging.Merging.{Merging}
@@ -48,7 +49,8 @@ pub record MergedIn (by : Unit) (form : Form) (columns : Columns) (unordered : T
   pub merged : AnswersBy (in_style style form) columns keys by_cells base ours theirs answer by
   pub order : unordered → (keys ≡ None) × (by_cells ≡ true)
 
--- what `merge` answers of three texts, each of which says a table under the columns of the three, merged as rows are
+-- what `merge` answers of three texts, each of which says a table under the columns of the three, merged as rows are; their heading is
+-- spelled as the header of ours is
 pub record MergesTexts (by : Unit) (settings : Settings) (base_form ours_form theirs_form : Form) (base_text ours_text theirs_text : List ℕ)
     (answer : Answer) : Type 0 where
   pub columns : Columns
@@ -64,6 +66,9 @@ pub record MergesTexts (by : Unit) (settings : Settings) (base_form ours_form th
   pub base_says : SaysTable base_form Rows settings.groups base_text header names columns base
   pub ours_say : SaysTable ours_form Rows settings.groups ours_text ours_header ours_header columns ours
   pub theirs_say : SaysTable theirs_form Rows settings.groups theirs_text theirs_header theirs_header columns theirs
+  pub spelled : List (List ℕ)
+  pub spelled_said : SpelledOf ours_form Rows ours_text spelled
+  pub spells : IsSpelledAs ours_header spelled columns
   pub merged : MergedIn by settings.form columns (settings.keeps_order ≡ false) base ours theirs answer
 
 module _ {R : Type 0} (remaining : R → Option (List ℕ)) where

@@ -12,6 +12,7 @@ use Rattle.keyed_files.specs.AnswerForm.{in_style}
 use Rattle.keyed_files.specs.Keys.{AreColumnsBy}
 use Rattle.keyed_files.specs.Opening.{form_of, text_of_stream}
 use Rattle.keyed_files.specs.Reading.{IsOpen}
+use Rattle.keyed_files.specs.Spelled.{IsSpelledAs, SpelledOf}
 use Rattle.keyed_files.specs.declared.columns.Columns.{Columns}
 use Rattle.keyed_files.specs.declared.opened.Opened.{Opened}
 use Rattle.keyed_files.specs.declared.opened.Stream.{Stream}
@@ -59,9 +60,10 @@ pub record OverlaidIn (layer : Layer) (form : Form) (columns : Columns) (unorder
   pub answers : AnswersRows form columns keys by_cells rows answer
   pub order : unordered → (keys ≡ None) × (by_cells ≡ true)
 
--- a table that a text says: its header, the names by which its columns are read, and its rows by key
+-- a table that a text says: its header, how this spells its names, the names by which its columns are read, and its rows by key
 pub record Said : Type 0 where
   pub header : List (List ℕ)
+  pub spelled : List (List ℕ)
   pub names : List (List ℕ)
   pub rows : TableRows
 
@@ -69,6 +71,11 @@ pub record Said : Type 0 where
 abbrev pub AreNamed : {A : Type 0} → Option A → List Said → Type 0
 AreNamed key [] = ⊤
 AreNamed {A} key (said ∷ more) = AreNames key said.header said.names × AreNamed {A = A} None more
+
+-- the heading of columns is spelled as the header of the first of several sources is
+abbrev pub IsSpelledAsFirst : {R : Type 0} → List (Opened R) → Columns → Type 0
+IsSpelledAsFirst [] columns = ⊤
+IsSpelledAsFirst (opened ∷ more) columns = IsSpelledAs opened.source.value.header.spelling.names opened.source.value.header.spelling.spelled columns
 
 -- the rows of the tables that are laid so far, of which there may be none
 abbrev pub rows_laid : Laid → TableRows
@@ -104,7 +111,15 @@ module _ {R : Type 0} (remaining : R → Option (List ℕ)) where
   -- the text of a stream says a table under columns, where it is known
   abbrev pub SaysRows : Settings → Columns → Stream R → Said → Type 0
   SaysRows settings columns stream said = IfSome (text_of_stream remaining settings.form stream)
-      (λ text. SaysTable (form_of settings.form stream) Rows settings.groups text said.header said.names columns said.rows)
+      (λ text. SaysTable (form_of settings.form stream) Rows settings.groups text said.header said.names columns said.rows
+      × SpelledOf (form_of settings.form stream) Rows text said.spelled)
+
+  -- the heading of columns is spelled as the header of the first text is, where it is known
+  abbrev pub SpellsFirst : Settings → Columns → List (Stream R) → List Said → Type 0
+  SpellsFirst settings columns [] said = ⊤
+  SpellsFirst settings columns (stream ∷ streams) [] = ⊥
+  SpellsFirst settings columns (stream ∷ streams) (said ∷ more) = IfSome (text_of_stream remaining settings.form stream)
+      (λ text. IsSpelledAs said.header said.spelled columns)
 
   -- what `overlay` answers of several streams: each text that is known says its table, under the columns of all, and the answer is the text
   -- of these tables laid one over the other
@@ -114,4 +129,5 @@ module _ {R : Type 0} (remaining : R → Option (List ℕ)) where
     pub named : AreNamed settings.key said
     pub columned : AreColumnsBy settings.key (map (λ table. table.names) said) (map (λ table. table.names) said) columns
     pub says : AllZip (SaysRows settings columns) streams said
+    pub spells : SpellsFirst settings columns streams said
     pub overlaid : OverlaidIn layer settings.form columns (settings.keeps_order ≡ false) (map (λ table. table.rows) said) answer

@@ -7,7 +7,7 @@ use Rattle.keyed_files.specs.AnswerForm.{in_style, writes_heading}
 use Rattle.keyed_files.specs.ColumnNames.{or_header}
 use Rattle.keyed_files.specs.Encodings.{is_marked}
 use Rattle.keyed_files.specs.Names.{repeats}
-use Rattle.keyed_files.specs.Rows.{heading, placed, table_rows}
+use Rattle.keyed_files.specs.Rows.{heading, names_headed, placed, table_rows}
 use Rattle.keyed_files.specs.Writing.{comment_of, delimiter_of, text_of}
 use Rattle.keyed_files.specs.declared.columns.Columns.{Columns}
 use Rattle.keyed_files.specs.declared.request.Form.{Form}
@@ -70,6 +70,7 @@ pub record AnswersTableOf (settings : Settings) (style : Style) (columns : Colum
   pub header : List (List ℕ)
   pub table : TableRows
   pub names : placed columns.order.items columns.key columns.rest ≡ or_header header others
+  pub spells : names_headed columns ≡ or_header header others
   pub says : SaysTable form Rows settings.groups text header header columns table
   pub answers : MakesTable (in_style style settings.form) columns table answer
   pub reads : or_header header others ≢ [] → is_marked (text_of (in_style style settings.form) (table_text_rows settings.form columns table)) ≡ false

@@ -27,19 +27,23 @@ pub record AreColumnsBy (key : Option (Bor (List ℕ))) (tables headers : List (
   pub names : AreKeyNames key tables first others
   pub are : AreColumns others headers columns
 
--- the columns of each of two tables, by the names that the key has in each; a file with no row has those of the other table
+-- the columns of each of two tables, by the names that the key has in each, which are those of a heading; a file with no row has the columns
+-- of the other table
 pub record AreJoinColumns (key : Option (Bor (List ℕ))) (left right : List (List ℕ)) (columns : JoinColumns) : Type 0 where
   pub first : List (List ℕ)
   pub others : List (List ℕ)
   pub names : AreKeyNames key (left ∷ right ∷ []) first others
   pub are_left : AreColumns (if_empty left others first) (or_header left right ∷ []) columns.left
   pub are_right : AreColumns (if_empty right first others) (or_header right left ∷ []) columns.right
+  pub plain_left : columns.left.spelled ≡ None
+  pub plain_right : columns.right.spelled ≡ None
 
 -- the same columns with those alone, beside the key, whose names are among these, or are not
 pub record AreAmong (keeps : Bool) (names : List (List ℕ)) (old new : Columns) : Type 0 where
   pub key : new.key ≡ old.key
   pub rest : new.rest ≡ filter (is_kept keeps names) old.rest
   pub order : new.order.items ≡ key_first (length old.key) (length new.rest)
+  pub plain : new.spelled ≡ None
 
 -- the columns that are picked: each name that is given is that of a column
 pub record ArePicked (text : List ℕ) (keeps : Bool) (old new : Columns) : Type 0 where

@@ -1,5 +1,5 @@
 //! The columns of tables: from headers to the columns of what is written.
-ghost use Rattle.std.specs.Prelude.{◌≡◌, ◌++◌, ◌∷◌, ◌||◌, [], IfOk, OnOk, filter, length, map, true};
+ghost use Rattle.std.specs.Prelude.{◌≡◌, ◌++◌, ◌∷◌, ◌||◌, [], IfOk, None, OnOk, filter, length, map, true};
 ghost use Rattle.std.specs.List.{list_all};
 ghost use Rattle.keyed_files.specs.ColumnNames.{AreColumns, has_name, if_empty, is_beside, key_first};
 ghost use Rattle.keyed_files.specs.ColumnNames.{or_header, place_under_key};
@@ -41,13 +41,20 @@ impl Columns {
     ///
     /// Returns `AllocError` if a request for memory was refused.
     pub fn new(alloc: Global, key: Cells, headers: &[&Cells]) -> Result<Self, AllocError>
-        ensures { IfOk result (λ columns. AreColumns key (map (λ header. header.now) headers.now) columns) }
+        ensures columns { IfOk result
+            (λ columns. AreColumns key (map (λ header. header.now) headers.now) columns) }
+        ensures plain { IfOk result (λ columns. columns.spelled ≡ None) }
     {
         let mut new = NewColumns::new(alloc, key);
         for header in headers {
             new.put_all(alloc, header)?;
         }
-        Ok(new.columns)
+        Ok(Columns {
+            key: new.columns.key,
+            rest: new.columns.rest,
+            order: new.columns.order,
+            spelled: None,
+        })
     }
 
     // Puts a column after the others: its name goes after the others too, unless it is one of the key.
@@ -210,6 +217,7 @@ fn columns_among(
         (λ kept. kept.rest ≡ filter (is_kept keeps (names_in names.now)) columns.rest) }
     ensures order { IfOk result
         (λ kept. kept.order.items ≡ key_first (length columns.key) (length kept.rest)) }
+    ensures plain { IfOk result (λ kept. kept.spelled ≡ None) }
 {
     let rest = kept_names(alloc, names, keeps, &columns.rest)?;
     let order = key_first(alloc, columns.key.len(), rest.len())?;
@@ -334,8 +342,9 @@ fn columns_beside(
     header: &Cells,
     other: &Cells,
 ) -> Result<Columns, AllocError>
-    ensures { IfOk result
+    ensures columns { IfOk result
         (AreColumns (if_empty header.now other_key.now key.now) (or_header header.now other.now ∷ [])) }
+    ensures plain { IfOk result (λ columns. columns.spelled ≡ None) }
 {
     if header.is_empty() {
         let columns = Columns::new(alloc, other_key.clone()?, &[other])?;

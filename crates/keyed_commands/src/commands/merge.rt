@@ -2,6 +2,7 @@
 ghost use Rattle.std.specs.Prelude.{◌≡◌, ◌==◌, IfOk, OnOk, is_none, length};
 ghost use Rattle.keyed_files.specs.Keys.{AreMergedColumnsBy};
 ghost use Rattle.keyed_files.specs.Opening.{first_header, next_header};
+ghost use Rattle.keyed_files.specs.Spelled.{IsSpelledAs};
 ghost use Rattle.keyed_tables.specs.Arranged.{noted};
 ghost use Rattle.keyed_tables.specs.Parted.{merged_of};
 ghost use Rattle.keyed_commands.specs.AppliedTexts.{watched_left};
@@ -62,15 +63,17 @@ pub fn merge<'a, R: Read + Drop>(
     merge_files(job, how, &mut base, &mut sides)
 }
 
-// The columns of the three tables.
+// The columns of the three tables, with a heading that spells them as ours does.
 fn columns_of_merge<'a, R>(
     alloc: Global,
     settings: Settings<'a>,
     base: &Opened<'a, R>,
     sides: &Two<'a, R>,
 ) -> Result<Columns, Fault<'a>>
-    ensures { IfOk result (AreMergedColumnsBy settings.entry.key base.now.source.value.header.names
+    ensures columns { IfOk result (AreMergedColumnsBy settings.entry.key base.now.source.value.header.names
         (first_header sides.now) (next_header sides.now)) }
+    ensures spelled { IfOk result (IsSpelledAs sides.now.first.source.value.header.spelling.names
+        sides.now.first.source.value.header.spelling.spelled) }
 {
     let (base_names, ours, theirs) = (base.header(), sides.first.header(), sides.next.header());
     let all = at(
@@ -78,7 +81,8 @@ fn columns_of_merge<'a, R>(
         columns_of(alloc, settings.key, &[base_names, ours, theirs]),
     )?;
     let merged = merged_columns(alloc, all.key, base_names, ours, theirs);
-    at(base.file, merged)
+    let columns = at(base.file, merged)?;
+    at(base.file, columns.spell_as(alloc, sides.first.source.spelling()))
 }
 
 fn merge_files<'a, R: Read + Drop>(

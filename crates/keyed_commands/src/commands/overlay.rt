@@ -3,7 +3,8 @@ ghost use Rattle.std.specs.Prelude.{◌≡◌, ◌∷◌, [], IfOk, OnOk, is_non
 ghost use Rattle.keyed_files.specs.Keys.{AreColumnsBy};
 ghost use Rattle.keyed_tables.specs.Arranged.{noted};
 ghost use Rattle.keyed_commands.specs.Answers.{IsTableText};
-ghost use Rattle.keyed_commands.specs.OverlayAnswers.{AreLaidOver, AreLayers, IsLayer, LaysTables};
+ghost use Rattle.keyed_commands.specs.OverlayAnswers.{AreLaidOver, AreLayers, IsLayer, IsSpelledAsFirst};
+ghost use Rattle.keyed_commands.specs.OverlayAnswers.{LaysTables};
 ghost use Rattle.keyed_commands.specs.OverlayAnswers.{OverlaysSources, OverlaysStreams, rows_laid};
 ghost use Rattle.keyed_commands.specs.TablesRead.{IsUnordered};
 ghost use Rattle.keyed_commands.specs.declared.answer.Outcome.TheVariants.{Made};
@@ -101,19 +102,39 @@ fn first_file<'a, R>(opened: &[Opened<'a, R>]) -> &'a str {
     }
 }
 
-// The columns of all tables.
+// The columns of all tables, with a heading that spells them as the first one does.
 fn columns_of_all<R>(
     alloc: Global,
     settings: Settings<'_>,
     opened: &[Opened<'_, R>],
 ) -> Result<Columns, Reason>
-    ensures { IfOk result (AreColumnsBy settings.entry.key
+    ensures columns { IfOk result (AreColumnsBy settings.entry.key
         (map (λ table. table.source.value.header.names) opened.now)
         (map (λ table. table.source.value.header.names) opened.now)) }
+    ensures spelled { IfOk result (IsSpelledAsFirst opened.now) }
 {
     let headers = headers_of(alloc, opened)?;
     let columns = columns_of(alloc, settings.key, &headers)?;
-    Ok(columns)
+    let spelled = spell_as_first(alloc, opened, columns)?;
+    Ok(spelled)
+}
+
+// The same columns, with a heading that spells them as the first table does, if there is one.
+fn spell_as_first<R>(
+    alloc: Global,
+    opened: &[Opened<'_, R>],
+    columns: Columns,
+) -> Result<Columns, AllocError>
+    ensures same { IfOk result (λ spelled. spelled ≡ record columns { spelled = spelled.spelled }) }
+    ensures spelled { IfOk result (IsSpelledAsFirst opened.now) }
+{
+    match opened {
+        [first, ..] => {
+            let spelled = columns.spell_as(alloc, first.source.spelling())?;
+            Ok(spelled)
+        }
+        [] => Ok(columns),
+    }
 }
 
 fn headers_of<'o, R>(

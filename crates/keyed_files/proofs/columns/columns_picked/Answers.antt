@@ -12,5 +12,6 @@ returns c = record {
     key = c.in_ok-kept.ensures.key;
     rest = c.in_ok-kept.ensures.rest ∙ kept-same c.args.keeps _ _ c.in_ok-names.ensures c.args.columns.rest;
     order = c.in_ok-kept.ensures.order;
+    plain = c.in_ok-kept.ensures.plain;
   };
 }

@@ -13,6 +13,6 @@ returns c =
     let new = c.args.new.now in
     let before = c.in_ok-before.ensures ∙ ap (insert_all (pointwise nat_eq) []) c.or_header.ensures in
     let after = c.in_ok-after.ensures ∙ ap (insert_all (pointwise nat_eq) []) c.or_header-2.ensures in
-    let all : c.in_ok-columns.columns.rest ≡ column_names (new ∷ old ∷ []) = c.in_ok-columns.ensures.rest ∙ beside-none _ _ c.new.ensures in
+    let all : c.in_ok-columns.columns.rest ≡ column_names (new ∷ old ∷ []) = c.in_ok-columns.ensures.columns.rest ∙ beside-none _ _ c.new.ensures in
     c.in_ok-marked.ensures ∙ ap (map (marked_between (names_in c.in_ok-before.before) (names_in c.in_ok-after.after))) all
     ∙ marked-same _ _ (or_header old new) (or_header new old) before after (column_names (new ∷ old ∷ []))

@@ -2,6 +2,7 @@ use Rattle.std.proofs.Common.{refl, subst, sym}
 use Rattle.std.proofs.lemmas.Result.{IfOk-weaker}
 use Rattle.keyed_files.specs.Keys.{AreChangedColumnsBy}
 use Rattle.keyed_files.specs.Opening.{form_of, text_of_stream}
+use Rattle.keyed_files.specs.Spelled.{IsSpelledAs}
 use Rattle.keyed_files.specs.declared.columns.Columns.{Columns}
 use Rattle.keyed_commands.specs.AppliedTexts.{AppliesTexts, watched_left}
 use Rattle.keyed_commands.proofs.TextAnswerLemmas.{apply-streams, two-alike}
@@ -22,4 +23,6 @@ returns g c =
     (record c.in_ok-inputs.inputs { first = c.rename.new.self }) c.new-2.result answer c.in_ok-inputs.ensures.first c.in_ok-inputs.ensures.next
     c.in_ok-inputs.ensures.gone
     c.in_ok-rename.ensures refl c.new-2.ensures.form c.new-2.ensures.groups c.new-2.ensures.unordered
-    (subst P (sym c.new-2.ensures.columns) c.in_ok-columns.ensures) read)) c.apply_files.ensures
+    (subst P (sym c.new-2.ensures.columns) c.in_ok-columns.ensures.columns)
+    (subst (IsSpelledAs named.first.source.value.header.spelling.names named.first.source.value.header.spelling.spelled) (sym c.new-2.ensures.columns) c.in_ok-columns.ensures.spelled)
+    read)) c.apply_files.ensures

@@ -2,6 +2,7 @@ use Rattle.std.proofs.Common.{subst, sym}
 use Rattle.std.proofs.lemmas.Result.{IfOk-weaker}
 use Rattle.keyed_files.specs.Keys.{AreMergedColumnsBy}
 use Rattle.keyed_files.specs.Opening.{form_of, text_of_stream}
+use Rattle.keyed_files.specs.Spelled.{IsSpelledAs}
 use Rattle.keyed_files.specs.declared.columns.Columns.{Columns}
 use Rattle.keyed_commands.specs.AppliedTexts.{watched_left}
 use Rattle.keyed_commands.specs.MergedTexts.{MergesTexts}
@@ -24,4 +25,6 @@ returns g c =
     (merge-streams (watched_left g.R.Read.remaining) c.args.how.unit settings c.watch-base.result c.watch-ours.result c.watch-theirs.result
     c.in_ok-base.base c.rename.new.self c.in_ok-sides.sides c.new-job.result answer c.in_ok-base.ensures.opened c.in_ok-sides.ensures.first c.in_ok-sides.ensures.next
     c.in_ok-rename.ensures c.new-job.ensures.form c.new-job.ensures.groups c.new-job.ensures.unordered
-    (subst P (sym c.new-job.ensures.columns) c.in_ok-columns.ensures) (read reported))) c.merge_files.ensures
+    (subst P (sym c.new-job.ensures.columns) c.in_ok-columns.ensures.columns)
+    (subst (IsSpelledAs sides.first.source.value.header.spelling.names sides.first.source.value.header.spelling.spelled) (sym c.new-job.ensures.columns) c.in_ok-columns.ensures.spelled)
+    (read reported))) c.merge_files.ensures

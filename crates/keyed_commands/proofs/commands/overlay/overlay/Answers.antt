@@ -2,6 +2,7 @@ use Rattle.std.proofs.Common.{map, subst, sym}
 use Rattle.std.proofs.lemmas.Result.{IfOk-weaker}
 use Rattle.keyed_files.specs.Keys.{AreColumnsBy}
 use Rattle.keyed_files.specs.declared.columns.Columns.{Columns}
+use Rattle.keyed_commands.specs.OverlayAnswers.{IsSpelledAsFirst}
 use Rattle.keyed_commands.proofs.OverlayLemmas.{columns_alike, overlay_streams}
 use Rattle.keyed_commands.proofs.commands.overlay.overlay.Goals as goal
 
@@ -14,4 +15,5 @@ returns g c =
     IfOk-weaker c.overlay_files.result _ _
     (λ answer read. overlay_streams g.R.Read.remaining settings c.args.layer c.args.tables.items opened c.new.result answer
     c.in_ok-opened.ensures c.new.ensures.form c.new.ensures.groups c.new.ensures.unordered
-    (subst P (sym c.new.ensures.columns) (columns_alike settings.key opened _ c.in_ok-columns.columns c.deref-2.ensures.value (rw c.in_ok-columns.ensures at c.columns_of_all.ensures))) read) c.overlay_files.ensures
+    (subst P (sym c.new.ensures.columns) (columns_alike settings.key opened _ c.in_ok-columns.columns c.deref-2.ensures.value (rw c.in_ok-columns.ensures at c.columns_of_all.ensures.columns)))
+    (subst (IsSpelledAsFirst opened) (sym c.new.ensures.columns) (subst (λ all. IsSpelledAsFirst all c.in_ok-columns.columns) c.deref-2.ensures.value (rw c.in_ok-columns.ensures at c.columns_of_all.ensures.spelled))) read) c.overlay_files.ensures
