@@ -42,7 +42,7 @@ use Rattle.command_callers.specs.Answered.{IsInStyle}
 use Rattle.command_callers.proofs.KnownJoins.{joined, kept_joined, value_has}
 use Rattle.command_callers.proofs.KnownMerge.{loses_by, styled_loss, styled_table}
 use Rattle.command_callers.proofs.KnownRows.{alone_rise, gathered}
-use Rattle.command_callers.proofs.KnownTables.{IsKnown, IsPlain, KeyedRows, header_is, names_are, plain_key, rows_by, table_is, table_text}
+use Rattle.command_callers.proofs.KnownTables.{IsKnown, IsPlain, KeyedRows, header_is, heads_plainly, names_are, plain_key, rows_by, table_is, table_text}
 
 -- a row with the cell that its sign is, if there is one
 abbrev pub SignedRows : Type 0
@@ -248,7 +248,9 @@ module _ {settings : Settings} {old_form changes_form : Form} {old_text changes_
       pub apply_whole : loses_by order rest applied_rows ≡ false → IsInStyle (λ s. table_text (in_style s settings.form) order key rest applied_rows) answer
       apply_whole none =
           styled_table a.applied.style settings.form a.columns a.applied.keys a.applied.by_cells applied_rows answer order key rest
-          columns_known.order columns_known.key columns_known.rest (a.applied.order plain.order) none told
+          columns_known.order columns_known.key columns_known.rest (a.applied.order plain.order)
+          (heads_plainly old_form settings.form a.applied.style old_text old_fields old_records old_known settings.groups a.header a.names a.spelled a.columns a.old
+          a.headed a.old_says a.spelled_said a.spells) none told
 
       -- unless a cell would be lost with a column that goes: then it is a report
       pub apply_loses : loses_by order rest applied_rows ≡ true → Stops answer

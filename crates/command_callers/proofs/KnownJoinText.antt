@@ -1,6 +1,6 @@
 -- What `join` answers of two texts that are known.
 use Rattle.std.proofs.Common.{◌≡◌, ◌∙◌, ◌++◌, ℕ, Bool, Bor, true, List, [], ◌∷◌, filter, flat_map, map, IsPermutation, Option, None, ap, refl, subst}
-use Rattle.std.specs.Prelude.{⊤}
+use Rattle.std.specs.Prelude.{⊤, unwrap_or}
 use Rattle.eob_lists.specs.Join.{IsJoin, Rising}
 use Rattle.eob_lists.proofs.MergeLemmas.{Up, merge}
 use Rattle.eob_joins.specs.Tables.{IsAntiJoin, IsInnerJoin, IsLeftJoin, IsRightJoin, IsSemiJoin, both_places, kept, lone_left, paired_left, paired_right, shared_left}
@@ -8,7 +8,7 @@ use Rattle.keyed_files.specs.ColumnNames.{HaveNames, column_names, if_empty, is_
 use Rattle.keyed_files.specs.JoinedNames.{joined_names, side_column, told_apart}
 use Rattle.keyed_files.specs.JoinedRows.{each_before, side_count, side_row}
 use Rattle.keyed_files.specs.Keys.{AreJoinColumns, first_name}
-use Rattle.keyed_files.specs.Rows.{first_cells}
+use Rattle.keyed_files.specs.Rows.{first_cells, names_placed}
 use Rattle.keyed_files.specs.Writing.{quoted_text}
 use Rattle.keyed_files.specs.declared.columns.JoinColumns.{JoinColumns}
 use Rattle.keyed_files.specs.declared.request.Form.{Form}
@@ -216,7 +216,8 @@ module _ {settings : Settings} {how : Joining} {left_form right_form : Form} {le
   table_bytes rows known is text =
       table_text_is settings.form j.columns.left j.join.keys j.join.by_cells rows answer.bytes.items
       (map (place_under_key (side_key left_fields right_fields left_fields)) (side_names left_fields right_fields))
-      (side_key left_fields right_fields left_fields) (left_rest left_fields right_fields) on_left.order on_left.key on_left.rest (j.join.order plain.order) text
+      (side_key left_fields right_fields left_fields) (left_rest left_fields right_fields) on_left.order on_left.key on_left.rest (j.join.order plain.order)
+      (λ writes. ap (λ names. unwrap_or names (names_placed j.columns.left)) j.columned.plain_left) text
       ∙ ap left_text_of is
 
   pub semi_bytes : how.kind ≡ kind.Semi → answer.bytes.items ≡ left_text_of (kept shared_left (merge key_cmp (map alone left) (map alone right)))

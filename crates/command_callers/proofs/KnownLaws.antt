@@ -116,6 +116,7 @@ module _ {settings : Settings} {old_form new_form : Form} {old_text new_text : L
         record {
           style = a.applied.style;
           bytes = table_text_is written a.columns None true (map alone new) answer.bytes.items order key rest columns.order columns.key columns.rest (refl, refl)
+              (λ writes. made.spells ∙ sym made.names)
               (subst (λ t. IsTableText written a.columns None true t answer.bytes.items) table made.answers.2);
           status = made.answers.0;
           outcome = made.answers.1;
@@ -181,4 +182,6 @@ module _ {settings : Settings} {base_form ours_form theirs_form : Form} {base_te
       (record { rises = keeps.rises; values = same merged.0 keeps }) (record { rises = rises; values = λ k. refl }) in
       table_text_is (in_style m.merged.style settings.form) m.columns m.merged.keys m.merged.by_cells wanted answer.bytes.items merged_order merged_key merged_rest
       columns.order columns.key columns.rest (m.merged.order plain.order)
+      (merge.heads m plain base_fields ours_fields theirs_fields base_records ours_records theirs_records base_known ours_known theirs_known
+      base ours theirs base_up ours_up theirs_up base_moved ours_moved theirs_moved)
       (subst (λ r. IsTableText (in_style m.merged.style settings.form) m.columns m.merged.keys m.merged.by_cells r answer.bytes.items) rows merged.2)

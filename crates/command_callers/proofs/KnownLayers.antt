@@ -13,6 +13,8 @@ use Rattle.keyed_files.specs.AnswerForm.{in_style}
 use Rattle.keyed_files.specs.ColumnNames.{HaveNames, column_names, is_beside, place_under_key}
 use Rattle.keyed_files.specs.Keys.{AreColumnsBy, first_name}
 use Rattle.keyed_files.specs.Opening.{form_of, text_of_stream}
+use Rattle.keyed_files.specs.Spelled.{IsSpelledAs, SpelledOf}
+use Rattle.keyed_commands.specs.FileOrder.{KeysOf}
 use Rattle.keyed_files.specs.declared.columns.Columns.{Columns}
 use Rattle.keyed_files.specs.declared.columns.Place.{Place}
 use Rattle.keyed_files.specs.declared.opened.Stream.{Stream}
@@ -23,13 +25,13 @@ use Rattle.keyed_files.specs.declared.request.Settings.{Settings}
 use Rattle.keyed_files.specs.declared.source.Content.TheVariants.{Rows}
 use Rattle.keyed_tables.specs.Gathered.{alone}
 use Rattle.keyed_commands.specs.Answers.{TableRows, key_cmp}
-use Rattle.keyed_commands.specs.OverlayAnswers.{AreLaidOver, AreNamed, OverlaidIn, OverlaysStreams, Said, SaysRows, laid_rows}
+use Rattle.keyed_commands.specs.OverlayAnswers.{AreLaidOver, AreNamed, OverlaidIn, OverlaysStreams, Said, SaysRows, SpellsFirst, laid_rows}
 use Rattle.keyed_commands.specs.TablesRead.{AreNames, SaysTable}
 use Rattle.keyed_commands.specs.declared.answer.Answer.{Answer}
 use Rattle.keyed_commands.proofs.AnswerLemmas.{key_exact, key_total}
 use Rattle.command_callers.specs.Answered.{IsInStyle}
 use Rattle.command_callers.proofs.KnownRows.{alone_rise}
-use Rattle.command_callers.proofs.KnownTables.{IsKnown, IsPlain, KeyedRows, columns_are, header_is, plain_names, rows_by, table_is, table_text, table_text_is}
+use Rattle.command_callers.proofs.KnownTables.{IsKnown, IsPlain, KeyedRows, columns_are, header_is, heads_plainly, plain_names, rows_by, table_is, table_text, table_text_is}
 
 -- what stands under a key of two tables, one over the other
 abbrev pub over : Layer → EitherOrBoth (List (List (List ℕ))) (List (List (List ℕ))) → Option (List (List (List ℕ)))
@@ -70,6 +72,9 @@ pub record OverlaysTexts (settings : Settings) (layer : Layer) (below_form above
   pub columned : AreColumnsBy settings.key (below.names ∷ above.names ∷ []) (below.names ∷ above.names ∷ []) columns
   pub below_says : SaysTable below_form Rows settings.groups below_text below.header below.names columns below.rows
   pub above_says : SaysTable above_form Rows settings.groups above_text above.header above.names columns above.rows
+  pub below_spells : SpelledOf below_form Rows below_text below.spelled
+  pub spells : IsSpelledAs below.header below.spelled columns
+  pub headed : below_form.has_header ≡ settings.form.has_header
   pub overlaid : OverlaidIn layer settings.form columns (settings.keeps_order ≡ false) (below.rows ∷ above.rows ∷ []) answer
 
 module _ {R : Type 0} (rem : R → Option (List ℕ)) (settings : Settings) (layer : Layer) (below above : Stream R) (below_text above_text : List ℕ) (answer : Answer) where
@@ -78,16 +83,18 @@ module _ {R : Type 0} (rem : R → Option (List ℕ)) (settings : Settings) (lay
 
   says_text : (columns : Columns) (stream : Stream R) (text : List ℕ) (said : Said) → text_of_stream rem settings.form stream ≡ Some text → SaysRows rem settings columns stream said
       → SaysTable (form_of settings.form stream) Rows settings.groups text said.header said.names columns said.rows
-  says_text columns stream text said e h = subst (λ m. IfSome m (λ t. SaysTable (form_of settings.form stream) Rows settings.groups t said.header said.names columns said.rows)) e h
+      × SpelledOf (form_of settings.form stream) Rows text said.spelled × KeysOf (form_of settings.form stream) Rows text said.names columns said.keys
+  says_text columns stream text said e h = subst (λ m. IfSome m (λ t. SaysTable (form_of settings.form stream) Rows settings.groups t said.header said.names columns said.rows
+      × SpelledOf (form_of settings.form stream) Rows t said.spelled × KeysOf (form_of settings.form stream) Rows t said.names columns said.keys)) e h
 
   two : (columns : Columns) (said : List Said) → AreNamed settings.key said
       → AreColumnsBy settings.key (map (λ table. table.names) said) (map (λ table. table.names) said) columns
-      → AllZip (SaysRows rem settings columns) (below ∷ above ∷ []) said
+      → AllZip (SaysRows rem settings columns) (below ∷ above ∷ []) said → SpellsFirst rem settings columns (below ∷ above ∷ []) said
       → OverlaidIn layer settings.form columns (settings.keeps_order ≡ false) (map (λ table. table.rows) said) answer
       → text_of_stream rem settings.form below ≡ Some below_text → text_of_stream rem settings.form above ≡ Some above_text → OfTexts
-  two columns [] named columned says laid e f = absurd says
-  two columns (first ∷ []) named columned says laid e f = absurd says.1
-  two columns (first ∷ next ∷ []) named columned says laid e f =
+  two columns [] named columned says spells laid e f = absurd says
+  two columns (first ∷ []) named columned says spells laid e f = absurd says.1
+  two columns (first ∷ next ∷ []) named columned says spells laid e f =
       record {
         columns = columns;
         below = first;
@@ -95,15 +102,18 @@ module _ {R : Type 0} (rem : R → Option (List ℕ)) (settings : Settings) (lay
         below_named = named.0;
         above_named = named.1.0;
         columned = columned;
-        below_says = says_text columns below below_text first e says.0;
-        above_says = says_text columns above above_text next f says.1.0;
+        below_says = (says_text columns below below_text first e says.0).0;
+        above_says = (says_text columns above above_text next f says.1.0).0;
+        below_spells = (says_text columns below below_text first e says.0).1;
+        spells = subst (λ m. IfSome m (λ t. IsSpelledAs first.header first.spelled columns)) e spells;
+        headed = refl;
         overlaid = laid;
       }
-  two columns (first ∷ next ∷ other ∷ more) named columned says laid e f = absurd says.1.1
+  two columns (first ∷ next ∷ other ∷ more) named columned says spells laid e f = absurd says.1.1
 
   pub of_two : OverlaysStreams rem settings layer (below ∷ above ∷ []) answer → text_of_stream rem settings.form below ≡ Some below_text
       → text_of_stream rem settings.form above ≡ Some above_text → OfTexts
-  of_two told = two told.columns told.said told.named told.columned told.says told.overlaid
+  of_two told = two told.columns told.said told.named told.columned told.says told.spells told.overlaid
 
 -- the names of the columns of both
 abbrev pub overlay_key : (below above : List (List ℕ)) → List (List ℕ)
@@ -171,7 +181,9 @@ module _ {settings : Settings} {layer : Layer} {below_form above_form : Form} {b
         style = told.style;
         bytes =
             table_text_is form o.columns o.overlaid.keys o.overlaid.by_cells o.overlaid.rows answer.bytes.items
-            (overlay_order below_fields above_fields) key rest columns_known.order columns_known.key columns_known.rest (o.overlaid.order plain.order) told.text
+            (overlay_order below_fields above_fields) key rest columns_known.order columns_known.key columns_known.rest (o.overlaid.order plain.order)
+            (heads_plainly below_form settings.form told.style below_text below_fields below_records below_known settings.groups o.below.header o.below.names o.below.spelled o.columns o.below.rows
+            o.headed o.below_says o.below_spells o.spells) told.text
             ∙ ap (table_text form (overlay_order below_fields above_fields) key rest) rows_known;
         status = told.status;
         outcome = told.outcome;

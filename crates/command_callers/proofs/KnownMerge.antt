@@ -31,7 +31,7 @@ use Rattle.command_callers.specs.Answered.{IsInStyle}
 use Rattle.command_callers.proofs.KnownCells.{gives_once, merged_by_cell, none_stuck, settled_rows}
 use Rattle.command_callers.proofs.KnownJoins.{merged_rows, no_conflict, three}
 use Rattle.command_callers.proofs.KnownRows.{alone_rise}
-use Rattle.command_callers.proofs.KnownTables.{IsKnown, IsPlain, KeyedRows, header_is, names_are, plain_key, rows_by, table_is, table_text, table_text_is}
+use Rattle.command_callers.proofs.KnownTables.{HeadsPlainly, IsKnown, IsPlain, KeyedRows, header_is, heads_plainly, names_are, plain_key, rows_by, table_is, table_text, table_text_is}
 
 -- whether rows lose cells, by the columns that are written and the names beside the key
 abbrev pub loses_by : List Place → (rest : List (List ℕ)) → TableRows → Bool
@@ -39,15 +39,16 @@ loses_by order rest rows = ltb (length (filter is_rest order)) (length rest) && 
 
 -- an answer with a table of which no cell is lost
 pub styled_table : (style : Style) (form : Form) (columns : Columns) (keys : Option (List (List (List ℕ)))) (by_cells : Bool) (rows : TableRows) (answer : Answer) (order : List Place) (key rest : List (List ℕ))
-    → columns.order.items ≡ order → columns.key ≡ key → columns.rest ≡ rest → (keys ≡ None) × (by_cells ≡ true) → loses_by order rest rows ≡ false
+    → columns.order.items ≡ order → columns.key ≡ key → columns.rest ≡ rest → (keys ≡ None) × (by_cells ≡ true) → HeadsPlainly (in_style style form) columns
+    → loses_by order rest rows ≡ false
     → AnswersTable (in_style style form) columns keys by_cells rows answer → IsInStyle (λ s. table_text (in_style s form) order key rest rows) answer
-styled_table style form columns keys by_cells rows answer order key rest eo ek er plainly none h =
+styled_table style form columns keys by_cells rows answer order key rest eo ek er plainly heads none h =
     let keeps : loses columns rows ≡ false = ap (λ o. loses_by o columns.rest rows) eo ∙ ap (λ r. loses_by order r rows) er ∙ none in
     let told : (answer.status ≡ 0) × (answer.outcome ≡ Made) × IsTableText (in_style style form) columns keys by_cells rows answer.bytes.items =
     subst (λ b. MatchBool b (Stops answer) ((answer.status ≡ 0) × (answer.outcome ≡ Made) × IsTableText (in_style style form) columns keys by_cells rows answer.bytes.items)) keeps h in
     record {
       style = style;
-      bytes = table_text_is (in_style style form) columns keys by_cells rows answer.bytes.items order key rest eo ek er plainly told.2;
+      bytes = table_text_is (in_style style form) columns keys by_cells rows answer.bytes.items order key rest eo ek er plainly heads told.2;
       status = told.0;
       outcome = told.1;
     }
@@ -148,6 +149,12 @@ module _ {settings : Settings} {by : Unit} {base_form ours_form theirs_form : Fo
   by_row : by ≡ unit.Row → AnswersByRow made_in m.columns m.merged.keys m.merged.by_cells m.base m.ours m.theirs answer
   by_row is = subst (AnswersBy made_in m.columns m.merged.keys m.merged.by_cells m.base m.ours m.theirs answer) is m.merged.merged
 
+  -- the heading has the names of ours
+  pub heads : HeadsPlainly made_in m.columns
+  heads =
+      heads_plainly ours_form settings.form m.merged.style ours_text ours_fields ours_records ours_known settings.groups m.ours_header m.ours_header m.spelled m.columns m.ours
+      m.headed m.ours_say m.spelled_said m.spells
+
   base_rises : Rising key_cmp (map alone base)
   base_rises = alone_rise key_cmp key_total base base_up
 
@@ -171,7 +178,7 @@ module _ {settings : Settings} {by : Unit} {base_form ours_form theirs_form : Fo
       merged_rows key_cmp key_total key_exact rows_eq (map alone base) (map alone ours) (map alone theirs) base_rises ours_rise theirs_rise told.0
       (of_tables (λ b o t. Tabulates key_cmp told.0 (λ k. merged_place rows_eq (value_under key_cmp b k) (value_under key_cmp o k) (value_under key_cmp t k))) told.1) in
       styled_table m.merged.style settings.form m.columns m.merged.keys m.merged.by_cells merged_three answer order key rest
-      columns_known.order columns_known.key columns_known.rest (m.merged.order plain.order) none
+      columns_known.order columns_known.key columns_known.rest (m.merged.order plain.order) heads none
       (subst (λ r. AnswersTable made_in m.columns m.merged.keys m.merged.by_cells r answer) are told.2)
 
   -- and where one is, a report
@@ -199,7 +206,7 @@ module _ {settings : Settings} {by : Unit} {base_form ours_form theirs_form : Fo
       merged_by_cell became told.0 told.1
       (of_tables (λ b o t. (k : List (List ℕ)) → Became rows_eq GivesRow (value_under key_cmp b k) (value_under key_cmp o k) (value_under key_cmp t k) (value_under key_cmp told.0 k)) told.2) in
       styled_table m.merged.style settings.form m.columns m.merged.keys m.merged.by_cells merged_cells_of_three answer order key rest
-      columns_known.order columns_known.key columns_known.rest (m.merged.order plain.order) none
+      columns_known.order columns_known.key columns_known.rest (m.merged.order plain.order) heads none
       (subst (λ r. AnswersTable made_in m.columns m.merged.keys m.merged.by_cells r answer) are told.3)
 
   pub merge_sticks : by ≡ unit.Cell → (k : List (List ℕ)) → sticks_at (map alone base) (map alone ours) (map alone theirs) k ≡ true → Stops answer

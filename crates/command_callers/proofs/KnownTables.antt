@@ -1,15 +1,16 @@
 -- The table of a text whose records are known, and its columns.
-use Rattle.std.proofs.Common.{◌≡◌, ◌∙◌, ◌++◌, ℕ, Bool, Bor, true, false, List, [], ◌∷◌, length, map, nat_eq, IsPermutation, Option, None, Some, ap, subst, sym}
+use Rattle.std.proofs.Common.{◌≡◌, ◌∙◌, ◌++◌, ℕ, Bool, Bor, true, false, List, [], ◌∷◌, length, map, nat_eq, IsPermutation, Option, None, Some, ap, refl, subst, sym}
 use Rattle.std.specs.Prelude.{◌==◌, ◌&&◌, ◌||◌, ⊤, not, if◌then◌else◌}
 use Rattle.std.specs.Cmp.Lexicographic.{pointwise}
 use Rattle.eob_lists.proofs.MergeLemmas.{Up}
-use Rattle.keyed_files.specs.AnswerForm.{writes_heading}
+use Rattle.keyed_files.specs.AnswerForm.{in_style, writes_heading}
 use Rattle.keyed_files.specs.ColumnNames.{HaveNames, column_names}
 use Rattle.keyed_files.specs.Headers.{names_counted}
 use Rattle.keyed_files.specs.Keys.{AreColumnsBy, AreKeyNames, first_name}
 use Rattle.keyed_files.specs.Names.{repeats}
 use Rattle.keyed_files.specs.Reading.{HeadedBy, IsTable, behind_header, cell_under, parts_of, row_under}
-use Rattle.keyed_files.specs.Rows.{placed, table_rows}
+use Rattle.keyed_files.specs.Rows.{names_headed, names_placed, placed, table_rows}
+use Rattle.keyed_files.specs.Spelled.{IsSpelledAs, SpelledBy, SpelledOf}
 use Rattle.keyed_files.specs.Writing.{comment_of, delimiter_of, file_text}
 use Rattle.keyed_files.specs.declared.columns.Columns.{Columns}
 use Rattle.keyed_files.specs.declared.columns.Place.{Place}
@@ -20,11 +21,14 @@ use Rattle.keyed_rows.specs.declared.row.ReadRow.{ReadRow}
 use Rattle.keyed_tables.specs.Arranged.{AreArranged}
 use Rattle.keyed_tables.specs.Gathered.{alone}
 use Rattle.keyed_text.specs.Texts.{AreRows}
+use Rattle.keyed_text.specs.declared.style.Style.{Style}
 use Rattle.keyed_text.proofs.TextLemmas.{rows-once}
 use Rattle.keyed_commands.specs.Answers.{IsTableText, TableRows, key_cmp}
 use Rattle.keyed_commands.specs.ComeOut.{AlikeRows, ComesOut, HasGroups}
 use Rattle.keyed_commands.specs.TablesRead.{AreNames, AreNamesBy, SaysTable}
 use Rattle.keyed_commands.proofs.AnswerLemmas.{key_exact, key_total}
+use Rattle.keyed_commands.proofs.LawLemmas.{has-header}
+use Rattle.keyed_commands.proofs.SpelledLemmas.{spells-plainly}
 use Rattle.command_callers.proofs.KnownRows.{gathered}
 
 -- rows by key
@@ -61,6 +65,7 @@ pub record IsKnown (form : Form) (text : List ℕ) (names : List (List ℕ)) (re
   pub rows : AreRows (delimiter_of form) (comment_of form) text all
   pub named : (header : List (List ℕ)) → HeadedBy form.has_header Rows all header → header ≡ names
   pub behind : behind_header form.has_header all ≡ records
+  pub plain : form.has_header ≡ true → (header spelled : List (List ℕ)) → HeadedBy form.has_header Rows all header → SpelledBy form.has_header Rows all spelled → spelled ≡ header
 
 -- one with a header in which no name stands twice
 pub known_text : (form : Form) (text literal : List ℕ) (fields : List (List ℕ)) (records : List (List (List ℕ))) → text ≡ literal → form.has_header ≡ true
@@ -70,6 +75,10 @@ known_text form text literal fields records e has are once = record {
   rows = subst (λ t. AreRows (delimiter_of form) (comment_of form) t (fields ∷ records)) (sym e) are;
   named = λ header h. let headed : HeadedBy true Rows (fields ∷ records) header = subst (λ b. HeadedBy b Rows (fields ∷ records) header) has h in headed once;
   behind = ap (λ b. behind_header b (fields ∷ records)) has;
+  plain = λ _ header spelled h s.
+      let headed : HeadedBy true Rows (fields ∷ records) header = subst (λ b. HeadedBy b Rows (fields ∷ records) header) has h in
+      let said : SpelledBy true Rows (fields ∷ records) spelled = subst (λ b. SpelledBy b Rows (fields ∷ records) spelled) has s in
+      said ∙ sym (headed once);
 }
 
 -- one with no header, whose columns have numbers for names
@@ -81,6 +90,7 @@ bare_text form text literal names fields records e has are count = record {
   rows = subst (λ t. AreRows (delimiter_of form) (comment_of form) t (fields ∷ records)) (sym e) are;
   named = λ header h. let headed : HeadedBy false Rows (fields ∷ records) header = subst (λ b. HeadedBy b Rows (fields ∷ records) header) has h in headed ∙ count;
   behind = ap (λ b. behind_header b (fields ∷ records)) has;
+  plain = λ headed header spelled h s. absurd (cc (sym has ∙ headed));
 }
 
 -- the rows of records under names, by key
@@ -127,17 +137,41 @@ came_out {V} keys by_cells P xs ys order h =
     let grouped : HasGroups {K = List (List ℕ)} true P h.0 ys = subst (λ b. HasGroups {K = List (List ℕ)} b P h.0 ys) order.1 h.3 in
     grouped ∙ arranged
 
+-- the heading of a table, if it is written, has the names of its columns, where these are spelled as a known text does that has each once
+abbrev pub HeadsPlainly : Form → Columns → Type 0
+HeadsPlainly form columns = writes_heading form ≡ true → names_headed columns ≡ names_placed columns
+
+pub heads_plainly : (form settings_form : Form) (style : Style) (text : List ℕ) (fields : List (List ℕ)) (records : List (List (List ℕ))) (known : IsKnown form text fields records)
+    (groups : Bool) (header names spelled : List (List ℕ)) (columns : Columns) (table : TableRows) → form.has_header ≡ settings_form.has_header
+    → SaysTable form Rows groups text header names columns table → SpelledOf form Rows text spelled → IsSpelledAs header spelled columns
+    → HeadsPlainly (in_style style settings_form) columns
+heads_plainly form settings_form style text fields records known groups header names spelled columns table same says said spells = λ writes.
+    let has : form.has_header ≡ true = same ∙ has-header settings_form writes in
+    let all : says.1.0 ≡ known.all = rows-once (delimiter_of form) (comment_of form) text says.1.0 known.all says.1.1 known.rows in
+    let too : said.0 ≡ known.all = rows-once (delimiter_of form) (comment_of form) text said.0 known.all said.1 known.rows in
+    spells-plainly header spelled columns spells
+    (known.plain has header spelled (subst (λ rs. HeadedBy form.has_header Rows rs header) all says.1.2) (subst (λ rs. SpelledBy form.has_header Rows rs spelled) too said.2))
+
 -- the text of a table
+abbrev pub headed : Form → List Place → (names : List (List ℕ)) → List (List (List ℕ))
+headed form order names = if writes_heading form && (false || not (length order == 0)) then names ∷ [] else []
+
 abbrev pub heading_by : Form → List Place → (key rest : List (List ℕ)) → List (List (List ℕ))
-heading_by form order key rest = if writes_heading form && (false || not (length order == 0)) then placed order key rest ∷ [] else []
+heading_by form order key rest = headed form order (placed order key rest)
+
+headed_alike : (form : Form) (order : List Place) (names others : List (List ℕ)) (writes : Bool) → writes_heading form ≡ writes → (writes ≡ true → names ≡ others)
+    → headed form order names ≡ headed form order others
+headed_alike form order names others true is same = ap (headed form order) (same refl)
+headed_alike form order names others false is same = rw is refl
 
 abbrev pub table_text : Form → List Place → (key rest : List (List ℕ)) → TableRows → List ℕ
 table_text form order key rest rows = file_text form (heading_by form order key rest ++ table_rows order rows)
 
 pub table_text_is : (form : Form) (columns : Columns) (keys : Option (List (List (List ℕ)))) (by_cells : Bool) (rows : TableRows) (text : List ℕ)
     (order : List Place) (key rest : List (List ℕ)) → columns.order.items ≡ order → columns.key ≡ key → columns.rest ≡ rest
-    → (keys ≡ None) × (by_cells ≡ true) → IsTableText form columns keys by_cells rows text → text ≡ table_text form order key rest rows
-table_text_is form columns keys by_cells rows text order key rest eo ek er plainly h =
-    h.2 ∙ ap (λ l. table_text form columns.order.items columns.key columns.rest l) (came_out keys by_cells AlikeRows rows h.0 plainly h.1)
+    → (keys ≡ None) × (by_cells ≡ true) → HeadsPlainly form columns → IsTableText form columns keys by_cells rows text → text ≡ table_text form order key rest rows
+table_text_is form columns keys by_cells rows text order key rest eo ek er plainly heads h =
+    h.2 ∙ ap (λ l. file_text form (headed form columns.order.items (names_headed columns) ++ table_rows columns.order.items l)) (came_out keys by_cells AlikeRows rows h.0 plainly h.1)
+    ∙ ap (λ l. file_text form (l ++ table_rows columns.order.items rows)) (headed_alike form columns.order.items (names_headed columns) (names_placed columns) _ refl heads)
     ∙ ap (λ o. table_text form o columns.key columns.rest rows) eo ∙ ap (λ k. table_text form order k columns.rest rows) ek
     ∙ ap (λ r. table_text form order key r rows) er

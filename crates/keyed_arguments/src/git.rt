@@ -185,7 +185,6 @@ fn versions_asked<'a>(
     how: Comparing<'a>,
     diff: GitDiff<'a>,
 ) -> Result<Asked<'a>, ParseError> {
-    let how = Comparing::whole(format);
     let named = Request::Diff {
         old: diff.path,
         new: diff.renamed.unwrap_or(diff.path),

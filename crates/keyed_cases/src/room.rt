@@ -125,6 +125,7 @@ impl Room {
         let world = World {
             words: &words,
             no_color,
+            columns: None,
             stdin: &stdin,
             stdout: self.sink_of(command),
             has_terminal: self.has_error_terminal,

@@ -26,10 +26,13 @@ use Rattle.keyed_commands.specs.ComeOut.{AlikeIn, AlikePlaces, AlikeRows, HasGro
 use Rattle.keyed_commands.specs.JoinAnswers.{AlikeBoth, AlikeLeft, AlikeRight, IsJoinText, IsTextOfJoin, JoinsSources, JoinsStreams, JoinsTexts, PutsJoin, PutsSides, RowSides}
 use Rattle.keyed_commands.specs.JoinAnswers.{header_of_join, heading_of_join, inner_sides, join_rows, left_sides, names_as, outer_sides, right_sides, rows_of_sides}
 use Rattle.keyed_commands.specs.Answers.{TableRows}
+use Rattle.keyed_tables.specs.Arranged.{noted}
+use Rattle.keyed_commands.specs.FileOrder.{begun_keys, noted_with}
 use Rattle.keyed_commands.specs.TablesRead.{IsUnordered, SaysTable}
 use Rattle.keyed_commands.specs.declared.answer.Answer.{Answer}
 use Rattle.keyed_commands.specs.declared.job.Job.{Job}
 use Rattle.keyed_commands.proofs.ReadLemmas.{both-known}
+use Rattle.keyed_commands.proofs.NotedLemmas.{notes-known}
 
 -- the header of a join
 pub heading_then : (form : Form) (written : Written) (rows : List (List (List ℕ))) (has : Bool) → has ≡ true → Wrote form rows written
@@ -114,11 +117,11 @@ module _ {R : Type 0} (rem : R → Option (List ℕ)) (settings : Settings) (how
   names = joined_names how.kind how.names job.columns.now
 
   pub join-streams : IsOpened rem settings.form Rows left sides.first → IsOpened rem settings.form Rows right sides.next
-      → job.form ≡ settings.form → job.groups ≡ settings.groups → (settings.keeps_order ≡ false → IsUnordered job)
+      → job.form ≡ settings.form → job.groups ≡ settings.groups → (settings.keeps_order ≡ false → IsUnordered job) → noted job.order ≡ begun_keys settings.keeps_order
       → AreJoinColumns settings.key sides.first.source.value.header.names sides.next.source.value.header.names job.columns.now
       → how.format ≡ format.Csv → header ≡ header_of_join settings.form how job.columns.now → repeats [] header ≡ false
       → JoinsSources rem job how.kind header sides answer → JoinsStreams rem settings how left right answer
-  join-streams first next form groups unordered columned csv written once read =
+  join-streams first next form groups unordered begins columned csv written once read =
       both-known {T = λ t u. JoinsTexts settings how (form_of settings.form left) (form_of settings.form right) t u answer} _ _ first next (λ t u opened beside. record {
         columns = job.columns.now;
         left_header = sides.first.source.value.header.names;
@@ -130,6 +133,8 @@ module _ {R : Type 0} (rem : R → Option (List ℕ)) (settings : Settings) (how
             groups (read.left_read _ _ t _ opened);
         right_says = subst (λ g. SaysTable (form_of settings.form right) Rows g u sides.next.source.value.header.names sides.next.source.value.header.names job.columns.now.right read.right)
             groups (read.right_read _ _ u _ beside);
+        ordered = notes-known rem Rows job.columns.now.left job.columns.now.right sides.first.source.value sides.next.source.value noted_with settings.keeps_order (noted job.order) read.join.keys
+            (form_of settings.form left) (form_of settings.form right) t u _ _ begins read.notes opened beside;
         once = once_asked settings.form.has_header how.format header names csv written once;
         join = record {
           keys = read.join.keys;

@@ -12,6 +12,7 @@ pub mod KeyLemmas
 pub mod LawLemmas
 pub mod LookupLemmas
 pub mod LossLemmas
+pub mod NotedLemmas
 pub mod OnceLemmas
 pub mod OneSideLemmas
 pub mod OverlayLemmas

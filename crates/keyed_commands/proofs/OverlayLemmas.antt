@@ -1,7 +1,7 @@
 -- Tables laid one after the other, and from the tables to their texts.
 use Rattle.std.proofs.Common.{◌≡◌, ◌∙◌, ℕ, Bool, Bor, false, List, [], ◌∷◌, Option, None, Some, ap, map, refl, subst, sym}
-use Rattle.std.specs.Prelude.{⊤, IfSome, option_map}
-use Rattle.std.specs.List.{AllZip}
+use Rattle.std.specs.Prelude.{⊤, IfSome, IsSome, option_map}
+use Rattle.std.specs.List.{AllZip, flat_map}
 use Rattle.eob_both.specs.Places.{from_places}
 use Rattle.either_or_both.specs.Join.{Rising, value_under}
 use Rattle.eob_lists.proofs.MergeLemmas.{rising}
@@ -21,12 +21,15 @@ use Rattle.keyed_files.specs.declared.source.Source.{Source}
 use Rattle.keyed_files.proofs.TableLemmas.{open-renamed}
 use Rattle.keyed_commands.specs.Answers.{TableRows, key_cmp}
 use Rattle.keyed_commands.specs.AppliedTexts.{watched_left}
-use Rattle.keyed_commands.specs.OverlayAnswers.{AnswersRows, AreLaidOver, AreLayers, AreNamed, IsLayer, IsSpelledAsFirst, LaysTables, OverlaysSources, OverlaysStreams, ReadTables, Said, SaysRows, SpellsFirst, laid_rows, laid_under}
+use Rattle.keyed_commands.specs.OverlayAnswers.{AnswersRows, AreKnown, AreLaidOver, AreLayers, AreNamed, IsLayer, IsSpelledAsFirst, LaysTables, NotesAll, OverlaysSources, OverlaysStreams, ReadTables, Said, SaysRows, SpellsFirst, laid_rows, laid_under}
+use Rattle.keyed_tables.specs.Arranged.{noted}
+use Rattle.keyed_commands.specs.FileOrder.{Keys, KeysOf, OfKeys, begun_keys, noted_with}
 use Rattle.keyed_commands.specs.TablesRead.{IsUnordered}
 use Rattle.keyed_commands.specs.declared.answer.Answer.{Answer}
 use Rattle.keyed_commands.specs.declared.job.Job.{Job}
 use Rattle.keyed_commands.specs.declared.styles.Watched.{Watched}
 use Rattle.keyed_commands.proofs.GoneLemmas.{spelled-of}
+use Rattle.keyed_commands.proofs.NotedLemmas.{noted-more, noted-none}
 
 on_none : (layer : Layer) (m : Option (List (List (List ℕ)))) → option_map (laid_rows layer) (from_places None m) ≡ m
 on_none layer.Rows None = refl
@@ -70,6 +73,15 @@ module _ {R : Type 0} (rem : R → Option (List ℕ)) (layer : Layer) (groups : 
   pub lays_none : (rows : TableRows) (left : List (Opened (Watched R))) → left ≡ [] → Rising key_cmp rows → LaysTables rem layer groups columns rows left rows
   lays_none rows left is rises = subst (λ l. LaysTables rem layer groups columns rows l rows) (sym is) ([], tt, none_laid layer rows rises)
 
+-- the keys of one more table are noted, and of no more
+pub notes_then : {R : Type 0} (rem : R → Option (List ℕ)) (columns : Columns) (before mid : Option Keys) (source : Opened (Watched R)) (left sources : List (Opened (Watched R)))
+    (after : Option Keys) → left ≡ source ∷ sources → OfKeys (watched_left rem) Rows columns source.source.value (λ keys. mid ≡ noted_with before keys)
+    → NotesAll rem columns sources mid after → NotesAll rem columns left before after
+notes_then rem columns before mid source left sources after is one more = subst (λ l. NotesAll rem columns l before after) (sym is) (mid, one, more)
+
+pub notes_none : {R : Type 0} (rem : R → Option (List ℕ)) (columns : Columns) (before : Option Keys) (left : List (Opened (Watched R))) → left ≡ [] → NotesAll rem columns left before before
+notes_none rem columns before left is = subst (λ l. NotesAll rem columns l before before) (sym is) refl
+
 -- columns whose heading is spelled in another way are those of the same headers
 pub columns_spelled : (key : Option (Bor (List ℕ))) (tables headers : List (List (List ℕ))) (old new : Columns) (spelled : Option (List (List ℕ))) → new ≡ record old { spelled = spelled }
     → AreColumnsBy key tables headers old → AreColumnsBy key tables headers new
@@ -111,44 +123,66 @@ module _ {R : Type 0} (rem : R → Option (List ℕ)) where
     known_says None f known = tt
     known_says (Some t) f known = f t known
 
+    -- the keys of a text that is known, and those of none of one that is not
+    known_keys : (form : Form) (header : List (List ℕ)) (source : Source (Watched R)) (P : Keys → Type 0) (m : Option (List ℕ))
+        → IfSome m (λ text. IsOpen form Rows (watched_left rem) text header source) → OfKeys (watched_left rem) Rows columns source P
+        → (keys : Keys) × IfSome m (λ text. KeysOf form Rows text source.header.names columns keys) × IfSome m (λ text. P keys)
+    known_keys form header source P None begun of = ([], tt, tt)
+    known_keys form header source P (Some text) begun of = of form text header begun
+
+    holds_if : (P : Type 0) (m : Option (List ℕ)) → IsSome m → IfSome m (λ text. P) → P
+    holds_if P None some h = absurd some
+    holds_if P (Some text) some h = h
+
+    both_known : {P Q : List ℕ → Type 0} (m : Option (List ℕ)) → IfSome m P → IfSome m Q → IfSome m (λ t. P t × Q t)
+    both_known None p q = tt
+    both_known (Some t) p q = (p, q)
+
     -- what the texts of streams that are opened and read say
-    says_all : {A : Type 0} (key : Option A) (streams : List (Stream R)) (opened : List (Opened (Watched R))) (tables : List TableRows)
-        → AreLayers rem settings.form key streams opened → ReadTables rem settings.groups columns opened tables
+    says_all : {A : Type 0} (key : Option A) (streams : List (Stream R)) (opened : List (Opened (Watched R))) (tables : List TableRows) (before after : Option Keys)
+        → AreLayers rem settings.form key streams opened → ReadTables rem settings.groups columns opened tables → NotesAll rem columns opened before after
         → (said : List Said) × AreNamed key said × (map (λ table. table.names) said ≡ map (λ source. source.source.value.header.names) opened)
         × (map (λ table. table.rows) said ≡ tables) × AllZip (SaysRows rem settings columns) streams said
         × (IsSpelledAsFirst opened columns → SpellsFirst rem settings columns streams said)
-    says_all key [] [] [] layers read = ([], tt, refl, refl, tt, λ spells. tt)
-    says_all key [] [] (table ∷ tables) layers read = absurd read
-    says_all key [] (source ∷ opened) tables layers read = absurd layers
-    says_all key (stream ∷ streams) [] tables layers read = absurd layers
-    says_all key (stream ∷ streams) (source ∷ opened) [] layers read = absurd read
-    says_all {A} key (stream ∷ streams) (source ∷ opened) (table ∷ tables) layers read =
-        let rest = says_all {A = A} None streams opened tables layers.1 read.1 in
+        × (AreKnown rem settings streams → after ≡ noted_with before (flat_map (λ table. table.keys) said))
+    says_all key [] [] [] before after layers read notes = ([], tt, refl, refl, tt, (λ spells. tt), λ known. notes ∙ sym (noted-none before))
+    says_all key [] [] (table ∷ tables) before after layers read notes = absurd read
+    says_all key [] (source ∷ opened) tables before after layers read notes = absurd layers
+    says_all key (stream ∷ streams) [] tables before after layers read notes = absurd layers
+    says_all key (stream ∷ streams) (source ∷ opened) [] before after layers read notes = absurd read
+    says_all {A} key (stream ∷ streams) (source ∷ opened) (table ∷ tables) before after layers read notes =
+        let rest = says_all {A = A} None streams opened tables notes.0 after layers.1 read.1 notes.2 in
         let header = layers.0.0 in
         let spelled = source.source.value.header.spelling.spelled in
-        let form = form_of settings.form stream in (
-          record { header = header; spelled = spelled; names = source.source.value.header.names; rows = table } ∷ rest.0,
+        let form = form_of settings.form stream in
+        let text = text_of_stream rem settings.form stream in
+        let keyed = known_keys form header source.source.value (λ keys. notes.0 ≡ noted_with before keys) text layers.0.2 notes.1 in (
+          record { header = header; spelled = spelled; names = source.source.value.header.names; rows = table; keys = keyed.0 } ∷ rest.0,
           (layers.0.1, rest.1),
           ap (λ l. source.source.value.header.names ∷ l) rest.2,
           ap (λ l. table ∷ l) rest.3,
           (
-            known_says (text_of_stream rem settings.form stream)
-                (λ text begun. let says = read.0 form Rows text header begun in (says, spelled-of (watched_left rem) form Rows text header source.source.value says.1.0 says.1.1 begun))
-                layers.0.2,
+            known_says text (λ t begun.
+                let says = read.0 form Rows t header begun.0 in
+                (says, spelled-of (watched_left rem) form Rows t header source.source.value says.1.0 says.1.1 begun.0, begun.1))
+                (both_known text layers.0.2 keyed.1),
             rest.4,
           ),
-          λ spells. known_says (text_of_stream rem settings.form stream) (λ text begun. subst (λ names. IsSpelledAs names spelled columns) begun.named spells) layers.0.2,
+          (λ spells. known_says text (λ t begun. subst (λ names. IsSpelledAs names spelled columns) begun.named spells) layers.0.2),
+          λ known.
+              let first : notes.0 ≡ noted_with before keyed.0 = holds_if (notes.0 ≡ noted_with before keyed.0) text known.0 keyed.2 in
+              rest.6 known.1 ∙ ap (λ m. noted_with m (flat_map (λ table. table.keys) rest.0)) first ∙ noted-more before keyed.0 (flat_map (λ table. table.keys) rest.0),
         )
 
   -- several streams that are laid one over the other, of their texts
   pub overlay_streams : (settings : Settings) (layer : Layer) (streams : List (Stream R)) (opened : List (Opened (Watched R))) (job : Job Columns) (answer : Answer)
       → AreLayers rem settings.form settings.key streams opened
-      → job.form ≡ settings.form → job.groups ≡ settings.groups → (settings.keeps_order ≡ false → IsUnordered job)
+      → job.form ≡ settings.form → job.groups ≡ settings.groups → (settings.keeps_order ≡ false → IsUnordered job) → noted job.order ≡ begun_keys settings.keeps_order
       → AreColumnsBy settings.key (map (λ source. source.source.value.header.names) opened) (map (λ source. source.source.value.header.names) opened) job.columns.now
       → IsSpelledAsFirst opened job.columns.now → OverlaysSources rem layer job opened answer → OverlaysStreams rem settings layer streams answer
-  overlay_streams settings layer streams opened job answer layers form groups unordered columned spells read =
-      let said = says_all settings job.columns.now settings.key streams opened read.tables layers
-      (subst (λ g. ReadTables rem g job.columns.now opened read.tables) groups read.read) in
+  overlay_streams settings layer streams opened job answer layers form groups unordered begins columned spells read =
+      let said = says_all settings job.columns.now settings.key streams opened read.tables (noted job.order) read.overlaid.keys layers
+      (subst (λ g. ReadTables rem g job.columns.now opened read.tables) groups read.read) read.notes in
       record {
         columns = job.columns.now;
         said = said.0;
@@ -156,6 +190,7 @@ module _ {R : Type 0} (rem : R → Option (List ℕ)) where
         columned = subst (λ names. AreColumnsBy settings.key names names job.columns.now) (sym said.2) columned;
         says = said.4;
         spells = said.5 spells;
+        ordered = λ known. said.6 known ∙ ap (λ m. noted_with m (flat_map (λ table. table.keys) said.0)) begins;
         overlaid = record {
           rows = read.overlaid.rows;
           keys = read.overlaid.keys;

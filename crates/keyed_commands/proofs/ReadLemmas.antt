@@ -16,8 +16,11 @@ use Rattle.keyed_files.specs.declared.source.Source.{Source}
 use Rattle.keyed_rows.specs.declared.row.ReadRow.{ReadRow}
 use Rattle.keyed_commands.specs.Answers.{IsDiffStatus, IsDiffText, TableRows, status_of}
 use Rattle.keyed_commands.specs.TablesRead.{AreNames, DiffsSources, DiffsStreams, DiffsTexts, Gathers, IsStatusBetween, IsUnordered, ReadsTable, SaysTable}
+use Rattle.keyed_tables.specs.Arranged.{noted}
+use Rattle.keyed_commands.specs.FileOrder.{begun_keys, noted_with}
 use Rattle.keyed_commands.specs.declared.answer.Answer.{Answer}
 use Rattle.keyed_commands.specs.declared.job.Job.{Job}
+use Rattle.keyed_commands.proofs.NotedLemmas.{notes-known}
 
 -- rows that are read behind none are those of the table
 pub table-gathered : {R : Type 0} (rem : R → Option (List ℕ)) (groups : Bool) (columns : Columns) (source : Source R) (old rows : List ReadRow) (table : TableRows)
@@ -49,11 +52,13 @@ both-known (Some t) (Some u) p q f = f t u p q
 module _ {R : Type 0} (rem : R → Option (List ℕ)) (settings : Settings) (old new : Stream R) (versions named : Two R) (job : Job Columns) (answer : Answer) where
   pub diff-streams : IsOpened rem settings.form Rows old versions.first → IsOpened rem settings.form Rows new versions.next
       → IsNamedAnew settings versions.first.source.value named.first.source.value → named.next ≡ versions.next
-      → job.form ≡ settings.form → job.groups ≡ settings.groups → (settings.keeps_order ≡ false → IsUnordered job)
+      → job.form ≡ settings.form → job.groups ≡ settings.groups → (settings.keeps_order ≡ false → IsUnordered job) → noted job.order ≡ begun_keys settings.keeps_order
       → AreChangeColumns settings.key named.first.source.value.header.names named.next.source.value.header.names job.columns.now
       → DiffsSources rem job named answer → DiffsStreams rem settings old new answer
-  diff-streams first next renamed same form groups unordered columned read =
-      both-known {T = λ t u. DiffsTexts settings (form_of settings.form old) (form_of settings.form new) t u answer} _ _ first next (λ t u opened beside. record {
+  diff-streams first next renamed same form groups unordered begins columned read =
+      both-known {T = λ t u. DiffsTexts settings (form_of settings.form old) (form_of settings.form new) t u answer} _ _ first next (λ t u opened beside.
+      let begun = open-anew rem settings (form_of settings.form old) Rows t _ _ named.first.source.value renamed opened in
+      let next_begun = subst (λ two. IsOpen (form_of settings.form new) Rows rem u two.source.value.header.names two.source.value) (sym same) beside in record {
         columns = job.columns.now;
         header = versions.first.source.value.header.names;
         names = named.first.source.value.header.names;
@@ -63,9 +68,11 @@ module _ {R : Type 0} (rem : R → Option (List ℕ)) (settings : Settings) (old
         old = read.old;
         new = read.new;
         old_says = subst (λ g. SaysTable (form_of settings.form old) Rows g t versions.first.source.value.header.names named.first.source.value.header.names job.columns.now read.old)
-            groups (read.old_read _ _ t _ (open-anew rem settings _ _ t _ _ named.first.source.value renamed opened));
+            groups (read.old_read _ _ t _ begun);
         new_says = subst (λ g. SaysTable (form_of settings.form new) Rows g u named.next.source.value.header.names named.next.source.value.header.names job.columns.now read.new)
-            groups (read.new_read _ _ u _ (subst (λ two. IsOpen (form_of settings.form new) Rows rem u two.source.value.header.names two.source.value) (sym same) beside));
+            groups (read.new_read _ _ u _ next_begun);
+        ordered = notes-known rem Rows job.columns.now job.columns.now named.first.source.value named.next.source.value noted_with settings.keeps_order (noted job.order) read.changes.keys
+            (form_of settings.form old) (form_of settings.form new) t u _ _ begins read.notes begun next_begun;
         changes = record {
           marked = read.changes.marked;
           keys = read.changes.keys;

@@ -18,12 +18,14 @@ use Rattle.keyed_rows.specs.declared.row.ReadRow.{ReadRow}
 use Rattle.keyed_text.specs.Texts.{AreRows}
 use Rattle.keyed_text.proofs.TextLemmas.{rows-once}
 use Rattle.keyed_commands.specs.Answers.{TableChanges}
-use Rattle.keyed_commands.specs.ChangesRead.{AreChanges, PairsRows, PartedBehind, PartsChanges, PartsOn, PartsRest, ReadsChanges, come_by, come_rows, gone_by, gone_rows, signed_at, signed_parts, signed_under}
+use Rattle.keyed_commands.specs.ChangesRead.{AreChanges, PairsRows, PartedBehind, PartsChanges, PartsOn, PartsRest, ReadsChanges, come_by, come_rows, gone_by, gone_rows, signed_at, signed_key, signed_parts, signed_under}
+use Rattle.keyed_commands.specs.FileOrder.{Keys, noted_with}
 use Rattle.keyed_commands.specs.TablesRead.{Gathers}
+use Rattle.keyed_commands.proofs.NotedLemmas.{noted-none, signed-then}
 
 -- no change is read yet
-parted-none : (places : Places) (gone come : List ReadRow) → PartedBehind places gone gone come come []
-parted-none places gone come = record { signed = []; goes = sym (append-nil gone); comes = sym (append-nil come); parts = refl }
+parted-none : (places : Places) (gone come : List ReadRow) (before : Option Keys) → PartedBehind places gone gone come come before before []
+parted-none places gone come before = record { signed = []; notes = sym (noted-none before); goes = sym (append-nil gone); comes = sym (append-nil come); parts = refl }
 
 -- one more row goes or comes
 gone-more : (signed : List SignedRow) (s : SignedRow) → gone_rows (signed ++ (s ∷ [])) ≡ gone_rows signed ++ gone_by s.sign s.row
@@ -35,10 +37,11 @@ come-more signed s = flat_map-append (λ s. come_by s.sign s.row) signed (s ∷ 
 put-behind : (old more next mid new all : List ReadRow) → mid ≡ old ++ more → new ≡ mid ++ next → all ≡ more ++ next → new ≡ old ++ all
 put-behind old more next mid new all e f g = f ∙ ap (λ l. l ++ next) e ∙ append_assoc old more next ∙ ap (λ l. old ++ l) (sym g)
 
-parted-and : (places : Places) (gone mid_gone new_gone come mid_come new_come : List ReadRow) (records : List (List (List ℕ))) (s : SignedRow) (fields : List (List ℕ))
-    → PartedBehind places gone mid_gone come mid_come records → new_gone ≡ mid_gone ++ gone_by s.sign s.row → new_come ≡ mid_come ++ come_by s.sign s.row
-    → IsSigned places fields s → PartedBehind places gone new_gone come new_come (records ++ (fields ∷ []))
-parted-and places gone mid_gone new_gone come mid_come new_come records s fields h e f is = record {
+parted-and : (places : Places) (gone mid_gone new_gone come mid_come new_come : List ReadRow) (before mid after : Option Keys) (records : List (List (List ℕ))) (s : SignedRow)
+    (fields : List (List ℕ)) → PartedBehind places gone mid_gone come mid_come before mid records → after ≡ noted_with mid (signed_key s ∷ []) → new_gone ≡ mid_gone ++ gone_by s.sign s.row → new_come ≡ mid_come ++ come_by s.sign s.row
+    → IsSigned places fields s → PartedBehind places gone new_gone come new_come before after (records ++ (fields ∷ []))
+parted-and places gone mid_gone new_gone come mid_come new_come before mid after records s fields h next e f is = record {
+  notes = signed-then before mid after h.signed s h.notes next;
   signed = h.signed ++ (s ∷ []);
   goes = put-behind gone (gone_rows h.signed) (gone_by s.sign s.row) mid_gone new_gone _ h.goes e (gone-more h.signed s);
   comes = put-behind come (come_rows h.signed) (come_by s.sign s.row) mid_come new_come _ h.comes f (come-more h.signed s);
@@ -47,23 +50,26 @@ parted-and places gone mid_gone new_gone come mid_come new_come records s fields
 }
 
 -- changes that are read of a source: none yet, one more, and all
-pub parts-none : {R : Type 0} (rem : R → Option (List ℕ)) (places : Places) (source : Source R) (gone come : List ReadRow) → PartsOn rem places source source gone gone come come
-parts-none rem places source gone come = λ d c text given h.
-    ([], subst (λ l. HasGiven d c rem text l source) (sym (append-nil given)) h, parted-none places gone come)
+pub parts-none : {R : Type 0} (rem : R → Option (List ℕ)) (places : Places) (source : Source R) (gone come : List ReadRow) (before : Option Keys)
+    → PartsOn rem places source source gone gone come come before before
+parts-none rem places source gone come before = λ d c text given h.
+    ([], subst (λ l. HasGiven d c rem text l source) (sym (append-nil given)) h, parted-none places gone come before)
 
-module _ {R : Type 0} (rem : R → Option (List ℕ)) (places : Places) (source now : Source R) (gone mid_gone come mid_come : List ReadRow) where
-  pub parts-and : (next : Source R) (new_gone new_come : List ReadRow) (s : SignedRow) → PartsOn rem places source now gone mid_gone come mid_come
-      → GivesRecord rem now next true → IsSigned places (last_record next) s → new_gone ≡ mid_gone ++ gone_by s.sign s.row → new_come ≡ mid_come ++ come_by s.sign s.row
-      → PartsOn rem places source next gone new_gone come new_come
-  parts-and next new_gone new_come s so gives is e f = λ d c text given h.
-      let before = so d c text given h in
-      let has = subst (λ l. HasGiven d c rem text l next) (append_assoc given before.0 (last_record next ∷ [])) (gives d c text (given ++ before.0) before.1) in
-      (before.0 ++ (last_record next ∷ []), has, parted-and places gone mid_gone new_gone come mid_come new_come before.0 s (last_record next) before.2 e f is)
+module _ {R : Type 0} (rem : R → Option (List ℕ)) (places : Places) (source now : Source R) (gone mid_gone come mid_come : List ReadRow)
+    (before mid : Option Keys) where
+  pub parts-and : (next : Source R) (new_gone new_come : List ReadRow) (after : Option Keys) (s : SignedRow) → PartsOn rem places source now gone mid_gone come mid_come before mid
+      → after ≡ noted_with mid (signed_key s ∷ []) → GivesRecord rem now next true → IsSigned places (last_record next) s → new_gone ≡ mid_gone ++ gone_by s.sign s.row → new_come ≡ mid_come ++ come_by s.sign s.row
+      → PartsOn rem places source next gone new_gone come new_come before after
+  parts-and next new_gone new_come after s so notes gives is e f = λ d c text given h.
+      let there = so d c text given h in
+      let has = subst (λ l. HasGiven d c rem text l next) (append_assoc given there.0 (last_record next ∷ [])) (gives d c text (given ++ there.0) there.1) in
+      (there.0 ++ (last_record next ∷ []), has, parted-and places gone mid_gone new_gone come mid_come new_come before mid after there.0 s (last_record next) there.2 notes e f is)
 
-  pub parts-all : (next : Source R) → PartsOn rem places source now gone mid_gone come mid_come → GivesRecord rem now next false → PartsRest rem places source gone mid_gone come mid_come
+  pub parts-all : (next : Source R) → PartsOn rem places source now gone mid_gone come mid_come before mid → GivesRecord rem now next false
+      → PartsRest rem places source gone mid_gone come mid_come before mid
   parts-all next so gives = λ d c text given h.
-      let before = so d c text given h in
-      (before.0, gives d c text (given ++ before.0) before.1, before.2)
+      let there = so d c text given h in
+      (there.0, gives d c text (given ++ there.0) there.1, there.2)
 
 -- the cells at the places of columns are those under their names
 signed-under : (names : List (List ℕ)) (columns : Columns) (places : Places) → ArePlaces Changes names columns places → (fields : List (List ℕ))
@@ -92,8 +98,9 @@ module _ (form : Form) (text : List ℕ) (header names : List (List ℕ)) (colum
   changes-if false same (fields ∷ rest) records head all parts = absurd head
 
 pub changes-read : {R : Type 0} (rem : R → Option (List ℕ)) (columns : Columns) (places : Places) (source : Source R) (gone new_gone come new_come : List ReadRow)
-    → PlacesOf source columns places → PartsRest rem places source gone new_gone come new_come → PartsChanges rem columns source gone new_gone come new_come
-changes-read rem columns places source gone new_gone come new_come placed parts = λ form text header begun.
+    (before after : Option Keys) → PlacesOf source columns places → PartsRest rem places source gone new_gone come new_come before after
+    → PartsChanges rem columns source gone new_gone come new_come before after
+changes-read rem columns places source gone new_gone come new_come before after placed parts = λ form text header begun.
     let rest = parts _ _ text begun.first begun.given in
     let read = rest.2 in
     let under = all-signed source.header.names columns places (subst (λ k. ArePlaces k source.header.names columns places) begun.content placed) rest.0 in (
@@ -101,13 +108,14 @@ changes-read rem columns places source gone new_gone come new_come placed parts 
       read.goes,
       read.comes,
       changes-if form text header source.header.names columns read.signed form.has_header refl begun.first rest.0 begun.header rest.1 (read.parts ∙ under),
+      read.notes,
     )
 
 -- rows of changes that are read behind none, by key
 pub changes-paired : {R : Type 0} (rem : R → Option (List ℕ)) (groups : Bool) (columns : Columns) (source : Source R) (gone new_gone come new_come : List ReadRow) (changes : TableChanges)
-    → gone ≡ [] → come ≡ [] → PartsChanges rem columns source gone new_gone come new_come → PairsRows groups new_gone new_come changes
+    (before after : Option Keys) → gone ≡ [] → come ≡ [] → PartsChanges rem columns source gone new_gone come new_come before after → PairsRows groups new_gone new_come changes
     → ReadsChanges rem groups columns source changes
-changes-paired rem groups columns source gone new_gone come new_come changes no_gone no_come parts paired = λ form text header begun.
+changes-paired rem groups columns source gone new_gone come new_come changes before after no_gone no_come parts paired = λ form text header begun.
     let read = parts form text header begun in (
       read.0,
       read.3,

@@ -17,12 +17,15 @@ use Rattle.keyed_files.specs.declared.request.Form.{Form}
 use Rattle.keyed_files.specs.declared.request.Settings.{Settings}
 use Rattle.keyed_files.specs.declared.source.Content.TheVariants.{Changes, Rows}
 use Rattle.keyed_commands.specs.AppliedTexts.{AnswersApplied, AppliedIn, AppliesSources, AppliesStreams, AppliesTexts}
+use Rattle.keyed_tables.specs.Arranged.{noted}
 use Rattle.keyed_commands.specs.ChangesRead.{SaysChanges}
+use Rattle.keyed_commands.specs.FileOrder.{begun_keys, noted_with, placed_with}
 use Rattle.keyed_commands.specs.MergedTexts.{AnswersBy, MergedIn, MergesSources, MergesStreams, MergesTexts}
 use Rattle.keyed_commands.specs.TablesRead.{IsUnordered, ReadsTable, SaysTable}
 use Rattle.keyed_commands.specs.declared.answer.Answer.{Answer}
 use Rattle.keyed_commands.specs.declared.job.Job.{Job}
 use Rattle.keyed_commands.proofs.GoneLemmas.{both-of, gone-of, spelled-of}
+use Rattle.keyed_commands.proofs.NotedLemmas.{notes-known}
 use Rattle.keyed_commands.proofs.ReadLemmas.{are-names, both-known}
 
 -- what holds of two texts, where these are known under other words
@@ -62,15 +65,17 @@ says rem settings job form text header named table groups read begun =
 module _ {R : Type 0} (rem : R → Option (List ℕ)) (settings : Settings) (old changes : Stream R) (inputs named : Two R) (job : Job Columns) (answer : Answer) where
   pub apply-streams : IsOpened rem settings.form Rows old inputs.first → IsOpened rem settings.form Changes changes inputs.next
       → IsGoneRead rem settings.form Changes changes inputs.next → IsNamedAnew settings inputs.first.source.value named.first.source.value → named.next ≡ inputs.next
-      → job.form ≡ settings.form → job.groups ≡ settings.groups → (settings.keeps_order ≡ false → IsUnordered job)
+      → job.form ≡ settings.form → job.groups ≡ settings.groups → (settings.keeps_order ≡ false → IsUnordered job) → noted job.order ≡ begun_keys settings.keeps_order
       → AreChangedColumnsBy settings.key named.first.source.value.header.names named.next.source.value.header.names named.next.source.value.header.gone job.columns.now
       → IsSpelledAs named.first.source.value.header.spelling.names named.first.source.value.header.spelling.spelled job.columns.now
       → AppliesSources rem job named answer → AppliesStreams rem settings old changes answer
-  apply-streams first next goes renamed same form groups unordered columned spells read =
+  apply-streams first next goes renamed same form groups unordered begins columned spells read =
       both-known {T = λ t u. AppliesTexts settings (form_of settings.form old) (form_of settings.form changes) t u answer} _ _ first
       (both-of _ _ (text_of_stream rem settings.form changes) next (goes refl)) (λ t u opened beside.
       let begun = open-anew rem settings (form_of settings.form old) Rows t inputs.first.source.value.header.names inputs.first.source.value named.first.source.value renamed opened in
-      let old_says = says rem settings job (form_of settings.form old) t inputs.first.source.value.header.names named.first read.old groups read.old_read begun in record {
+      let old_says = says rem settings job (form_of settings.form old) t inputs.first.source.value.header.names named.first read.old groups read.old_read begun in
+      let next_begun = subst (λ two. IsOpen (form_of settings.form changes) Changes rem u two.source.value.header.names two.source.value) (sym same) beside.0 in
+      let changes_read = read.changes_read (form_of settings.form changes) u named.next.source.value.header.names next_begun in record {
         columns = job.columns.now;
         header = inputs.first.source.value.header.names;
         names = named.first.source.value.header.names;
@@ -83,11 +88,14 @@ module _ {R : Type 0} (rem : R → Option (List ℕ)) (settings : Settings) (old
         old_says = old_says;
         spelled = named.first.source.value.header.spelling.spelled;
         spelled_said = spelled-of rem (form_of settings.form old) Rows t _ named.first.source.value old_says.1.0 old_says.1.1 begun;
+        headed = refl;
         spells = subst (λ names. IsSpelledAs names named.first.source.value.header.spelling.spelled job.columns.now) begun.named spells;
         changes_say = subst (λ g. SaysChanges (form_of settings.form changes) g u named.next.source.value.header.names named.next.source.value.header.names job.columns.now read.changes)
-            groups (read.changes_read _ u _ (subst (λ two. IsOpen (form_of settings.form changes) Changes rem u two.source.value.header.names two.source.value) (sym same) beside.0));
+            groups changes_read;
         gone_said = subst (λ two. GoneOf (form_of settings.form changes) u two.source.value.header.gone) (sym same)
-            (gone-of rem (form_of settings.form changes) u inputs.next.source.value (read.changes_read _ u _ (subst (λ two. IsOpen (form_of settings.form changes) Changes rem u two.source.value.header.names two.source.value) (sym same) beside.0)).1.0 (read.changes_read _ u _ (subst (λ two. IsOpen (form_of settings.form changes) Changes rem u two.source.value.header.names two.source.value) (sym same) beside.0)).1.1 beside.1);
+            (gone-of rem (form_of settings.form changes) u inputs.next.source.value changes_read.1.0 changes_read.1.1 beside.1);
+        ordered = notes-known rem Changes job.columns.now job.columns.now named.first.source.value named.next.source.value noted_with settings.keeps_order (noted job.order) read.applied.keys
+            (form_of settings.form old) (form_of settings.form changes) t u _ _ begins read.notes begun next_begun;
         applied = record {
           style = read.applied.style;
           keys = read.applied.keys;
@@ -102,11 +110,11 @@ module _ {R : Type 0} (rem : R → Option (List ℕ)) (by : Unit) (settings : Se
     (answer : Answer) where
   pub merge-streams : IsOpened rem settings.form Rows base opened → IsOpened rem settings.form Rows ours sides.first → IsOpened rem settings.form Rows theirs sides.next
       → IsNamedAnew settings opened.source.value named.source.value
-      → job.form ≡ settings.form → job.groups ≡ settings.groups → (settings.keeps_order ≡ false → IsUnordered job)
+      → job.form ≡ settings.form → job.groups ≡ settings.groups → (settings.keeps_order ≡ false → IsUnordered job) → noted job.order ≡ begun_keys settings.keeps_order
       → AreMergedColumnsBy settings.key named.source.value.header.names sides.first.source.value.header.names sides.next.source.value.header.names job.columns.now
       → IsSpelledAs sides.first.source.value.header.spelling.names sides.first.source.value.header.spelling.spelled job.columns.now
       → MergesSources rem by job named sides answer → MergesStreams rem by settings base ours theirs answer
-  merge-streams first second third renamed form groups unordered columned spells read =
+  merge-streams first second third renamed form groups unordered begins columned spells read =
       three-known {T = λ t u v. MergesTexts by settings (form_of settings.form base) (form_of settings.form ours) (form_of settings.form theirs) t u v answer}
       _ _ _ first second third (λ t u v one two three.
       let ours_say = says rem settings job (form_of settings.form ours) u sides.first.source.value.header.names sides.first read.ours groups read.ours_read two in record {
@@ -124,6 +132,9 @@ module _ {R : Type 0} (rem : R → Option (List ℕ)) (by : Unit) (settings : Se
         ours_say = ours_say;
         spelled = sides.first.source.value.header.spelling.spelled;
         spelled_said = spelled-of rem (form_of settings.form ours) Rows u _ sides.first.source.value ours_say.1.0 ours_say.1.1 two;
+        ordered = notes-known rem Rows job.columns.now job.columns.now sides.first.source.value sides.next.source.value placed_with settings.keeps_order (noted job.order) read.merged.keys
+            (form_of settings.form ours) (form_of settings.form theirs) u v _ _ begins read.notes two three;
+        headed = refl;
         spells = subst (λ names. IsSpelledAs names sides.first.source.value.header.spelling.spelled job.columns.now) two.named spells;
         theirs_say = says rem settings job _ v _ sides.next read.theirs groups read.theirs_read three;
         merged = record {

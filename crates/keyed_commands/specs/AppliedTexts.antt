@@ -11,9 +11,11 @@ use Rattle.keyed_files.specs.declared.opened.Stream.{Stream}
 use Rattle.keyed_files.specs.declared.opened.Two.{Two}
 use Rattle.keyed_files.specs.declared.request.Form.{Form}
 use Rattle.keyed_files.specs.declared.request.Settings.{Settings}
-use Rattle.keyed_files.specs.declared.source.Content.TheVariants.{Rows}
+use Rattle.keyed_files.specs.declared.source.Content.TheVariants.{Changes, Rows}
+use Rattle.keyed_tables.specs.Arranged.{noted}
 use Rattle.keyed_commands.specs.Answers.{AllFit, AnswersPatched, Stops, TableChanges, TableRows, key_cmp}
 use Rattle.keyed_commands.specs.ChangesRead.{ReadsChanges, SaysChanges}
+use Rattle.keyed_commands.specs.FileOrder.{AreKeysOfBoth, NotesBoth, noted_with}
 use Rattle.keyed_commands.specs.TablesRead.{AreNamesBy, IsUnordered, ReadsTable, SaysTable}
 use Rattle.keyed_commands.specs.declared.answer.Answer.{Answer}
 use Rattle.keyed_commands.specs.declared.job.Job.{Job}
@@ -55,7 +57,9 @@ pub record AppliesTexts (settings : Settings) (old_form changes_form : Form) (ol
   pub spelled : List (List ℕ)
   pub spelled_said : SpelledOf old_form Rows old_text spelled
   pub spells : IsSpelledAs header spelled columns
+  pub headed : old_form.has_header ≡ settings.form.has_header
   pub applied : AppliedIn settings.form columns (settings.keeps_order ≡ false) old changes answer
+  pub ordered : AreKeysOfBoth old_form changes_form Changes old_text changes_text names changes_header columns columns noted_with settings.keeps_order applied.keys
 
 module _ {R : Type 0} (remaining : R → Option (List ℕ)) where
   -- the same of a source of a table and one of changes
@@ -65,6 +69,8 @@ module _ {R : Type 0} (remaining : R → Option (List ℕ)) where
     pub old_read : ReadsTable remaining job.groups job.columns.now inputs.first.source.value old
     pub changes_read : ReadsChanges remaining job.groups job.columns.now inputs.next.source.value changes
     pub applied : AppliedIn job.form job.columns.now (IsUnordered job) old changes answer
+    pub notes : NotesBoth remaining Changes job.columns.now job.columns.now inputs.first.source.value inputs.next.source.value noted_with (noted job.order)
+        applied.keys
 
   -- and of two streams whose texts are known
   abbrev pub AppliesStreams : Settings → Stream R → Stream R → Answer → Type 0

@@ -17,6 +17,7 @@ use Rattle.keyed_files.specs.declared.source.Source.{Source}
 use Rattle.keyed_rows.specs.declared.row.ReadRow.{ReadRow}
 use Rattle.keyed_text.specs.Texts.{AreRows}
 use Rattle.keyed_commands.specs.Answers.{TableChanges, TableRows, key_cmp}
+use Rattle.keyed_commands.specs.FileOrder.{Keys, noted_with}
 use Rattle.keyed_commands.specs.TablesRead.{Gathers}
 
 -- the row that goes or comes, by its sign
@@ -47,25 +48,32 @@ signed_at places fields = (field_at fields 0, picked places fields)
 abbrev pub signed_under : List (List ℕ) → Columns → List (List ℕ) → Option (List ℕ) × (List (List ℕ) × List (List ℕ))
 signed_under names columns fields = (field_at fields 0, row_under Changes names columns fields)
 
--- after rows that go and rows that come stand those of records, by their signs
-pub record PartedBehind (places : Places) (gone new_gone come new_come : List ReadRow) (records : List (List (List ℕ))) : Type 0 where
+-- the key of a row of changes
+abbrev pub signed_key : SignedRow → List (List ℕ)
+signed_key signed = signed.row.key
+
+-- after rows that go and rows that come stand those of records, by their signs, and after keys that are noted those of these rows
+pub record PartedBehind (places : Places) (gone new_gone come new_come : List ReadRow) (before after : Option Keys) (records : List (List (List ℕ))) : Type 0 where
   pub signed : List SignedRow
+  pub notes : after ≡ noted_with before (map signed_key signed)
   pub goes : new_gone ≡ gone ++ gone_rows signed
   pub comes : new_come ≡ come ++ come_rows signed
   pub parts : map signed_parts signed ≡ map (signed_at places) records
 
 module _ {R : Type 0} (remaining : R → Option (List ℕ)) (places : Places) (source : Source R) where
   -- changes were read of a source: of each text of which it had given some records, it gave more, and these are their rows
-  abbrev pub PartsOn : Source R → List ReadRow → List ReadRow → List ReadRow → List ReadRow → Type 0
-  PartsOn now gone new_gone come new_come = (d : ℕ) (c : Option ℕ) (text : List ℕ) (given : List (List (List ℕ)))
+  abbrev pub PartsOn : Source R → List ReadRow → List ReadRow → List ReadRow → List ReadRow → Option Keys → Option Keys → Type 0
+  PartsOn now gone new_gone come new_come before after = (d : ℕ) (c : Option ℕ) (text : List ℕ) (given : List (List (List ℕ)))
       → HasGiven d c remaining text given source
-      → (records : List (List (List ℕ))) × HasGiven d c remaining text (given ++ records) now × PartedBehind places gone new_gone come new_come records
+      → (records : List (List (List ℕ))) × HasGiven d c remaining text (given ++ records) now
+      × PartedBehind places gone new_gone come new_come before after records
 
   -- a source of changes is read to the end
-  abbrev pub PartsRest : List ReadRow → List ReadRow → List ReadRow → List ReadRow → Type 0
-  PartsRest gone new_gone come new_come = (d : ℕ) (c : Option ℕ) (text : List ℕ) (given : List (List (List ℕ)))
+  abbrev pub PartsRest : List ReadRow → List ReadRow → List ReadRow → List ReadRow → Option Keys → Option Keys → Type 0
+  PartsRest gone new_gone come new_come before after = (d : ℕ) (c : Option ℕ) (text : List ℕ) (given : List (List (List ℕ)))
       → HasGiven d c remaining text given source
-      → (records : List (List (List ℕ))) × AreRows d c text (given ++ records) × PartedBehind places gone new_gone come new_come records
+      → (records : List (List (List ℕ))) × AreRows d c text (given ++ records)
+      × PartedBehind places gone new_gone come new_come before after records
 
 -- what a text says as changes: the names of its columns in its header, or numbers where it has none, and for each record after the header
 -- a row with its sign, which is the first cell of the record, and the cells under the names by which they are read
@@ -74,13 +82,13 @@ AreChanges form text header names columns signed = (records : List (List (List �
     × HeadedBy form.has_header Changes records header
     × (map signed_parts signed ≡ map (signed_under names columns) (behind_header form.has_header records))
 
--- rows that go and rows that come stand after others, which a text says
+-- rows that go and rows that come stand after others, which a text says, and their keys after others
 abbrev pub PartsChanges : {R : Type 0} → (R → Option (List ℕ)) → Columns → Source R
-    → List ReadRow → List ReadRow → List ReadRow → List ReadRow → Type 0
-PartsChanges remaining columns source gone new_gone come new_come = (form : Form) (text : List ℕ) (header : List (List ℕ))
+    → List ReadRow → List ReadRow → List ReadRow → List ReadRow → Option Keys → Option Keys → Type 0
+PartsChanges remaining columns source gone new_gone come new_come before after = (form : Form) (text : List ℕ) (header : List (List ℕ))
     → IsOpen form Changes remaining text header source
     → (signed : List SignedRow) × (new_gone ≡ gone ++ gone_rows signed) × (new_come ≡ come ++ come_rows signed)
-    × AreChanges form text header source.header.names columns signed
+    × AreChanges form text header source.header.names columns signed × (after ≡ noted_with before (map signed_key signed))
 
 -- the rows of changes by key: under each what goes beside what comes
 pub record PairsRows (groups : Bool) (gone come : List ReadRow) (changes : TableChanges) : Type 0 where

@@ -26,8 +26,10 @@ use Rattle.keyed_files.specs.declared.request.RowFormat.TheVariants as format
 use Rattle.keyed_files.specs.declared.request.Settings.{Settings}
 use Rattle.keyed_files.specs.declared.source.Content.TheVariants.{Rows}
 use Rattle.keyed_files.specs.declared.written.Written.{Written}
+use Rattle.keyed_tables.specs.Arranged.{noted}
 use Rattle.keyed_commands.specs.Answers.{IsTableText, TableRows, key_cmp}
 use Rattle.keyed_commands.specs.ComeOut.{AlikeIn, AlikePlace, AlikePlaces, AlikeRows, ComesOut, HasGroups}
+use Rattle.keyed_commands.specs.FileOrder.{AreKeysOfBoth, NotesBoth, noted_with}
 use Rattle.keyed_commands.specs.TablesRead.{IsUnordered, ReadsTable, SaysTable}
 use Rattle.keyed_commands.specs.declared.answer.Answer.{Answer}
 use Rattle.keyed_commands.specs.declared.answer.Outcome.TheVariants.{Made}
@@ -147,6 +149,8 @@ pub record JoinsTexts (settings : Settings) (how : Joining) (left_form right_for
   pub right_says : SaysTable right_form Rows settings.groups right_text right_header right_header columns.right right
   pub once : settings.form.has_header ≡ true → repeats [] (joined_names how.kind how.names columns) ≡ false
   pub join : JoinOf settings.form how.kind (joined_names how.kind how.names columns) columns (settings.keeps_order ≡ false) left right answer.bytes.items
+  pub ordered : AreKeysOfBoth left_form right_form Rows left_text right_text left_header right_header columns.left columns.right noted_with settings.keeps_order
+      join.keys
   pub status : answer.status ≡ 0
   pub outcome : answer.outcome ≡ Made
 
@@ -158,6 +162,8 @@ module _ {R : Type 0} (remaining : R → Option (List ℕ)) where
     pub left_read : ReadsTable remaining job.groups job.columns.now.left sides.first.source.value left
     pub right_read : ReadsTable remaining job.groups job.columns.now.right sides.next.source.value right
     pub join : JoinOf job.form kind names job.columns.now (IsUnordered job) left right answer.bytes.items
+    pub notes : NotesBoth remaining Rows job.columns.now.left job.columns.now.right sides.first.source.value sides.next.source.value noted_with (noted job.order)
+        join.keys
     pub status : answer.status ≡ 0
     pub outcome : answer.outcome ≡ Made
 

@@ -6,6 +6,7 @@ pub mod ChangesRead
 pub mod ComeOut
 pub mod ConflictCells
 pub mod JoinAnswers
+pub mod FileOrder
 pub mod Keys
 pub mod Laws
 pub mod LookupAnswers

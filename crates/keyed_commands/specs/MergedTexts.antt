@@ -16,7 +16,9 @@ use Rattle.keyed_files.specs.declared.opened.Two.{Two}
 use Rattle.keyed_files.specs.declared.request.Form.{Form}
 use Rattle.keyed_files.specs.declared.request.Settings.{Settings}
 use Rattle.keyed_files.specs.declared.source.Content.TheVariants.{Rows}
+use Rattle.keyed_tables.specs.Arranged.{noted}
 use Rattle.keyed_commands.specs.Answers.{AnswersMerged, AnswersMergedByCell, HasConflict, HasNoConflict, HasNoneStuck, HasStuck, Stops, TableRows}
+use Rattle.keyed_commands.specs.FileOrder.{AreKeysOfBoth, NotesBoth, placed_with}
 use Rattle.keyed_commands.specs.TablesRead.{AreNamesBy, IsUnordered, ReadsTable, SaysTable}
 use Rattle.keyed_commands.specs.declared.answer.Answer.{Answer}
 use Rattle.keyed_commands.specs.declared.job.Job.{Job}
@@ -69,7 +71,9 @@ pub record MergesTexts (by : Unit) (settings : Settings) (base_form ours_form th
   pub spelled : List (List ℕ)
   pub spelled_said : SpelledOf ours_form Rows ours_text spelled
   pub spells : IsSpelledAs ours_header spelled columns
+  pub headed : ours_form.has_header ≡ settings.form.has_header
   pub merged : MergedIn by settings.form columns (settings.keeps_order ≡ false) base ours theirs answer
+  pub ordered : AreKeysOfBoth ours_form theirs_form Rows ours_text theirs_text ours_header theirs_header columns columns placed_with settings.keeps_order merged.keys
 
 module _ {R : Type 0} (remaining : R → Option (List ℕ)) where
   -- the same of sources of three versions
@@ -81,6 +85,7 @@ module _ {R : Type 0} (remaining : R → Option (List ℕ)) where
     pub ours_read : ReadsTable remaining job.groups job.columns.now sides.first.source.value ours
     pub theirs_read : ReadsTable remaining job.groups job.columns.now sides.next.source.value theirs
     pub merged : MergedIn by job.form job.columns.now (IsUnordered job) base ours theirs answer
+    pub notes : NotesBoth remaining Rows job.columns.now job.columns.now sides.first.source.value sides.next.source.value placed_with (noted job.order) merged.keys
 
   -- and of three streams whose texts are known
   abbrev pub MergesStreams : Unit → Settings → Stream R → Stream R → Stream R → Answer → Type 0

@@ -1,11 +1,12 @@
 -- What `overlay` answers: tables laid one over the other, and their text.
-use Rattle.std.specs.Prelude.{◌≡◌, ⊤, ℕ, Bool, false, true, List, [], ◌∷◌, Option, None, IfSome, map, option_map, unwrap_or}
-use Rattle.std.specs.List.{AllZip}
+use Rattle.std.specs.Prelude.{◌≡◌, ⊤, ℕ, Bool, false, true, List, [], ◌∷◌, Option, None, IfSome, IsSome, map, option_map, unwrap_or}
+use Rattle.std.specs.List.{AllZip, flat_map}
 use Rattle.eob_both.specs.declared.either_or_both.EitherOrBoth.{EitherOrBoth}
 use Rattle.eob_both.specs.Places.{from_places}
 use Rattle.either_or_both.specs.Join.{value_under}
 use Rattle.eob_lists.specs.JoinLaws.{overlaid}
 use Rattle.eob_joins.specs.Tables.{Tabulates}
+use Rattle.keyed_tables.specs.Arranged.{noted}
 use Rattle.keyed_tables.specs.Laid.{filled}
 use Rattle.keyed_text.specs.declared.style.Style.{Style}
 use Rattle.keyed_files.specs.AnswerForm.{in_style}
@@ -23,6 +24,7 @@ use Rattle.keyed_files.specs.declared.request.Settings.{Settings}
 use Rattle.keyed_files.specs.declared.source.Content.TheVariants.{Rows}
 use Rattle.keyed_commands.specs.Answers.{IsTableText, TableRows, key_cmp}
 use Rattle.keyed_commands.specs.AppliedTexts.{watched_left}
+use Rattle.keyed_commands.specs.FileOrder.{Keys, KeysOf, OfKeys, noted_keys, noted_with}
 use Rattle.keyed_commands.specs.TablesRead.{AreNames, IsUnordered, ReadsTable, SaysTable}
 use Rattle.keyed_commands.specs.declared.answer.Answer.{Answer}
 use Rattle.keyed_commands.specs.declared.answer.Outcome.TheVariants.{Made}
@@ -60,12 +62,14 @@ pub record OverlaidIn (layer : Layer) (form : Form) (columns : Columns) (unorder
   pub answers : AnswersRows form columns keys by_cells rows answer
   pub order : unordered → (keys ≡ None) × (by_cells ≡ true)
 
--- a table that a text says: its header, how this spells its names, the names by which its columns are read, and its rows by key
+-- a table that a text says: its header, how this spells its names, the names by which its columns are read, its rows by key, and the keys of
+-- these as they stand there
 pub record Said : Type 0 where
   pub header : List (List ℕ)
   pub spelled : List (List ℕ)
   pub names : List (List ℕ)
   pub rows : TableRows
+  pub keys : Keys
 
 -- the names of the columns of tables: those of the key, where it is set, have other ones in the first table alone
 abbrev pub AreNamed : {A : Type 0} → Option A → List Said → Type 0
@@ -102,17 +106,29 @@ module _ {R : Type 0} (remaining : R → Option (List ℕ)) where
   abbrev pub LaysTables : Layer → Bool → Columns → TableRows → List (Opened (Watched R)) → TableRows → Type 0
   LaysTables layer groups columns below opened rows = (tables : List TableRows) × ReadTables groups columns opened tables × AreLaidOver layer below tables rows
 
+  -- the keys of each are noted after those of the ones before it
+  abbrev pub NotesAll : Columns → List (Opened (Watched R)) → Option Keys → Option Keys → Type 0
+  NotesAll columns [] before after = after ≡ before
+  NotesAll columns (opened ∷ more) before after = (mid : Option Keys)
+      × OfKeys (watched_left remaining) Rows columns opened.source.value (λ keys. mid ≡ noted_with before keys) × NotesAll columns more mid after
+
   -- an answer to `overlay` of several sources: the text of their tables laid one over the other
   pub record OverlaysSources (layer : Layer) (job : Job Columns) (opened : List (Opened (Watched R))) (answer : Answer) : Type 0 where
     pub tables : List TableRows
     pub read : ReadTables job.groups job.columns.now opened tables
     pub overlaid : OverlaidIn layer job.form job.columns.now (IsUnordered job) tables answer
+    pub notes : NotesAll job.columns.now opened (noted job.order) overlaid.keys
 
   -- the text of a stream says a table under columns, where it is known
   abbrev pub SaysRows : Settings → Columns → Stream R → Said → Type 0
   SaysRows settings columns stream said = IfSome (text_of_stream remaining settings.form stream)
       (λ text. SaysTable (form_of settings.form stream) Rows settings.groups text said.header said.names columns said.rows
-      × SpelledOf (form_of settings.form stream) Rows text said.spelled)
+      × SpelledOf (form_of settings.form stream) Rows text said.spelled × KeysOf (form_of settings.form stream) Rows text said.names columns said.keys)
+
+  -- the texts of all streams are known
+  abbrev pub AreKnown : Settings → List (Stream R) → Type 0
+  AreKnown settings [] = ⊤
+  AreKnown settings (stream ∷ streams) = IsSome (text_of_stream remaining settings.form stream) × AreKnown settings streams
 
   -- the heading of columns is spelled as the header of the first text is, where it is known
   abbrev pub SpellsFirst : Settings → Columns → List (Stream R) → List Said → Type 0
@@ -131,3 +147,4 @@ module _ {R : Type 0} (remaining : R → Option (List ℕ)) where
     pub says : AllZip (SaysRows settings columns) streams said
     pub spells : SpellsFirst settings columns streams said
     pub overlaid : OverlaidIn layer settings.form columns (settings.keeps_order ≡ false) (map (λ table. table.rows) said) answer
+    pub ordered : AreKnown settings streams → overlaid.keys ≡ noted_keys settings.keeps_order (flat_map (λ table. table.keys) said)

@@ -17,6 +17,7 @@ use Rattle.keyed_rows.specs.declared.row.ReadRow.{ReadRow}
 use Rattle.keyed_tables.specs.Arranged.{noted}
 use Rattle.keyed_tables.specs.Gathered.{AreInOrder, HoldsRows}
 use Rattle.keyed_commands.specs.Answers.{IsDiffText, TableRows, key_cmp, status_of}
+use Rattle.keyed_commands.specs.FileOrder.{AreKeysOfBoth, NotesBoth, noted_with}
 use Rattle.keyed_commands.specs.declared.answer.Answer.{Answer}
 use Rattle.keyed_commands.specs.declared.job.Job.{Job}
 
@@ -80,6 +81,7 @@ pub record DiffsTexts (settings : Settings) (old_form new_form : Form) (old_text
   pub old_says : SaysTable old_form Rows settings.groups old_text header names columns old
   pub new_says : SaysTable new_form Rows settings.groups new_text next_header next_header columns new
   pub changes : ChangesBetween settings.form columns (settings.keeps_order ≡ false) old new answer.bytes.items
+  pub ordered : AreKeysOfBoth old_form new_form Rows old_text new_text names next_header columns columns noted_with settings.keeps_order changes.keys
   pub marks : changes.marked ≡ marked_names names next_header
   pub status : IsStatusBetween names next_header old new answer.status
 
@@ -91,6 +93,8 @@ module _ {R : Type 0} (remaining : R → Option (List ℕ)) where
     pub old_read : ReadsTable remaining job.groups job.columns.now versions.first.source.value old
     pub new_read : ReadsTable remaining job.groups job.columns.now versions.next.source.value new
     pub changes : ChangesBetween job.form job.columns.now (IsUnordered job) old new answer.bytes.items
+    pub notes : NotesBoth remaining Rows job.columns.now job.columns.now versions.first.source.value versions.next.source.value noted_with (noted job.order)
+        changes.keys
     pub marks : changes.marked ≡ marked_names versions.first.source.value.header.names versions.next.source.value.header.names
     pub status : IsStatusBetween versions.first.source.value.header.names versions.next.source.value.header.names old new answer.status
 

@@ -2,9 +2,12 @@
 ghost use Rattle.std.specs.Prelude.{◌≡◌, ◌++◌, ◌∷◌, [], IfOk, None, OnOk, false, is_none, true};
 ghost use Rattle.keyed_files.specs.AnswerForm.{in_style};
 ghost use Rattle.keyed_files.specs.Reading.{ReadsRest, ReadsRows};
-ghost use Rattle.keyed_tables.specs.Arranged.{IsNoted, noted};
+ghost use Rattle.keyed_files.specs.declared.source.Content.TheVariants as content;
+ghost use Rattle.keyed_tables.specs.Arranged.{noted};
 ghost use Rattle.keyed_commands.specs.ChangesRead.{PairsRows, PartsChanges, PartsRest, ReadsChanges};
 ghost use Rattle.keyed_commands.specs.ChangesRead.{come_by, gone_by};
+ghost use Rattle.keyed_commands.specs.FileOrder.{NotesBoth, NotesRows, OfKeys, begun_keys, noted_with};
+ghost use Rattle.keyed_commands.specs.FileOrder.{placed_with};
 ghost use Rattle.keyed_commands.specs.TablesRead.{Gathers, IsUnordered, ReadsTable};
 
 use crate::row_order::RowOrder;
@@ -45,6 +48,7 @@ impl<'c, C> Job<'c, C> {
         ensures groups { result.groups ≡ settings.entry.groups }
         ensures columns { result.columns.now ≡ columns.now }
         ensures unordered { settings.entry.keeps_order ≡ false → IsUnordered result }
+        ensures order { noted result.order ≡ begun_keys settings.entry.keeps_order }
     {
         Job {
             alloc,
@@ -109,6 +113,8 @@ impl<'c, C> Job<'c, C> {
     ) -> Result<Table, Fault<'a>>
         ensures table { IfOk result (λ rows.
             ReadsTable R.remaining self.old.groups columns.now table.old.source.value rows.pairs.items) }
+        ensures notes { OnOk result (OfKeys R.remaining content.Rows columns.now table.old.source.value
+            (λ keys. noted self.new.order ≡ noted_with (noted self.old.order) keys)) }
         ensures same { self.new ≡ record self.old { order = self.new.order; row_order = self.new.row_order } }
         ensures unordered { OnOk result (IsUnordered self.old → IsUnordered self.new) }
         ensures header { table.new.source.value.header ≡ table.old.source.value.header }
@@ -129,6 +135,8 @@ impl<'c, C> Job<'c, C> {
     ) -> Result<Table, Fault<'a>>
         ensures table { IfOk result (λ rows.
             ReadsTable R.remaining self.old.groups columns.now table.old.source.value rows.pairs.items) }
+        ensures notes { OnOk result (OfKeys R.remaining content.Rows columns.now table.old.source.value
+            (λ keys. noted self.new.order ≡ placed_with (noted self.old.order) keys)) }
         ensures same { self.new ≡ record self.old { order = self.new.order; row_order = self.new.row_order } }
         ensures unordered { OnOk result (IsUnordered self.old → IsUnordered self.new) }
     {
@@ -204,6 +212,9 @@ impl Job<'_, JoinColumns> {
             sides.old.first.source.value pair.0.pairs.items) }
         ensures right { IfOk result (λ pair. ReadsTable R.remaining self.old.groups self.old.columns.now.right
             sides.old.next.source.value pair.1.pairs.items) }
+        ensures notes { OnOk result (NotesBoth R.remaining content.Rows self.old.columns.now.left
+            self.old.columns.now.right sides.old.first.source.value sides.old.next.source.value
+            noted_with (noted self.old.order) (noted self.new.order)) }
         ensures same { self.new ≡ record self.old { order = self.new.order; row_order = self.new.row_order } }
         ensures unordered { OnOk result (IsUnordered self.old → IsUnordered self.new) }
     {
@@ -228,6 +239,9 @@ impl Job<'_, Columns> {
             tables.old.first.source.value pair.0.pairs.items) }
         ensures next { IfOk result (λ pair. ReadsTable R.remaining self.old.groups self.old.columns.now
             tables.old.next.source.value pair.1.pairs.items) }
+        ensures notes { OnOk result (NotesBoth R.remaining content.Rows self.old.columns.now self.old.columns.now
+            tables.old.first.source.value tables.old.next.source.value
+            noted_with (noted self.old.order) (noted self.new.order)) }
         ensures same { self.new ≡ record self.old { order = self.new.order; row_order = self.new.row_order } }
         ensures unordered { OnOk result (IsUnordered self.old → IsUnordered self.new) }
         ensures first_header { tables.new.first.source.value.header ≡ tables.old.first.source.value.header }
@@ -252,6 +266,9 @@ impl Job<'_, Columns> {
             sides.old.first.source.value pair.0.pairs.items) }
         ensures theirs { IfOk result (λ pair. ReadsTable R.remaining self.old.groups self.old.columns.now
             sides.old.next.source.value pair.1.pairs.items) }
+        ensures notes { OnOk result (NotesBoth R.remaining content.Rows self.old.columns.now self.old.columns.now
+            sides.old.first.source.value sides.old.next.source.value
+            placed_with (noted self.old.order) (noted self.new.order)) }
         ensures same { self.new ≡ record self.old { order = self.new.order; row_order = self.new.row_order } }
         ensures unordered { OnOk result (IsUnordered self.old → IsUnordered self.new) }
     {
@@ -273,6 +290,9 @@ impl Job<'_, Columns> {
             inputs.old.first.source.value pair.0.pairs.items) }
         ensures changes { IfOk result (λ pair. ReadsChanges R.remaining self.old.groups self.old.columns.now
             inputs.old.next.source.value pair.1.pairs.items) }
+        ensures notes { OnOk result (NotesBoth R.remaining content.Changes self.old.columns.now self.old.columns.now
+            inputs.old.first.source.value inputs.old.next.source.value
+            noted_with (noted self.old.order) (noted self.new.order)) }
         ensures same { self.new ≡ record self.old { order = self.new.order; row_order = self.new.row_order } }
         ensures unordered { OnOk result (IsUnordered self.old → IsUnordered self.new) }
     {
@@ -288,6 +308,8 @@ impl Job<'_, Columns> {
     ) -> Result<Changes, Fault<'a>>
         ensures changes { IfOk result (λ read. ReadsChanges R.remaining self.old.groups self.old.columns.now
             changes.old.source.value read.pairs.items) }
+        ensures notes { OnOk result (OfKeys R.remaining content.Changes self.old.columns.now changes.old.source.value
+            (λ keys. noted self.new.order ≡ noted_with (noted self.old.order) keys)) }
         ensures same { self.new ≡ record self.old { order = self.new.order; row_order = self.new.row_order } }
         ensures unordered { OnOk result (IsUnordered self.old → IsUnordered self.new) }
     {
@@ -300,7 +322,7 @@ impl Job<'_, Columns> {
 }
 
 fn order_of(alloc: Global, settings: Settings<'_>) -> Order
-    ensures { settings.entry.keeps_order ≡ false → noted result ≡ None }
+    ensures { noted result ≡ begun_keys settings.entry.keeps_order }
 {
     if settings.keeps_order {
         Order::by_file(alloc)
@@ -329,6 +351,8 @@ fn read_rows<R: Read + Drop>(
 ) -> Result<(), Reason>
     ensures read { OnOk result
         (ReadsRows R.remaining columns.now table.old.source.value rows.old.items rows.new.items) }
+    ensures notes { OnOk result
+        (NotesRows rows.old.items rows.new.items (noted order.old) (noted order.new)) }
     ensures unordered { OnOk result (noted order.old ≡ None → noted order.new ≡ None) }
     ensures header { table.new.source.value.header ≡ table.old.source.value.header }
 {
@@ -345,6 +369,8 @@ fn read_rest<R: Read + Drop>(
     rows: &mut Vec<ReadRow>,
 ) -> Result<(), Reason>
     ensures read { OnOk result (ReadsRest R.remaining places.now source.old rows.old.items rows.new.items) }
+    ensures notes { OnOk result
+        (NotesRows rows.old.items rows.new.items (noted order.old) (noted order.new)) }
     ensures unordered { OnOk result (noted order.old ≡ None → noted order.new ≡ None) }
     ensures header { source.new.header ≡ source.old.header }
 {
@@ -366,7 +392,8 @@ fn read_signed<R: Read + Drop>(
     come: &mut Vec<ReadRow>,
 ) -> Result<(), Reason>
     ensures read { OnOk result (PartsChanges R.remaining columns.now changes.old.source.value
-        gone.old.items gone.new.items come.old.items come.new.items) }
+        gone.old.items gone.new.items come.old.items come.new.items
+        (noted order.old) (noted order.new)) }
     ensures unordered { OnOk result (noted order.old ≡ None → noted order.new ≡ None) }
 {
     let places = changes.source.places(columns)?;
@@ -383,7 +410,8 @@ fn read_signed_rest<R: Read + Drop>(
     come: &mut Vec<ReadRow>,
 ) -> Result<(), Reason>
     ensures read { OnOk result (PartsRest R.remaining places.now source.old
-        gone.old.items gone.new.items come.old.items come.new.items) }
+        gone.old.items gone.new.items come.old.items come.new.items
+        (noted order.old) (noted order.new)) }
     ensures unordered { OnOk result (noted order.old ≡ None → noted order.new ≡ None) }
     ensures header { source.new.header ≡ source.old.header }
 {
@@ -404,7 +432,7 @@ fn note_and_part(
     signed: SignedRow,
 ) -> Result<(), AllocError>
     ensures noted { OnOk result
-        (IsNoted ⟦<Key as Ord>⟧.cmp ⟦<Key as Eq>⟧.eq signed.row.key (noted order.old) (noted order.new)) }
+        (noted order.new ≡ noted_with (noted order.old) (signed.row.key ∷ [])) }
     ensures goes { OnOk result (gone.new.items ≡ gone.old.items ++ gone_by signed.sign signed.row) }
     ensures comes { OnOk result (come.new.items ≡ come.old.items ++ come_by signed.sign signed.row) }
 {
@@ -417,7 +445,7 @@ fn note_and_part(
 // Takes the key of a row, and puts the row after the others.
 fn note_and_push(order: &mut Order, rows: &mut Vec<ReadRow>, row: ReadRow) -> Result<(), AllocError>
     ensures noted { OnOk result
-        (IsNoted ⟦<Key as Ord>⟧.cmp ⟦<Key as Eq>⟧.eq row.key (noted order.old) (noted order.new)) }
+        (noted order.new ≡ noted_with (noted order.old) (row.key ∷ [])) }
     ensures pushed { OnOk result (rows.new.items ≡ rows.old.items ++ row ∷ []) }
 {
     order.note(&row.key)?;

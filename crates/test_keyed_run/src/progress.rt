@@ -39,6 +39,7 @@ fn said_of<'a>(
     let world = World {
         words,
         no_color: None,
+        columns: None,
         stdin: b"",
         stdout,
         has_terminal: true,

@@ -35,6 +35,8 @@ pub struct World<'a> {
     pub words: &'a [Vec<u8>],
     /// The variable `NO_COLOR`, if it is set.
     pub no_color: Option<&'a [u8]>,
+    /// The variable `COLUMNS`, if it is set.
+    pub columns: Option<&'a [u8]>,
     /// The bytes of the standard input.
     pub stdin: &'a [u8],
     /// The standard output.
@@ -194,10 +196,10 @@ impl Env for Process<'_> {
     }
 
     fn var(&self, name: &str, buf: &mut [u8]) -> Result<usize, FillError> {
-        if name == "NO_COLOR" {
-            fill(self.world.no_color, buf)
-        } else {
-            Err(FillError::NotPresent)
+        match name {
+            "NO_COLOR" => fill(self.world.no_color, buf),
+            "COLUMNS" => fill(self.world.columns, buf),
+            _ => Err(FillError::NotPresent),
         }
     }
 

@@ -3,11 +3,13 @@ ghost use Rattle.std.specs.Prelude.{◌≡◌, ◌==◌, IfOk, OnOk, is_none, le
 ghost use Rattle.keyed_files.specs.Keys.{AreMergedColumnsBy};
 ghost use Rattle.keyed_files.specs.Opening.{first_header, next_header};
 ghost use Rattle.keyed_files.specs.Spelled.{IsSpelledAs};
+ghost use Rattle.keyed_files.specs.declared.source.Content.TheVariants.{Rows};
 ghost use Rattle.keyed_tables.specs.Arranged.{noted};
 ghost use Rattle.keyed_tables.specs.Parted.{merged_of};
 ghost use Rattle.keyed_commands.specs.AppliedTexts.{watched_left};
 ghost use Rattle.keyed_commands.specs.MergedTexts.{AnswersBy, IsReported, MergesSources, MergesStreams};
 ghost use Rattle.keyed_commands.specs.Preferred.{rows_by_side};
+ghost use Rattle.keyed_commands.specs.FileOrder.{NotesBoth, placed_with};
 ghost use Rattle.keyed_commands.specs.TablesRead.{IsUnordered, ReadsTable};
 ghost use Rattle.keyed_commands.specs.Answers.{AnswersMerge, AnswersMerged, AnswersMergedByCell, HasConflict};
 ghost use Rattle.keyed_commands.specs.Answers.{AnswersTable, HasNoConflict, HasNoneStuck, HasStuck, Stops};
@@ -82,7 +84,10 @@ fn columns_of_merge<'a, R>(
     )?;
     let merged = merged_columns(alloc, all.key, base_names, ours, theirs);
     let columns = at(base.file, merged)?;
-    at(base.file, columns.spell_as(alloc, sides.first.source.spelling()))
+    at(
+        base.file,
+        columns.spell_as(alloc, sides.first.source.spelling()),
+    )
 }
 
 fn merge_files<'a, R: Read + Drop>(
@@ -122,6 +127,9 @@ fn read_versions<'a, R: Read + Drop>(
         sides.old.first.source.value read.ours.pairs.items) }
     ensures theirs { IfOk result (λ read. ReadsTable R.remaining job.old.groups job.old.columns.now
         sides.old.next.source.value read.theirs.pairs.items) }
+    ensures notes { OnOk result (NotesBoth R.remaining Rows job.old.columns.now job.old.columns.now
+        sides.old.first.source.value sides.old.next.source.value placed_with
+        (noted job.old.order) (noted job.new.order)) }
     ensures same { job.new ≡ record job.old { order = job.new.order; row_order = job.new.row_order } }
     ensures unordered { OnOk result (IsUnordered job.old → IsUnordered job.new) }
 {

@@ -1,11 +1,14 @@
 //! Tables that are laid one over the other, the last one on top.
 ghost use Rattle.std.specs.Prelude.{◌≡◌, ◌∷◌, [], IfOk, OnOk, is_none, map, option_map, unwrap_or};
 ghost use Rattle.keyed_files.specs.Keys.{AreColumnsBy};
+ghost use Rattle.keyed_files.specs.declared.source.Content.TheVariants.{Rows};
 ghost use Rattle.keyed_tables.specs.Arranged.{noted};
 ghost use Rattle.keyed_commands.specs.Answers.{IsTableText};
 ghost use Rattle.keyed_commands.specs.OverlayAnswers.{AreLaidOver, AreLayers, IsLayer, IsSpelledAsFirst};
-ghost use Rattle.keyed_commands.specs.OverlayAnswers.{LaysTables};
+ghost use Rattle.keyed_commands.specs.OverlayAnswers.{LaysTables, NotesAll};
 ghost use Rattle.keyed_commands.specs.OverlayAnswers.{OverlaysSources, OverlaysStreams, rows_laid};
+ghost use Rattle.keyed_commands.specs.AppliedTexts.{watched_left};
+ghost use Rattle.keyed_commands.specs.FileOrder.{OfKeys, noted_with};
 ghost use Rattle.keyed_commands.specs.TablesRead.{IsUnordered};
 ghost use Rattle.keyed_commands.specs.declared.answer.Outcome.TheVariants.{Made};
 
@@ -167,6 +170,8 @@ fn lay_all<'a, R: Read + Drop>(
 ) -> Result<Laid, Fault<'a>>
     ensures laid { IfOk result (λ laid. LaysTables R.remaining layer job.old.groups job.old.columns.now []
         tables.entry.items (rows_laid laid)) }
+    ensures notes { OnOk result (NotesAll R.remaining job.old.columns.now tables.entry.items
+        (noted job.old.order) (noted job.new.order)) }
     ensures same { job.new ≡ record job.old { order = job.new.order; row_order = job.new.row_order } }
     ensures unordered { OnOk result (IsUnordered job.old → IsUnordered job.new) }
 {
@@ -189,6 +194,8 @@ fn lay<'a, R: Read + Drop>(
 ) -> Result<Laid, Fault<'a>>
     ensures laid { IfOk result (λ laid. LaysTables R.remaining layer job.old.groups job.old.columns.now
         (rows_laid below) (table.entry ∷ []) (rows_laid laid)) }
+    ensures notes { OnOk result (OfKeys (watched_left R.remaining) Rows job.old.columns.now
+        table.entry.source.value (λ keys. noted job.new.order ≡ noted_with (noted job.old.order) keys)) }
     ensures same { job.new ≡ record job.old { order = job.new.order; row_order = job.new.row_order } }
     ensures unordered { OnOk result (IsUnordered job.old → IsUnordered job.new) }
 {

@@ -22,7 +22,7 @@ returns g c =
     (apply-streams (watched_left g.R.Read.remaining) settings c.watch-old.result c.watch-changes.result c.in_ok-inputs.inputs
     (record c.in_ok-inputs.inputs { first = c.rename.new.self }) c.new-2.result answer c.in_ok-inputs.ensures.first c.in_ok-inputs.ensures.next
     c.in_ok-inputs.ensures.gone
-    c.in_ok-rename.ensures refl c.new-2.ensures.form c.new-2.ensures.groups c.new-2.ensures.unordered
+    c.in_ok-rename.ensures refl c.new-2.ensures.form c.new-2.ensures.groups c.new-2.ensures.unordered c.new-2.ensures.order
     (subst P (sym c.new-2.ensures.columns) c.in_ok-columns.ensures.columns)
     (subst (IsSpelledAs named.first.source.value.header.spelling.names named.first.source.value.header.spelling.spelled) (sym c.new-2.ensures.columns) c.in_ok-columns.ensures.spelled)
     read)) c.apply_files.ensures

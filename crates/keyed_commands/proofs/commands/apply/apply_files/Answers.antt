@@ -18,6 +18,7 @@ returns g c =
       changes = tables.1.pairs.items;
       old_read = read.table;
       changes_read = read.changes;
+      notes = read.notes;
       applied = record {
         style = style;
         keys = noted job.order;

@@ -12,5 +12,5 @@ returns g c =
     IfOk-weaker c.diff_files.result _ _
     (λ answer read csv. diff-streams g.R.Read.remaining c.args.settings c.args.old c.args.new c.in_ok-versions.versions
     (record c.in_ok-versions.versions { first = c.rename.new.self }) c.new-2.result answer c.in_ok-versions.ensures.first c.in_ok-versions.ensures.next
-    c.in_ok-rename.ensures refl c.new-2.ensures.form c.new-2.ensures.groups c.new-2.ensures.unordered
+    c.in_ok-rename.ensures refl c.new-2.ensures.form c.new-2.ensures.groups c.new-2.ensures.unordered c.new-2.ensures.order
     (subst P (sym c.new-2.ensures.columns) (c.in_ok-columns.ensures csv)) (read csv)) c.diff_files.ensures

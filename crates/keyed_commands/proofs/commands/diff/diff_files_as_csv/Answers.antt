@@ -21,6 +21,7 @@ returns g c =
       new = tables.1.pairs.items;
       old_read = read.first;
       new_read = read.next;
+      notes = read.notes;
       changes = record {
         marked = marked;
         keys = noted job.order;

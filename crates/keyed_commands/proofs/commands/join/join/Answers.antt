@@ -17,7 +17,7 @@ returns g c =
     c.in_ok-sides.sides.next.source.value.header.names columns in
     IfOk-weaker c.join_files.result _ _
     (λ answer read csv. join-streams g.R.Read.remaining c.args.settings c.args.how c.args.left c.args.right c.in_ok-sides.sides c.new-job.result c.in_ok-form.form.header answer
-    c.in_ok-sides.ensures.first c.in_ok-sides.ensures.next c.new-job.ensures.form c.new-job.ensures.groups c.new-job.ensures.unordered
+    c.in_ok-sides.ensures.first c.in_ok-sides.ensures.next c.new-job.ensures.form c.new-job.ensures.groups c.new-job.ensures.unordered c.new-job.ensures.order
     (subst P (sym c.new-job.ensures.columns) c.in_ok-columns.ensures)
     csv (subst (λ columns. c.in_ok-form.form.header ≡ header_of_join c.args.settings.form c.args.how columns) (sym c.new-job.ensures.columns) header) once
     (subst (λ k. JoinsSources g.R.Read.remaining c.new-job.result k c.in_ok-form.form.header c.in_ok-sides.sides answer) kind (read (format ∙ csv)))) c.join_files.ensures

@@ -15,6 +15,7 @@ returns g c =
       right = tables.1.pairs.items;
       left_read = read.left;
       right_read = read.right;
+      notes = read.notes;
       join = record {
         keys = noted job.order;
         by_cells = is_none job.row_order.files;

@@ -24,7 +24,7 @@ returns g c =
     c.watch-base.ensures.form c.watch-ours.ensures.form c.watch-theirs.ensures.form
     (merge-streams (watched_left g.R.Read.remaining) c.args.how.unit settings c.watch-base.result c.watch-ours.result c.watch-theirs.result
     c.in_ok-base.base c.rename.new.self c.in_ok-sides.sides c.new-job.result answer c.in_ok-base.ensures.opened c.in_ok-sides.ensures.first c.in_ok-sides.ensures.next
-    c.in_ok-rename.ensures c.new-job.ensures.form c.new-job.ensures.groups c.new-job.ensures.unordered
+    c.in_ok-rename.ensures c.new-job.ensures.form c.new-job.ensures.groups c.new-job.ensures.unordered c.new-job.ensures.order
     (subst P (sym c.new-job.ensures.columns) c.in_ok-columns.ensures.columns)
     (subst (IsSpelledAs sides.first.source.value.header.spelling.names sides.first.source.value.header.spelling.spelled) (sym c.new-job.ensures.columns) c.in_ok-columns.ensures.spelled)
     (read reported))) c.merge_files.ensures

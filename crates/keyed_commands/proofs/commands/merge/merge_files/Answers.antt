@@ -20,6 +20,7 @@ returns g c =
       base_read = read.base;
       ours_read = read.ours;
       theirs_read = read.theirs;
+      notes = read.notes;
       merged = record {
         style = style;
         keys = noted job.order;

@@ -1,9 +1,13 @@
 use Rattle.std.proofs.Common.{◌≡◌, ◌∷◌, ◌∙◌, [], ap, arith, rules, subst}
 use Rattle.std.proofs.lemmas.Grind.{common_steps}
 use Rattle.keyed_files.specs.declared.columns.Columns.{Columns}
+use Rattle.keyed_files.specs.declared.source.Content.TheVariants.{Rows}
+use Rattle.keyed_tables.specs.Arranged.{noted}
+use Rattle.keyed_commands.specs.AppliedTexts.{watched_left}
+use Rattle.keyed_commands.specs.FileOrder.{OfKeys, noted_with}
 use Rattle.keyed_commands.specs.declared.job.Job.{Job}
 use Rattle.keyed_commands.specs.OverlayAnswers.{LaysTables, rows_laid}
-use Rattle.keyed_commands.proofs.OverlayLemmas.{lays_none, lays_then}
+use Rattle.keyed_commands.proofs.OverlayLemmas.{lays_none, lays_then, notes_none, notes_then}
 use Rattle.keyed_commands.proofs.commands.overlay.lay_all.Goals as goal
 
 pub loop-table-preserved : goal.loop-table-preserved
@@ -16,6 +20,8 @@ loop-table-preserved g c =
     record {
       laid = λ rows more. before.laid rows (lays_then g.R.Read.remaining c.args.layer job.groups job.columns.now _ _ c.in-Some.table _ _ rows c.in-Some.ensures.steps.0 laid more);
       rises = laid.2.rises;
+      notes = λ after more. before.notes after (notes_then g.R.Read.remaining job.columns.now _ _ c.in-Some.table _ _ after c.in-Some.ensures.steps.0
+          (subst (λ j. OfKeys (watched_left g.R.Read.remaining) Rows j.columns.now c.in-Some.table.source.value (λ keys. noted c.lay.new.job.order ≡ noted_with (noted c.loop-table.job.order) keys)) before.same one.notes) more);
       same = one.same ∙ ap set before.same;
       unordered = λ unordered. one.unordered (before.unordered unordered);
     }
@@ -25,3 +31,8 @@ returns-clause-laid g c =
     let job = c.args.job.now in
     let none : c.loop-table.table-iterator.rest.items ≡ [] = first_of (search rules, grind (arith, common_steps)) in
     c.loop-table.invariant.laid _ (lays_none g.R.Read.remaining c.args.layer job.groups job.columns.now (rows_laid c.loop-table.laid) _ none c.loop-table.invariant.rises)
+
+pub returns-clause-notes : goal.returns-clause-notes
+returns-clause-notes g c =
+    let none : c.loop-table.table-iterator.rest.items ≡ [] = first_of (search rules, grind (arith, common_steps)) in
+    c.loop-table.invariant.notes _ (notes_none g.R.Read.remaining c.args.job.now.columns.now _ _ none)

@@ -17,6 +17,7 @@ returns g c =
     (λ answer is. record {
       tables = read.laid.0;
       read = read.laid.1;
+      notes = read.notes;
       overlaid = record {
         rows = rows_laid laid;
         keys = noted job.order;
