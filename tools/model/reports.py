@@ -1,7 +1,7 @@
 """What a report says in each of its forms."""
 from collections import Counter
 
-from model.cells import as_json, lined_up, named, pairs, shown
+from model.cells import as_json, lined_up, named, pairs, shown, width
 from model.pages import Markdown, Page, QuickPage
 
 FORMS = ["table", "json", "markdown", "html"]
@@ -22,10 +22,12 @@ class Reports:
         key, rest, told = report["key"], report["rest"], report["told"]
         limit = 0 if is_summary else limit
         rows = told if limit is None else told[:limit]
+        is_all, most = self.some_layout(form, is_summary)
         more = [] if is_summary or len(rows) == len(told) else [f"and {len(told) - len(rows)} more"]
         counts = "{added} added, {removed} removed, {changed} changed, {same} the same".format(**report["counts"])
         words = [*words, *["--summary"] * is_summary, *([] if is_summary or limit is None else ["--limit", str(limit)])]
         words += ["--color", "always"] * has_colour + ([] if form == "table" else ["--format", form])
+        words += ["--all-columns"] * is_all + ([] if most is None else ["--width", str(most)])
         answer = self.ask(*words)
         if answer[0] != report["status"] or answer[2]:
             self.stop(" ".join(words), f"status {answer[0]}, not {report['status']}, {answer[2]}")
@@ -35,9 +37,14 @@ class Reports:
             grid = self.lines_of_columns(report)
             want = "".join(f"{it}\n" for it in report["said"]) + lined_up(grid) + f"{counts}\n"
             return self.same(" ".join(words), text, want)
+        places = self.places_shown(len(rest), rows, report["is_same"], is_all)
+        wide = rows if len(places) == len(rest) else [(*it[:2], *([cells[at] for at in places] for cells in it[2:])) for it in rows]
+        names = [shown(rest[at]) for at in places]
+        more += self.left_out(len(rest) - len(places)) if rows and form in ("table", "html") else []
         if form == "table":
-            grid = [heading] * bool(rows) + [self.line_of_both(*it, report["is_same"]) for it in rows]
-            want = "".join(f"{it}\n" for it in report["said"]) + lined_up(grid, has_colour) + "".join(f"{it}\n" for it in [*more, counts])
+            grid = [["", *map(shown, key), *names]] * bool(rows) + [self.line_of_both(*it, report["is_same"]) for it in wide]
+            lines = self.in_blocks(grid, 1 + len(key), most, has_colour)
+            want = "".join(f"{it}\n" for it in report["said"]) + lines + "".join(f"{it}\n" for it in [*more, counts])
             return self.same(" ".join(words), text, want)
         if form == "json":
             found, want = self.objects_of(text), self.objects(report, rows, is_summary)
@@ -47,10 +54,41 @@ class Reports:
             want = report["said"], [heading] * bool(rows) + [self.line_of_both(*it, report["is_same"], tuple) for it in rows], [*more, counts]
             return self.same(" ".join(words), (page.items, page.lines, page.paragraphs), want)
         page, empty = self.page_of(text), [""] * len(key)
-        sides = [*map(shown, rest)] * 2
-        want = [["", *map(shown, key), *["old", "new"] * bool(rest)], ["", *empty, *sides]] * bool(rows)
-        want = want[:2] + [self.line_side_by_side(*it, report["is_same"]) for it in rows]
+        want = [["", *map(shown, key), *["old", "new"] * bool(names)], ["", *empty, *names, *names]] * bool(rows)
+        want = want[:2] + [self.line_side_by_side(*it, report["is_same"]) for it in wide]
         self.same(" ".join(words), (page.paragraphs, page.lines), ([*report["said"], *more, counts], want))
+
+    def some_layout(self, form, is_summary):
+        """Whether all columns are to be shown, and how wide a table may be, if that is bounded."""
+        is_all = not is_summary and self.rng.random() < 0.4
+        most = None if form != "table" or self.is_whole or self.rng.random() < 0.5 else self.rng.choice([0, 1, 10, 20, 30, 40, 60, 80, 10**9, self.rng.randrange(120)])
+        return is_all, most
+
+    @staticmethod
+    def places_shown(count, rows, is_same, is_all):
+        """The places of the columns that are shown: all of them, unless each row changed; then those in which one did."""
+        if is_all or any(word != "changed" for word, *_ in rows):
+            return [*range(count)]
+        return [at for at in range(count) if any(not is_same(row[at], other[at]) for _, _, row, other in rows)]
+
+    @staticmethod
+    def left_out(count):
+        """What is said of so many columns that are not shown."""
+        columns = "1 column is" if count == 1 else f"{count} columns are"
+        return [f"{columns} the same here, and not shown without --all-columns"] * bool(count)
+
+    @staticmethod
+    def in_blocks(grid, lead, most, has_colour):
+        """Lines in blocks of columns, of which the first ones stand in each, no wider than is said, but for one column beside these."""
+        if not most or not grid:
+            return lined_up(grid, has_colour)
+        widths, blocks = [max(map(width, cells)) for cells in zip(*grid)], [[]]
+        for at in range(lead, len(widths)):
+            there = [*range(lead), *blocks[-1], at]
+            if blocks[-1] and sum(widths[it] for it in there) + 2 * (len(there) - 1) > most:
+                blocks.append([])
+            blocks[-1].append(at)
+        return "\n".join(lined_up([line[:lead] + [line[at] for at in block] for line in grid], has_colour) for block in blocks)
 
     def page_of(self, text):
         return QuickPage(text) if self.is_whole else Page(text)

@@ -2,15 +2,16 @@
 
 use crate::form::files_of;
 use crate::help::example_of;
+use crate::terminal::{Terminal, width_of, width_option};
 use crate::texts::Text;
-use crate::view::colours_of;
+use crate::view::{all_columns, colours_of, columns_shown};
 use crate::{
     COLOR, FLAGS, KEY, ParseError, TEXTS, choice, file_of, flag, put, put_texts, settings_of,
 };
 use clap::{Arg, ArgMatches, Command};
 use keyed_files::{
-    Asked, Colours, Comparing, Format, GitDiff, GitMerge, GitSetup, Look, Merging, Request,
-    Settings,
+    Asked, Comparing, Format, GitDiff, GitMerge, GitSetup, Look, Merging, Picked, Request,
+    RowsShown, Settings, View,
 };
 use std::alloc::{AllocError, Global};
 
@@ -85,6 +86,8 @@ fn git_command<'a>(alloc: Global, command: &GitCommand) -> Result<Command<'a>, A
     }
     if name == "git-diff" {
         put(&mut args, choice(alloc, COLOR))?;
+        put(&mut args, all_columns(alloc))?;
+        put(&mut args, width_option(alloc))?;
     }
     put_texts(alloc, &mut args, &KEY)?;
     put_texts(alloc, &mut args, &TEXTS)?;
@@ -108,7 +111,7 @@ pub fn git_asked<'a>(
     alloc: Global,
     name: &str,
     matches: &ArgMatches<'a>,
-    terminal: Colours,
+    terminal: Terminal,
 ) -> Result<Option<Asked<'a>>, ParseError> {
     match name {
         "git-diff" => Ok(Some(diff_asked(alloc, matches, terminal)?)),
@@ -158,7 +161,7 @@ fn put_given(
 fn diff_asked<'a>(
     alloc: Global,
     matches: &ArgMatches<'a>,
-    terminal: Colours,
+    terminal: Terminal,
 ) -> Result<Asked<'a>, ParseError> {
     let path = file_of(matches, "PATH");
     match (matches.get_str("OLD"), matches.get_str("NEW")) {
@@ -169,14 +172,30 @@ fn diff_asked<'a>(
                 old,
                 new,
             };
-            let look = Look::Table {
-                colours: colours_of(matches, terminal),
-            };
-            let how = Comparing::whole(Format::Report(look));
-            versions_asked(alloc, matches, how, diff)
+            versions_asked(alloc, matches, shown_to_git(matches, terminal)?, diff)
         }
         _ => Ok(Asked::GitUnmerged { path }),
     }
+}
+
+// How git shows a table that changed.
+fn shown_to_git(
+    matches: &ArgMatches<'_>,
+    terminal: Terminal,
+) -> Result<Comparing<'static>, ParseError> {
+    let look = Look::Table {
+        colours: colours_of(matches, terminal.colours),
+    };
+    Ok(Comparing {
+        format: Format::Report(look),
+        view: View {
+            columns: Picked::All,
+            shown: columns_shown(matches),
+            rows: RowsShown::All,
+            width: width_of(matches, terminal)?,
+        },
+        tolerance: None,
+    })
 }
 
 fn versions_asked<'a>(

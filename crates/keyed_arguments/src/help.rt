@@ -26,6 +26,8 @@ pub fn group_of(option: &str) -> Option<&'static str> {
         | "only"
         | "ignore"
         | "limit"
+        | "all-columns"
+        | "width"
         | "summary"
         | "conflicts"
         | "prefix"

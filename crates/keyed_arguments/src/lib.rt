@@ -11,6 +11,7 @@ mod numbers;
 mod output;
 mod progress;
 mod renames;
+mod terminal;
 mod texts;
 mod view;
 
@@ -33,6 +34,7 @@ use progress::{progress_of, put_progress};
 use renames::{put_renames, renames_of};
 use std::alloc::{AllocError, Global};
 use std::{fmt, io};
+pub use terminal::Terminal;
 use texts::{KEY, TEXTS, TEXTS_OF_TWO, put_texts};
 use view::{comparing_of, look_of, put_view};
 
@@ -131,8 +133,8 @@ impl fmt::Display for ParseError {
     }
 }
 
-/// What the words of a command line ask for. Where `--color` leaves it open, a table that a person reads has colours or not as
-/// the terminal has.
+/// What the words of a command line ask for. Where `--color` and `--width` leave it open, a table that a person reads has colours and lines
+/// as the terminal has, which is the standard output.
 ///
 /// # Errors
 ///
@@ -141,7 +143,7 @@ impl fmt::Display for ParseError {
 pub fn parse<'a>(
     alloc: Global,
     words: &'a [String],
-    terminal: Colours,
+    terminal: Terminal,
 ) -> Result<Line<'a>, ParseError> {
     let matches = command(alloc)?.try_get_matches_from(words)?;
     match matches.subcommand() {
@@ -160,23 +162,25 @@ pub fn parse<'a>(
     }
 }
 
-// An answer to a command.
+// An answer to a command. A file that it goes into is no terminal.
 fn answer_of<'a>(
     alloc: Global,
     name: &str,
     matches: &ArgMatches<'a>,
-    terminal: Colours,
+    terminal: Terminal,
 ) -> Result<Line<'a>, ParseError> {
-    let command = command_of(alloc, name, matches, terminal)?;
+    let output = output_of(matches)?;
+    let shown_on = match output {
+        Some(_) => Terminal::NONE,
+        None => terminal,
+    };
+    let command = command_of(alloc, name, matches, shown_on)?;
     match heading_of(matches) {
         Heading::Omitted if !is_csv(&command) => return Err(ParseError::NoHeading),
         Heading::Omitted | Heading::Written => {}
     }
     Ok(Line::Asked {
-        asked: Asked::Answer {
-            command,
-            output: output_of(matches)?,
-        },
+        asked: Asked::Answer { command, output },
         progress: progress_of(matches),
     })
 }
@@ -202,7 +206,7 @@ fn command_of<'a>(
     alloc: Global,
     name: &str,
     matches: &ArgMatches<'a>,
-    terminal: Colours,
+    terminal: Terminal,
 ) -> Result<Command<'a>, ParseError> {
     match name {
         "lookup" => return lookup_of(alloc, matches),
@@ -272,7 +276,7 @@ fn request_of<'a>(
     alloc: Global,
     name: &str,
     matches: &ArgMatches<'a>,
-    terminal: Colours,
+    terminal: Terminal,
 ) -> Result<Request<'a>, ParseError> {
     Ok(match name {
         "apply" => Request::Apply {

@@ -1,6 +1,7 @@
 //! How two tables are compared, and what a report shows of the changes.
 
 use crate::numbers::tolerance_of;
+use crate::terminal::{Terminal, width_of, width_option};
 use crate::{ParseError, flag, put, text};
 use clap::{Arg, ArgMatches};
 use keyed_files::{
@@ -42,10 +43,27 @@ pub fn put_view(alloc: Global, args: &mut Vec<Arg<'_>>) -> Result<(), AllocError
     }
     let help =
         "No rows: how many changed in each column, its three commonest changes, and the counts";
-    put(args, flag(alloc, "summary", help).conflicts_with("limit")?)
+    put(args, flag(alloc, "summary", help).conflicts_with("limit")?)?;
+    put(args, all_columns(alloc).conflicts_with("summary")?)?;
+    put(args, width_option(alloc))
 }
 
-/// How two tables are compared. Where the colours are left open, they are those of the terminal.
+/// The option that leaves no column out.
+pub fn all_columns<'a>(alloc: Global) -> Arg<'a> {
+    let help = "Also the columns that are the same in all rows shown, in a table or a page of HTML";
+    flag(alloc, "all-columns", help)
+}
+
+/// Which of the columns that are compared are shown.
+pub fn columns_shown(matches: &ArgMatches<'_>) -> ColumnsShown {
+    if matches.get_flag("all-columns") {
+        ColumnsShown::All
+    } else {
+        ColumnsShown::Changed
+    }
+}
+
+/// How two tables are compared. Where the colours and the width are left open, they are those of the terminal.
 ///
 /// # Errors
 ///
@@ -54,7 +72,7 @@ pub fn put_view(alloc: Global, args: &mut Vec<Arg<'_>>) -> Result<(), AllocError
 pub fn comparing_of<'a>(
     alloc: Global,
     matches: &ArgMatches<'a>,
-    terminal: Colours,
+    terminal: Terminal,
 ) -> Result<Comparing<'a>, ParseError> {
     check_counted(matches)?;
     if matches.get_str("format") == Some("csv") {
@@ -62,9 +80,9 @@ pub fn comparing_of<'a>(
     }
     let view = View {
         columns: picked_of(alloc, matches)?,
-        shown: ColumnsShown::Changed,
+        shown: columns_shown(matches),
         rows: rows_of(matches)?,
-        width: None,
+        width: width_of(matches, terminal)?,
     };
     if matches.get_str("format") == Some("json") {
         check_each_row(view.rows)?;
@@ -131,14 +149,14 @@ fn format_of(
     matches: &ArgMatches<'_>,
     picked: Picked<'_>,
     tolerance: Option<Decimal<'_>>,
-    terminal: Colours,
+    terminal: Terminal,
 ) -> Format {
     if matches.get_flag("quiet") && matches!(picked, Picked::All) && tolerance.is_none() {
         return Format::Csv;
     }
     match matches.get_str("format") {
         Some("csv") => Format::Csv,
-        _ => Format::Report(look_of(matches, colours_of(matches, terminal))),
+        _ => Format::Report(look_of(matches, colours_of(matches, terminal.colours))),
     }
 }
 

@@ -12,6 +12,8 @@ pub struct Command {
     pub words: Vec<Vec<u8>>,
     /// What the variable `NO_COLOR` is set to.
     pub no_color: Option<Vec<u8>>,
+    /// What the variable `COLUMNS` is set to.
+    pub columns: Option<Vec<u8>>,
     /// The name of the file that is the standard input.
     pub stdin: Option<Vec<u8>>,
     /// What the standard output is, where it is said.
@@ -32,6 +34,8 @@ enum Role {
 
 const NO_COLOR: &[u8] = b"NO_COLOR=";
 
+const COLUMNS: &[u8] = b"COLUMNS=";
+
 /// What a line says that stands behind `$`.
 ///
 /// # Errors
@@ -41,6 +45,7 @@ pub fn command_of(alloc: Global, line: &str) -> Result<Command, Wrong> {
     let mut command = Command {
         words: Vec::new(alloc),
         no_color: None,
+        columns: None,
         stdin: None,
         stdout: None,
     };
@@ -61,13 +66,10 @@ impl Command {
         match role {
             Role::Program => match bytes.as_slice() {
                 b"keyed" => Ok(Role::Word),
-                text => match text.strip_prefix(NO_COLOR) {
-                    Some(value) => {
-                        self.no_color = Some(Vec::from_slice(alloc, value)?);
-                        Ok(Role::Program)
-                    }
-                    None => Err(Wrong::Line("it is keyed that is run, behind NO_COLOR=.. at most")),
-                },
+                text => {
+                    self.set(alloc, text)?;
+                    Ok(Role::Program)
+                }
             },
             Role::Word => match bytes.as_slice() {
                 b"<" if is_bare => Ok(Role::Input),
@@ -84,6 +86,23 @@ impl Command {
             }
             Role::Output => self.lead("/dev/full", Sink::Full, bytes),
             Role::Reader => self.lead("true", Sink::Left, bytes),
+        }
+    }
+
+    // Sets the variable that a word before the name of the program sets.
+    fn set(&mut self, alloc: Global, text: &[u8]) -> Result<(), Wrong> {
+        if let Some(value) = text.strip_prefix(NO_COLOR) {
+            self.no_color = Some(Vec::from_slice(alloc, value)?);
+            return Ok(());
+        }
+        match text.strip_prefix(COLUMNS) {
+            Some(value) => {
+                self.columns = Some(Vec::from_slice(alloc, value)?);
+                Ok(())
+            }
+            None => Err(Wrong::Line(
+                "it is keyed that is run, behind NO_COLOR=.. and COLUMNS=.. at most",
+            )),
         }
     }
 

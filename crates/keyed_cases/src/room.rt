@@ -118,14 +118,10 @@ impl Room {
     fn outcome(&self, command: &Command) -> Result<Outcome, Wrong> {
         let words = self.words_of(command)?;
         let stdin = self.stdin_of(command)?;
-        let no_color = match &command.no_color {
-            Some(value) => Some(value.as_slice()),
-            None => None,
-        };
         let world = World {
             words: &words,
-            no_color,
-            columns: None,
+            no_color: bytes_of(&command.no_color),
+            columns: bytes_of(&command.columns),
             stdin: &stdin,
             stdout: self.sink_of(command),
             has_terminal: self.has_error_terminal,
@@ -192,5 +188,13 @@ fn put_found(transcript: &mut String, found: &Found) -> Result<(), AllocError> {
     } else {
         writeln!(transcript, "file {name}")?;
         put_lines(transcript, '|', bytes)
+    }
+}
+
+// The bytes of a value, if there is one.
+fn bytes_of(value: &Option<Vec<u8>>) -> Option<&[u8]> {
+    match value {
+        Some(value) => Some(value.as_slice()),
+        None => None,
     }
 }

@@ -2,8 +2,9 @@
 //!
 //! - `# ..` is for the reader. The first line is one: it says what the file shows.
 //! - `## ..` begins a part, with a new disk. What stands before the first `##` is in each part.
-//! - `$ keyed ..` is a command, split as a shell splits it: `'..'`, `".."`, and `$'..'` with escapes. Beside it may stand `NO_COLOR=1` before
-//!   `keyed`, and `< NAME`, `> /dev/full` or `| true` behind, for a file that is the standard input, and an output that is full or left.
+//! - `$ keyed ..` is a command, split as a shell splits it: `'..'`, `".."`, and `$'..'` with escapes. Beside it may stand `NO_COLOR=1` and
+//!   `COLUMNS=80` before `keyed`, and `< NAME`, `> /dev/full` or `| true` behind, for a file that is the standard input, and an output that is
+//!   full or left.
 //!   What it writes stands behind `>`, what it says behind `!`, then each file that it made or changed, and its status.
 //! - `file NAME` puts a file on the disk, whose lines follow, each behind `|`. `\n`, `\r`, `\t`, `\0`, `\\`, `\xHH` and `\u{H}` are escapes, and
 //!   a lone backslash at the end takes the line end off. `|0..600 k###,p` is a line for each of these numbers, of three digits.

@@ -40,6 +40,9 @@ fn render_rows(
     report: &Report<'_>,
     shown: &[bool],
 ) -> Result<String, AllocError> {
+    if report.rows.is_empty() {
+        return Ok(String::new(alloc));
+    }
     let grid = grid_of(alloc, colours, report, shown)?;
     let Some(most) = report.view.width else {
         return line_up(alloc, &grid);
@@ -74,7 +77,7 @@ fn blocks_of(
     blocks(alloc, shown, widths.get(first..).unwrap_or(&[]), lead, most)
 }
 
-// The rows, under the names of the columns, each of the key and of those that are shown. With no row there is no line.
+// The rows, under the names of the columns, each of the key and of those that are shown.
 fn grid_of(
     alloc: Global,
     colours: Colours,
@@ -82,9 +85,7 @@ fn grid_of(
     shown: &[bool],
 ) -> Result<Grid, AllocError> {
     let mut grid: Grid = Vec::new(alloc);
-    if !report.rows.is_empty() {
-        grid.push(heading_of_picked(alloc, report.columns, shown)?)?;
-    }
+    grid.push(heading_of_picked(alloc, report.columns, shown)?)?;
     for row in report.rows {
         grid.push(line_of(alloc, colours, report.tolerance, shown, row)?)?;
     }

@@ -8,7 +8,7 @@ mod progress;
 mod words;
 
 use counted::{ClearedOutput, CountedRuntime};
-use keyed_arguments::{Line, ParseError, parse};
+use keyed_arguments::{Line, ParseError, Terminal, parse};
 use keyed_commands::{
     Asked, Colours, Command, Fault, Finished, GitMerge, Reason, Shown, SortedRequest, at,
     version_name, write_command, write_git_diff, write_git_merge, write_git_setup,
@@ -63,7 +63,7 @@ pub fn run_words<
     W: Write + IsTerminal,
     E: IsTerminal,
 >(rt: &R, words: &[String], output: &mut W, errors: &E) -> u8 {
-    match parse(rt.alloc(), words, colours_of(rt, output)) {
+    match parse(rt.alloc(), words, terminal_of(rt, output)) {
         Ok(Line::Asked { asked, progress }) => {
             let line = ProgressLine::new(rt, progress, errors);
             answer_counted(rt, &line, asked, output)
@@ -85,7 +85,7 @@ fn run_shown_words<
     if let Ok(Line::Asked { asked, progress }) = parse(
         rt.alloc(),
         &words.words,
-        colours_of(rt, output),
+        terminal_of(rt, output),
     ) {
         if let Some(asked) = words.asked_by_git(&asked) {
             let line = ProgressLine::new(rt, progress, errors);
@@ -101,12 +101,30 @@ fn run_shown_words<
     }
 }
 
-// Whether reports on an output have colours, where the command line leaves that open.
-fn colours_of<R: Env, W: IsTerminal>(rt: &R, output: &W) -> Colours {
-    if output.is_terminal() && !has_text(rt, "NO_COLOR") {
-        Colours::On
-    } else {
+// What reports have of an output, where the command line leaves that open.
+fn terminal_of<R: Env, W: IsTerminal>(rt: &R, output: &W) -> Terminal {
+    if !output.is_terminal() {
+        return Terminal::NONE;
+    }
+    let colours = if has_text(rt, "NO_COLOR") {
         Colours::Off
+    } else {
+        Colours::On
+    };
+    Terminal {
+        colours,
+        width: columns_of(rt),
+    }
+}
+
+// How many columns the lines of a terminal have, as the variable says that shells set, if it is set to a number above 0.
+fn columns_of<R: Env>(rt: &R) -> Option<usize> {
+    let mut text = [0; 8];
+    let length = rt.var("COLUMNS", &mut text).ok()?;
+    let digits = str::from_utf8(text.get(..length)?).ok()?;
+    match digits.parse::<usize>() {
+        Ok(0) | Err(_) => None,
+        Ok(columns) => Some(columns),
     }
 }
 
@@ -177,7 +195,7 @@ fn shown_error(alloc: Global, words: &[String]) -> Result<ParseError, AllocError
     for word in words {
         shown.push(format!(in alloc; "{}", Shown(word.as_bytes()))?)?;
     }
-    match parse(alloc, &shown, Colours::Off) {
+    match parse(alloc, &shown, Terminal::NONE) {
         Err(ParseError::Words(error)) => Ok(ParseError::Words(error)),
         _ => Err(AllocError),
     }
