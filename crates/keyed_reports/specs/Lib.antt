@@ -1,3 +1,4 @@
 pub mod ColumnCounts
 pub mod Escapes
 pub mod Shown
+pub mod ShownColumns

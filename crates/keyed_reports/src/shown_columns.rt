@@ -1,4 +1,7 @@
 //! Which columns a report shows beside those of the key: of rows that all changed those in which one of them did.
+ghost use Rattle.std.specs.Prelude.{◌≡◌, IfOk, length, map, option_map, replicate};
+ghost use Rattle.either_or_both.specs.Prelude.{left_place, right_place};
+ghost use Rattle.keyed_reports.specs.ShownColumns.{columns_changed, columns_shown, either_changed};
 
 use crate::changed_rows::RowChange;
 use crate::report::Report;
@@ -13,7 +16,14 @@ use std::alloc::{AllocError, Global};
 /// # Errors
 ///
 /// Returns `AllocError` if a request for memory was refused.
-pub fn columns_of(alloc: Global, report: &Report<'_>) -> Result<Vec<bool>, AllocError> {
+pub fn columns_of(alloc: Global, report: &Report<'_>) -> Result<Vec<bool>, AllocError>
+    ensures { IfOk result (λ shown. shown.items ≡ columns_shown report.now.view.shown report.now.tolerance
+        (length report.now.columns.now.rest)
+        (map (λ row. (
+          option_map (λ cells. cells.now) (left_place row.1),
+          option_map (λ cells. cells.now) (right_place row.1),
+        )) report.now.rows.now)) }
+{
     let count = report.columns.rest.len();
     columns_shown(
         alloc,
@@ -32,23 +42,31 @@ fn columns_shown(
     count: usize,
     tolerance: Option<Decimal<'_>>,
     rows: &[RowChange<'_>],
-) -> Result<Vec<bool>, AllocError> {
-    let is_wanted = matches!(which, ColumnsShown::All);
-    let mut shown = flags(alloc, is_wanted, count)?;
-    if !is_wanted {
-        for row in rows {
-            shown = columns_changed(alloc, &shown, tolerance, row.1)?;
+) -> Result<Vec<bool>, AllocError>
+    ensures { IfOk result (λ shown. shown.items ≡ columns_shown which tolerance.entry count
+        (map (λ row. (
+          option_map (λ cells. cells.now) (left_place row.1),
+          option_map (λ cells. cells.now) (right_place row.1),
+        )) rows.now)) }
+{
+    match which {
+        ColumnsShown::All => flags(alloc, true, count),
+        ColumnsShown::Changed => {
+            let mut shown = flags(alloc, false, count)?;
+            for row in rows {
+                shown = columns_changed(alloc, &shown, tolerance, row.1)?;
+            }
+            Ok(shown)
         }
     }
-    Ok(shown)
 }
 
 // So many flags that are the same.
-fn flags(alloc: Global, flag: bool, count: usize) -> Result<Vec<bool>, AllocError> {
+fn flags(alloc: Global, flag: bool, count: usize) -> Result<Vec<bool>, AllocError>
+    ensures { IfOk result (λ flags. flags.items ≡ replicate count flag) }
+{
     let mut flags = Vec::new(alloc);
-    for _ in 0..count {
-        flags.push(flag)?;
-    }
+    flags.resize(count, flag)?;
     Ok(flags)
 }
 
@@ -58,7 +76,11 @@ fn columns_changed(
     shown: &[bool],
     tolerance: Option<Decimal<'_>>,
     change: Change<&Cells>,
-) -> Result<Vec<bool>, AllocError> {
+) -> Result<Vec<bool>, AllocError>
+    ensures { IfOk result (λ columns. columns.items ≡ columns_changed tolerance.entry shown.now
+        (option_map (λ cells. cells.now) (left_place change.entry))
+        (option_map (λ cells. cells.now) (right_place change.entry))) }
+{
     match change {
         EitherOrBoth::Left(_) => flags(alloc, true, shown.len()),
         EitherOrBoth::Right(_) => flags(alloc, true, shown.len()),
@@ -73,7 +95,10 @@ fn either_changed(
     tolerance: Option<Decimal<'_>>,
     old: &Cells,
     new: &Cells,
-) -> Result<Vec<bool>, AllocError> {
+) -> Result<Vec<bool>, AllocError>
+    ensures { IfOk result (λ columns. columns.items
+        ≡ either_changed tolerance.entry shown.now old.now new.now) }
+{
     shown
         .iter()
         .zip(old.iter().zip(new.iter()))
