@@ -55,9 +55,9 @@ class Changes:
         versions = []
         for it in self.in_order(key, {*goes, *comes}, self.ours, self.changes):
             if sorted(has.get(it, [])) != sorted(goes.get(it, [])):
-                versions += [("table", it, has.get(it)), ("change", it, goes.get(it))]
+                versions += [("table", it, has.get(it)), ("expected", it, goes.get(it))]
         for form in self.some_of(forms) if versions else []:
-            self.expect_stopped(["apply", "ours", "changes"], form, [], key, rest, versions, {"table": "misfit", "change": "misfit"})
+            self.expect_stopped(["apply", "ours", "changes"], form, [], key, rest, versions, {"table": "misfit", "expected": "misfit"})
 
     def said_of_columns(self):
         """What is said of the columns of the base and of ours, and whether one of them has one alone."""

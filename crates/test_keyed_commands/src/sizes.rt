@@ -303,10 +303,10 @@ fn groups_are_never_too_large(rt: HostRuntime) -> Result<(), Fail> {
         let text = group(alloc, "       id  a\n", "added  1   ", count, &end)?;
         let misfit = group(
             alloc,
-            "        id  a\n",
-            "table   1   ",
+            "          id  a\n",
+            "table     1   ",
             count,
-            "change  1   (no row)\n",
+            "expected  1   (no row)\n",
         )?;
         let (none, rows, come): (&[u8], _, _) = (b"id,a\n", rows.as_bytes(), come.as_bytes());
         expect(compared(alloc, GROUPED, Format::Csv, none, rows), 1, come)?;

@@ -153,7 +153,7 @@ fn put_misfit<'a>(
         let wants = change.as_ref().left();
         if has != wants {
             versions.push(no_fit("table", key, has))?;
-            versions.push(no_fit("change", key, wants))?;
+            versions.push(no_fit("expected", key, wants))?;
         }
     }
     Ok(())
