@@ -25,12 +25,23 @@ def merged_cell(base, ours, theirs, tolerance):
     return theirs if is_same(base, ours, tolerance) else None
 
 
+def loses(rest, gone, rows):
+    """Whether one of these rows has a cell in a column that goes."""
+    return any(dict(zip(rest, row))[name] for row in rows or [] for name in gone)
+
+
+def said_of_lost(rest, gone, lost):
+    """What is said above rows that would lose cells: the columns of these."""
+    names = [name for name in rest if name in gone and any(loses(rest, [name], rows) for _, _, rows in lost)]
+    return [f"column {named(name)} goes, and has cells in these rows" for name in names]
+
+
 class Merges:
     """Checks of a round, of merges."""
 
     def check_merge(self, by_cell=False, tolerance=None):
-        """The merged table, or the rows in conflict in each form, or the table with these between marks. Rows are merged whole or by cell,
-        and numbers compared by value where there is a tolerance."""
+        """The merged table, or the rows in conflict in each form, or the table with these between marks, or as a side has them. Rows are
+        merged whole or by cell, and numbers compared by value where there is a tolerance."""
         columns, key, _ = self.columns_of(self.base, self.ours, self.theirs)
         written = self.merged_columns(self.base.columns, self.ours.columns, self.theirs.columns)
         gone = [it for it in columns if it not in written]
@@ -44,12 +55,12 @@ class Merges:
             rows.append((it, is_merged, found))
             if not is_merged:
                 stuck += [(word, it, version) for word, version in zip(("base", "ours", "theirs"), found)]
-            elif any(dict(zip(rest, row))[name] for row in found or [] for name in gone):
+            elif loses(rest, gone, found):
                 lost.append(("merged", it, found))
         words = ["merge", "base", "ours", "theirs", *["--by-cell"] * by_cell, *self.numbers(tolerance)]
+        self.check_preferred(words, written, gone, key, rest, rows)
         if stuck or lost:
-            said = [name for name in rest if name in gone and any(dict(zip(rest, row))[name] for it in lost for row in it[2])]
-            said = [f"column {named(name)} goes, and has cells in these rows" for name in said]
+            said = said_of_lost(rest, gone, lost)
             why = {"base": "conflict", "ours": "conflict", "theirs": "conflict", "merged": "lost"}
             for form in self.some_of(FORMS[:2] if by_cell and self.is_large else FORMS):
                 self.expect_stopped(words, form, said, key, rest, [*stuck, *lost], why)
@@ -59,6 +70,19 @@ class Merges:
             return self.expect("merge with marks", self.ask(*words, "--conflicts", "marks"), 1, written, lines, "ours", MARKS)
         lines = [self.line(written, (key, it), (rest, row)) for it, _, found in rows for row in found or []]
         self.expect("merge", self.ask(*words, *self.rng.choice([[], ["--conflicts", "marks"]])), 0, written, lines, "ours")
+
+    def check_preferred(self, words, written, gone, key, rest, rows):
+        """The merged table, with each row in conflict as a side has it, or with none where the side has none; or the rows with cells that are
+        lost."""
+        side, place = self.rng.choice([("ours", 1), ("theirs", 2)])
+        words = [*words, f"--prefer={side}"]
+        settled = [(it, found if is_merged else found[place]) for it, is_merged, found in rows]
+        lost = [("merged", it, found) for it, found in settled if loses(rest, gone, found)]
+        if lost:
+            form = self.rng.choice(FORMS)
+            return self.expect_stopped(words, form, said_of_lost(rest, gone, lost), key, rest, lost, {"merged": "lost"})
+        lines = [self.line(written, (key, it), (rest, row)) for it, found in settled for row in found or []]
+        self.expect(f"merge that prefers {side}", self.ask(*words), 0, written, lines, "ours")
 
     def marked_lines(self, written, key, rest, rows):
         """The lines of a table in which rows in conflict stand between marks, with a text for a mark."""

@@ -30,6 +30,7 @@ pub fn group_of(option: &str) -> Option<&'static str> {
         | "width"
         | "summary"
         | "conflicts"
+        | "prefer"
         | "prefix"
         | "side"
         | "quiet"

@@ -656,11 +656,16 @@ const LOOKUP_KIND: OneOf = OneOf {
     help: "Which rows: all of the left table, those that are found, or those that are not, with their cells alone",
 };
 
+// An option of one of these words, of which the first one stands where it is not given.
 fn choice<'a>(alloc: Global, of: OneOf) -> Arg<'a> {
+    one_of(alloc, of).default_value(of.words.first().copied().unwrap_or(""))
+}
+
+// An option of one of these words, if it is given.
+fn one_of<'a>(alloc: Global, of: OneOf) -> Arg<'a> {
     grouped(Arg::new(alloc, of.name).long(of.name), of.name)
         .value_name(of.shown)
         .value_parser(of.words)
-        .default_value(of.words.first().copied().unwrap_or(""))
         .help(of.help)
 }
 

@@ -1,9 +1,9 @@
 //! The options of a merge.
 
 use crate::numbers::tolerance_of;
-use crate::{OneOf, ParseError, choice, flag, put};
+use crate::{OneOf, ParseError, choice, flag, one_of, put};
 use clap::{Arg, ArgMatches};
-use keyed_files::{Conflicts, Merging, Unit};
+use keyed_files::{Conflicts, Merging, Side, Unit};
 use std::alloc::{AllocError, Global};
 
 const CONFLICTS: OneOf = OneOf {
@@ -11,6 +11,13 @@ const CONFLICTS: OneOf = OneOf {
     shown: "report|marks",
     words: &["report", "marks"],
     help: "Rows in conflict alone, or the merged table with these between marks, as git writes them",
+};
+
+const PREFER: OneOf = OneOf {
+    name: "prefer",
+    shown: "ours|theirs",
+    words: &["ours", "theirs"],
+    help: "Rows in conflict as this side has them; with --by-cell its cells, where these are in conflict",
 };
 
 /// How a merge is asked for.
@@ -25,12 +32,21 @@ pub fn merging_of<'a>(matches: &ArgMatches<'a>) -> Result<Merging<'a>, ParseErro
         } else {
             Unit::Row
         },
-        conflicts: match matches.get_str("conflicts") {
+        conflicts: conflicts_of(matches),
+        tolerance: tolerance_of(matches)?,
+    })
+}
+
+// What is written where rows are in conflict.
+fn conflicts_of(matches: &ArgMatches<'_>) -> Conflicts {
+    match matches.get_str("prefer") {
+        Some("ours") => Conflicts::Prefer(Side::Ours),
+        Some(_) => Conflicts::Prefer(Side::Theirs),
+        None => match matches.get_str("conflicts") {
             Some("marks") => Conflicts::Marks,
             _ => Conflicts::Report,
         },
-        tolerance: tolerance_of(matches)?,
-    })
+    }
 }
 
 /// Puts the options of a merge after others.
@@ -47,5 +63,6 @@ pub fn put_merging(alloc: Global, args: &mut Vec<Arg<'_>>) -> Result<(), AllocEr
             "Each cell of a row is merged as a row of its own",
         ),
     )?;
-    put(args, choice(alloc, CONFLICTS))
+    put(args, choice(alloc, CONFLICTS))?;
+    put(args, one_of(alloc, PREFER).conflicts_with("conflicts")?)
 }
