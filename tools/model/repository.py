@@ -20,6 +20,7 @@ class Repository:
             **{f"GIT_{who}_{what}": value for who in ("AUTHOR", "COMMITTER") for what, value in (("NAME", "a"), ("EMAIL", "a@b"))},
         }
         self.git("init", "--quiet", "--initial-branch=main")
+        self.options = options
         self.set_up(*options)
 
     def set_up(self, *options):

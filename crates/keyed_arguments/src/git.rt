@@ -2,16 +2,15 @@
 
 use crate::form::files_of;
 use crate::help::example_of;
+use crate::numbers::{put_numbers, tolerance_of};
 use crate::terminal::{Terminal, width_of, width_option};
-use crate::texts::Text;
-use crate::view::{all_columns, colours_of, columns_shown};
+use crate::view::{all_columns, colours_of, columns_shown, picked_of, put_ignore};
 use crate::{
     COLOR, FLAGS, KEY, ParseError, TEXTS, choice, file_of, flag, put, put_texts, settings_of,
 };
 use clap::{Arg, ArgMatches, Command};
 use keyed_files::{
-    Asked, Comparing, Format, GitDiff, GitMerge, GitSetup, Look, Merging, Picked, Request,
-    RowsShown, Settings, View,
+    Asked, Comparing, Format, GitDiff, GitMerge, GitSetup, Look, Merging, Request, Settings, View,
 };
 use std::alloc::{AllocError, Global};
 
@@ -56,11 +55,17 @@ static COMMANDS: [GitCommand; 3] = [
     ),
     (
         "git-setup",
-        "Prints the commands that tell git of both, with these options.",
+        "Prints the commands that tell git of both, with these options, for all tables or some paths.",
         0,
-        &[],
+        &[(
+            PATTERN,
+            "The paths that these options are for, as in .gitattributes [default: all .csv and .tsv files]",
+        )],
     ),
 ];
+
+// The patterns of paths, of which there may be several.
+const PATTERN: &str = "PATTERN";
 
 /// Puts the commands for git after others.
 ///
@@ -82,7 +87,11 @@ fn git_command<'a>(alloc: Global, command: &GitCommand) -> Result<Command<'a>, A
     let mut args = Vec::new(alloc);
     for (place, (word, help)) in words.iter().enumerate() {
         let arg = Arg::new(alloc, word).required(place < required).help(help);
-        put(&mut args, arg)?;
+        if *word == PATTERN {
+            put(&mut args, arg.num_args(0..))?;
+        } else {
+            put(&mut args, arg)?;
+        }
     }
     if name == "git-diff" {
         put(&mut args, choice(alloc, COLOR))?;
@@ -95,6 +104,10 @@ fn git_command<'a>(alloc: Global, command: &GitCommand) -> Result<Command<'a>, A
         if *name != "keep-order" {
             put(&mut args, flag(alloc, name, help))?;
         }
+    }
+    put_numbers(alloc, &mut args)?;
+    if name != "git-merge" {
+        put_ignore(alloc, &mut args)?;
     }
     Command::new(alloc, name)
         .about(about)
@@ -116,44 +129,72 @@ pub fn git_asked<'a>(
     match name {
         "git-diff" => Ok(Some(diff_asked(alloc, matches, terminal)?)),
         "git-merge" => Ok(Some(merge_asked(alloc, matches)?)),
-        "git-setup" => {
-            settings_in_order(alloc, matches, merge_of_path("-", Merging::AS_GIT))?;
-            let setup = GitSetup {
-                diff: options_of(alloc, matches)?,
-                merge: options_of(alloc, matches)?,
-                patterns: Vec::new(alloc),
-            };
-            Ok(Some(Asked::GitSetup { setup }))
-        }
+        "git-setup" => Ok(Some(Asked::GitSetup {
+            setup: setup_asked(alloc, matches)?,
+        })),
         _ => Ok(None),
     }
 }
 
-// The options that both commands take and that are given, as words of a command line.
+// How git is told of the other two, whose options are those that they take.
+fn setup_asked<'a>(alloc: Global, matches: &ArgMatches<'a>) -> Result<GitSetup<'a>, ParseError> {
+    let merging = merge_of_path("-", merging_by(matches)?);
+    settings_in_order(alloc, matches, merging)?;
+    comparing_by(alloc, matches, Format::Csv)?;
+    let merge = options_of(alloc, matches)?;
+    let mut diff = options_of(alloc, matches)?;
+    put_text(alloc, &mut diff, matches, "ignore")?;
+    let mut patterns = Vec::new(alloc);
+    for pattern in matches.get_strs(PATTERN).unwrap_or(&[]) {
+        put(&mut patterns, *pattern)?;
+    }
+    Ok(GitSetup {
+        diff,
+        merge,
+        patterns,
+    })
+}
+
+// The options that are given, as words of a command line, without that of comparing alone.
 fn options_of(alloc: Global, matches: &ArgMatches<'_>) -> Result<Vec<String>, AllocError> {
     let mut words = Vec::new(alloc);
-    put_given(alloc, &mut words, matches, &KEY)?;
-    put_given(alloc, &mut words, matches, &TEXTS)?;
-    for (name, _) in &FLAGS {
-        if matches.get_flag(name) {
-            words.push(format!(in alloc; "--{name}")?)?;
-        }
+    for (name, _, _) in &KEY {
+        put_text(alloc, &mut words, matches, name)?;
     }
+    for (name, _, _) in &TEXTS {
+        put_text(alloc, &mut words, matches, name)?;
+    }
+    for (name, _) in &FLAGS {
+        put_flag(alloc, &mut words, matches, name)?;
+    }
+    put_flag(alloc, &mut words, matches, "numbers")?;
+    put_text(alloc, &mut words, matches, "tolerance")?;
     Ok(words)
 }
 
-// Puts those of these options that are given, each with its text, after others.
-fn put_given(
+// Puts an option and its text after others, if it is given.
+fn put_text(
     alloc: Global,
     words: &mut Vec<String>,
     matches: &ArgMatches<'_>,
-    texts: &'static [Text],
+    name: &str,
 ) -> Result<(), AllocError> {
-    for (name, _, _) in texts {
-        if let Some(text) = matches.get_str(name) {
-            words.push(format!(in alloc; "--{name}")?)?;
-            words.push(String::from_str(alloc, text)?)?;
-        }
+    if let Some(text) = matches.get_str(name) {
+        words.push(format!(in alloc; "--{name}")?)?;
+        words.push(String::from_str(alloc, text)?)?;
+    }
+    Ok(())
+}
+
+// Puts an option that takes no text after others, if it is given.
+fn put_flag(
+    alloc: Global,
+    words: &mut Vec<String>,
+    matches: &ArgMatches<'_>,
+    name: &str,
+) -> Result<(), AllocError> {
+    if matches.get_flag(name) {
+        words.push(format!(in alloc; "--{name}")?)?;
     }
     Ok(())
 }
@@ -172,29 +213,46 @@ fn diff_asked<'a>(
                 old,
                 new,
             };
-            versions_asked(alloc, matches, shown_to_git(matches, terminal)?, diff)
+            let how = shown_to_git(alloc, matches, terminal)?;
+            versions_asked(alloc, matches, how, diff)
         }
         _ => Ok(Asked::GitUnmerged { path }),
     }
 }
 
-// How git shows a table that changed.
-fn shown_to_git(
-    matches: &ArgMatches<'_>,
+// How two versions are compared, of which git shows all rows that changed.
+fn comparing_by<'a>(
+    alloc: Global,
+    matches: &ArgMatches<'a>,
+    format: Format,
+) -> Result<Comparing<'a>, ParseError> {
+    Ok(Comparing {
+        format,
+        view: View {
+            columns: picked_of(alloc, matches)?,
+            ..View::WHOLE
+        },
+        tolerance: tolerance_of(matches)?,
+    })
+}
+
+// The same, and how they are shown.
+fn shown_to_git<'a>(
+    alloc: Global,
+    matches: &ArgMatches<'a>,
     terminal: Terminal,
-) -> Result<Comparing<'static>, ParseError> {
+) -> Result<Comparing<'a>, ParseError> {
     let look = Look::Table {
         colours: colours_of(matches, terminal.colours),
     };
+    let how = comparing_by(alloc, matches, Format::Report(look))?;
     Ok(Comparing {
-        format: Format::Report(look),
         view: View {
-            columns: Picked::All,
             shown: columns_shown(matches),
-            rows: RowsShown::All,
             width: width_of(matches, terminal)?,
+            ..how.view
         },
-        tolerance: None,
+        ..how
     })
 }
 
@@ -219,7 +277,7 @@ fn versions_asked<'a>(
 fn merge_asked<'a>(alloc: Global, matches: &ArgMatches<'a>) -> Result<Asked<'a>, ParseError> {
     let ours = file_of(matches, "OURS");
     let path = matches.get_str("PATH");
-    let how = Merging::AS_GIT;
+    let how = merging_by(matches)?;
     let named = merge_of_path(path.unwrap_or(ours), how);
     Ok(Asked::GitMerge {
         settings: settings_in_order(alloc, matches, named)?,
@@ -230,6 +288,14 @@ fn merge_asked<'a>(alloc: Global, matches: &ArgMatches<'a>) -> Result<Asked<'a>,
             theirs: file_of(matches, "THEIRS"),
             path,
         },
+    })
+}
+
+// How versions are merged: as git merges texts, and perhaps with numbers by value.
+fn merging_by<'a>(matches: &ArgMatches<'a>) -> Result<Merging<'a>, ParseError> {
+    Ok(Merging {
+        tolerance: tolerance_of(matches)?,
+        ..Merging::AS_GIT
     })
 }
 

@@ -51,7 +51,7 @@ pub fn example_of(command: &str) -> &'static str {
         "lookup" => "Example: keyed lookup orders.csv customers.csv -k customer_id=id",
         "overlay" => "Example: keyed overlay site.csv user.csv --cells",
         "cut" => "Example: keyed cut old.csv new.csv --into parts --memory 500M",
-        "git-setup" => "Example: keyed git-setup -k id",
+        "git-setup" => "Example: keyed git-setup -k id 'prices*.csv' | sh",
         _ => "git calls this command: see keyed git-setup --help",
     }
 }

@@ -63,6 +63,22 @@ pub fn columns_shown(matches: &ArgMatches<'_>) -> ColumnsShown {
     }
 }
 
+/// Puts the option that says which columns are left out after others.
+///
+/// # Errors
+///
+/// Returns `AllocError` if a request for memory was refused.
+pub fn put_ignore(alloc: Global, args: &mut Vec<Arg<'_>>) -> Result<(), AllocError> {
+    for (name, value, help) in &PARTS {
+        let part = text(alloc, name, value, help);
+        match *name {
+            "ignore" => put(args, part)?,
+            _ => {}
+        }
+    }
+    Ok(())
+}
+
 /// How two tables are compared. Where the colours and the width are left open, they are those of the terminal.
 ///
 /// # Errors
@@ -179,8 +195,12 @@ pub fn colours_of(matches: &ArgMatches<'_>, terminal: Colours) -> Colours {
     }
 }
 
-// The columns that are compared.
-fn picked_of<'a>(alloc: Global, matches: &ArgMatches<'a>) -> Result<Picked<'a>, ParseError> {
+/// The columns that are compared.
+///
+/// # Errors
+///
+/// Returns `ParseError::Names` if what is given is no names of columns, and `ParseError::Value` if it gives two names to one.
+pub fn picked_of<'a>(alloc: Global, matches: &ArgMatches<'a>) -> Result<Picked<'a>, ParseError> {
     if let Some(names) = matches.get_str("only") {
         check_names(alloc, "only", names)?;
         return Ok(Picked::Only(names));

@@ -73,6 +73,7 @@ fn is_of_text(reason: &Reason) -> bool {
         Reason::NoText(_)
         | Reason::Quotes { .. }
         | Reason::NoColumn { .. }
+        | Reason::NeitherHas(_)
         | Reason::RepeatedColumn { .. }
         | Reason::NamedTwice { .. }
         | Reason::CellCount { .. }
@@ -186,8 +187,8 @@ fn version_of(merge: GitMerge<'_>, file: &str) -> Option<&'static str> {
     }
 }
 
-/// Writes the commands of a shell that tell git of the two others, with these options for them. They can be run again, which changes
-/// nothing. The status is 0.
+/// Writes the commands of a shell that tell git of the two others, with these options for them, for all tables or for those whose paths match
+/// a pattern. They can be run again, which changes nothing. The status is 0.
 ///
 /// # Errors
 ///
@@ -202,18 +203,56 @@ pub fn write_git_setup<'a, R: AllocGlobal, W: Write>(
     Ok(0)
 }
 
-// Puts each line after those that `.gitattributes` has, unless it is there, and ends the last of those where nothing ends it.
-const ATTRIBUTES: &str =
-    r#"for line in '*.csv diff=keyed merge=keyed' '*.tsv diff=keyed merge=keyed'
+// Puts lines for all tables into `.gitattributes`, each before those for the paths of a pattern, which win over it; unless it is there.
+const ALL_TABLES: &str = r#"before='/ diff=keyed-/ && !done { print ENVIRON["line"]; done = 1 }
+    { print }
+    END { if (!done) print ENVIRON["line"] }'
+for line in '*.csv diff=keyed merge=keyed' '*.tsv diff=keyed merge=keyed'
 do
-    grep -qsxF "$line" .gitattributes ||
-        { test -z "$(tail -c 1 .gitattributes)" || echo; echo "$line"; } >>.gitattributes
+    grep -qsxF "$line" .gitattributes || {
+        lines=$(cat .gitattributes 2>/dev/null | line=$line awk "$before")
+        printf '%s\n' "$lines" >.gitattributes
+    }
 done
 "#;
 
-// The words that git puts after the options stand after `--`, so that the name of a file may begin as an option does. Where both branches
-// were merged before, git merges their bases first: a conflict there takes one side whole, since marks in it would be no table.
+// Puts each line after those that `.gitattributes` has, unless it is there, and ends the last of those where nothing ends it.
+const AFTER_OTHERS: &str = r#"
+do
+    grep -qsxFe "$line" .gitattributes ||
+        { test -z "$(tail -c 1 .gitattributes)" || echo; printf '%s\n' "$line"; } >>.gitattributes
+done
+"#;
+
+// What tells git of the commands for all tables, or for those of each pattern, which has a driver of its own.
 fn setup_text(alloc: Global, setup: &GitSetup<'_>) -> Result<String, AllocError> {
+    let mut text = String::new(alloc);
+    if setup.patterns.is_empty() {
+        put_driver(alloc, &mut text, setup, "keyed")?;
+        text.push_str(ALL_TABLES)?;
+        return Ok(text);
+    }
+    let mut lines = String::new(alloc);
+    for pattern in &setup.patterns {
+        let driver = driver_of(alloc, pattern)?;
+        put_driver(alloc, &mut text, setup, &driver)?;
+        let pattern = pattern_of(alloc, pattern)?;
+        let line = format!(in alloc; "{pattern} diff={driver} merge={driver}")?;
+        write!(lines, " {}", quoted(alloc, &line)?)?;
+    }
+    write!(text, "for line in{lines}{AFTER_OTHERS}")?;
+    Ok(text)
+}
+
+// Puts the lines that tell git of a driver. The words that git puts after the options stand after `--`, so that the name of a file may begin
+// as an option does. Where both branches were merged before, git merges their bases first: a conflict there takes one side whole, since
+// marks in it would be no table.
+fn put_driver(
+    alloc: Global,
+    text: &mut String,
+    setup: &GitSetup<'_>,
+    driver: &str,
+) -> Result<(), AllocError> {
     let words = words_of(alloc, &setup.diff)?;
     let diff = quoted(alloc, &format!(in alloc; "keyed git-diff{words} --")?)?;
     let words = words_of(alloc, &setup.merge)?;
@@ -221,12 +260,51 @@ fn setup_text(alloc: Global, setup: &GitSetup<'_>) -> Result<String, AllocError>
         alloc,
         &format!(in alloc; "keyed git-merge{words} -- %O %A %B %P")?,
     )?;
+    let name = quoted(alloc, &format!(in alloc; "diff.{driver}.command")?)?;
+    writeln!(text, "git config {name} {diff}")?;
+    let name = quoted(alloc, &format!(in alloc; "merge.{driver}.driver")?)?;
+    writeln!(text, "git config {name} {merge}")?;
+    let name = quoted(alloc, &format!(in alloc; "merge.{driver}.recursive")?)?;
+    writeln!(text, "git config {name} binary")
+}
+
+// The name of the driver for a pattern, another one for each pattern. An attribute's value ends at a blank.
+fn driver_of(alloc: Global, pattern: &str) -> Result<String, AllocError> {
+    let mut name = String::from_str(alloc, "keyed-")?;
+    for character in pattern.chars() {
+        if is_blank(character) || character == '%' {
+            write!(name, "%{:02x}", u32::from(character))?;
+        } else {
+            name.push(character)?;
+        }
+    }
+    Ok(name)
+}
+
+// A pattern as a line of attributes begins with it: as a text of C where it would else end early, or mean something else.
+fn pattern_of(alloc: Global, pattern: &str) -> Result<String, AllocError> {
     let mut text = String::new(alloc);
-    writeln!(text, "git config diff.keyed.command {diff}")?;
-    writeln!(text, "git config merge.keyed.driver {merge}")?;
-    text.push_str("git config merge.keyed.recursive binary\n")?;
-    text.push_str(ATTRIBUTES)?;
+    if !pattern.is_empty() && !pattern.starts_with(['"', '#']) && !pattern.chars().any(is_blank) {
+        text.push_str(pattern)?;
+        return Ok(text);
+    }
+    text.push('"')?;
+    for character in pattern.chars() {
+        match character {
+            '"' | '\\' => write!(text, "\\{character}")?,
+            _ if is_blank(character) && character != ' ' => {
+                write!(text, "\\{:03o}", u32::from(character))?;
+            }
+            _ => text.push(character)?,
+        }
+    }
+    text.push('"')?;
     Ok(text)
+}
+
+// Whether a character is a space or a control character, which may end a word in the files of git.
+fn is_blank(character: char) -> bool {
+    character == ' ' || character.is_ascii_control()
 }
 
 // Options as a shell reads them, each after a space.
