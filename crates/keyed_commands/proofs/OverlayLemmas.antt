@@ -131,12 +131,12 @@ module _ {R : Type 0} (rem : R → Option (List ℕ)) where
     known_keys form header source P (Some text) begun of = of form text header begun
 
     holds_if : (P : Type 0) (m : Option (List ℕ)) → IsSome m → IfSome m (λ text. P) → P
-    holds_if P None some h = absurd some
+    holds_if P None some h = absurd (cc some)
     holds_if P (Some text) some h = h
 
-    both_known : {P Q : List ℕ → Type 0} (m : Option (List ℕ)) → IfSome m P → IfSome m Q → IfSome m (λ t. P t × Q t)
-    both_known None p q = tt
-    both_known (Some t) p q = (p, q)
+    both_known : (P Q : List ℕ → Type 0) (m : Option (List ℕ)) → IfSome m P → IfSome m Q → IfSome m (λ t. P t × Q t)
+    both_known P Q None p q = tt
+    both_known P Q (Some t) p q = (p, q)
 
     -- what the texts of streams that are opened and read say
     says_all : {A : Type 0} (key : Option A) (streams : List (Stream R)) (opened : List (Opened (Watched R))) (tables : List TableRows) (before after : Option Keys)
@@ -165,7 +165,7 @@ module _ {R : Type 0} (rem : R → Option (List ℕ)) where
             known_says text (λ t begun.
                 let says = read.0 form Rows t header begun.0 in
                 (says, spelled-of (watched_left rem) form Rows t header source.source.value says.1.0 says.1.1 begun.0, begun.1))
-                (both_known text layers.0.2 keyed.1),
+                (both_known _ _ text layers.0.2 keyed.1),
             rest.4,
           ),
           (λ spells. known_says text (λ t begun. subst (λ names. IsSpelledAs names spelled columns) begun.named spells) layers.0.2),

@@ -1,6 +1,5 @@
 //! Rows in conflict that are settled by a side of a merge: they stand as it has them.
 ghost use Rattle.std.specs.Prelude.{◌≡◌, IfOk};
-ghost use Rattle.eob_both.specs.Places.{item_left, item_right, right_place};
 ghost use Rattle.keyed_commands.specs.Preferred.{row_by_side, rows_by_side, version_of};
 
 use crate::by_number::{ours_of, theirs_of};
