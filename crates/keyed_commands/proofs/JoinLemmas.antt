@@ -1,6 +1,6 @@
 -- Rows of a join as they are put, and from the tables that are joined to their texts.
 use Rattle.std.proofs.Common.{◌≡◌, ◌∙◌, ℕ, Bool, true, false, List, [], ◌∷◌, ◌++◌, Option, refl, sym, ap, subst}
-use Rattle.std.specs.Prelude.{◌&&◌, IfSome, option_map, if◌then◌else◌}
+use Rattle.std.specs.Prelude.{◌&&◌, option_map, if◌then◌else◌}
 use Rattle.keyed_files.specs.AnswerForm.{is_written}
 use Rattle.keyed_files.specs.JoinedNames.{joined_names}
 use Rattle.keyed_files.specs.JoinedRows.{join_heading, joined_rows, left_of, right_of}

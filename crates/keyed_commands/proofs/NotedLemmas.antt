@@ -1,5 +1,5 @@
 -- Keys that are noted one after the other, from the rows that are read to the keys of a text.
-use Rattle.std.proofs.Common.{◌≡◌, ◌∙◌, ◌++◌, ℕ, Bool, List, [], ◌∷◌, Option, None, Some, map, nat_eq, refl, sym, ap, ap₂, subst, append_assoc}
+use Rattle.std.proofs.Common.{◌≡◌, ◌∙◌, ◌++◌, ℕ, Bool, List, [], ◌∷◌, Option, None, Some, map, nat_eq, refl, sym, ap, append_assoc}
 use Rattle.std.specs.Prelude.{Err, Ok, OnOk, Result, option_map}
 use Rattle.std.specs.Cmp.Lexicographic.{pointwise}
 use Rattle.std.proofs.lemmas.List.{append-nil, map-append}
@@ -17,7 +17,7 @@ use Rattle.keyed_tables.specs.Arranged.{IsNoted}
 use Rattle.keyed_tables.specs.Placed.{placed_noted}
 use Rattle.keyed_commands.specs.Answers.{key_cmp}
 use Rattle.keyed_commands.specs.ChangesRead.{PartsChanges, signed_key, signed_parts, signed_under}
-use Rattle.keyed_commands.specs.FileOrder.{AreKeysOfBoth, Keys, NotesBoth, NotesRows, OfKeys, begun_keys, noted_keys, noted_with, placed_with}
+use Rattle.keyed_commands.specs.FileOrder.{AreKeysOfBoth, Keys, NotesBoth, NotesRows, OfKeys, begun_keys, noted_with, placed_with}
 use Rattle.keyed_commands.proofs.AnswerLemmas.{key_exact}
 
 -- no key is noted, one is, and more are

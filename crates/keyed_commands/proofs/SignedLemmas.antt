@@ -1,12 +1,12 @@
 -- The rows of changes that are read of a text, one after the other, and the changes that they are.
-use Rattle.std.proofs.Common.{◌≡◌, ◌∙◌, ℕ, List, [], ◌∷◌, ◌++◌, Option, Some, None, Bool, true, false, map, refl, sym, ap, ap₂, subst, append_assoc}
+use Rattle.std.proofs.Common.{◌≡◌, ◌∙◌, ℕ, List, [], ◌∷◌, ◌++◌, Option, Bool, true, false, map, refl, sym, ap, ap₂, subst, append_assoc}
 use Rattle.std.proofs.lemmas.Grind.{flat_map-append}
 use Rattle.std.proofs.lemmas.List.{append-nil, map-append}
 use Rattle.std.proofs.lemmas.Simd.{map-map}
 use Rattle.csv.specs.Records.{field_at}
 use Rattle.keyed_files.specs.Headers.{ArePlaces, place_under}
 use Rattle.keyed_files.specs.Picked.{cell_at}
-use Rattle.keyed_files.specs.Reading.{GivesRecord, HasGiven, HeadedBy, IsHeader, IsSigned, PlacesOf, last_record, picked, row_under}
+use Rattle.keyed_files.specs.Reading.{GivesRecord, HasGiven, IsHeader, IsSigned, PlacesOf, last_record}
 use Rattle.keyed_files.specs.Writing.{comment_of, delimiter_of}
 use Rattle.keyed_files.specs.declared.columns.Columns.{Columns}
 use Rattle.keyed_files.specs.declared.request.Form.{Form}

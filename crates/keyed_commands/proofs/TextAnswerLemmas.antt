@@ -1,5 +1,5 @@
 -- From what `apply` and `merge` answer of sources to what they answer of texts.
-use Rattle.std.proofs.Common.{◌≡◌, ℕ, Bool, false, List, Option, None, Some, refl, subst, sym}
+use Rattle.std.proofs.Common.{◌≡◌, ℕ, false, List, Option, None, Some, refl, subst, sym}
 use Rattle.std.specs.Prelude.{IfSome}
 use Rattle.keyed_files.specs.AnswerForm.{in_style}
 use Rattle.keyed_files.specs.Gone.{GoneOf, IsGoneRead}
@@ -16,11 +16,11 @@ use Rattle.keyed_files.specs.declared.columns.Columns.{Columns}
 use Rattle.keyed_files.specs.declared.request.Form.{Form}
 use Rattle.keyed_files.specs.declared.request.Settings.{Settings}
 use Rattle.keyed_files.specs.declared.source.Content.TheVariants.{Changes, Rows}
-use Rattle.keyed_commands.specs.AppliedTexts.{AnswersApplied, AppliedIn, AppliesSources, AppliesStreams, AppliesTexts}
+use Rattle.keyed_commands.specs.AppliedTexts.{AnswersApplied, AppliesSources, AppliesStreams, AppliesTexts}
 use Rattle.keyed_tables.specs.Arranged.{noted}
 use Rattle.keyed_commands.specs.ChangesRead.{SaysChanges}
 use Rattle.keyed_commands.specs.FileOrder.{begun_keys, noted_with, placed_with}
-use Rattle.keyed_commands.specs.MergedTexts.{AnswersBy, MergedIn, MergesSources, MergesStreams, MergesTexts}
+use Rattle.keyed_commands.specs.MergedTexts.{AnswersBy, MergesSources, MergesStreams, MergesTexts}
 use Rattle.keyed_commands.specs.TablesRead.{IsUnordered, ReadsTable, SaysTable}
 use Rattle.keyed_commands.specs.declared.answer.Answer.{Answer}
 use Rattle.keyed_commands.specs.declared.job.Job.{Job}

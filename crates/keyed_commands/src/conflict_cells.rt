@@ -100,8 +100,9 @@ fn rows_told(
     ours: Option<&Cells>,
     theirs: Option<&Cells>,
 ) -> Result<Option<Versions<Group>>, AllocError>
-    ensures { IfOk result (λ told. told ≡ told_versions tolerance.entry (option_map (λ row. row.now) base.entry)
-        (option_map (λ row. row.now) ours.entry) (option_map (λ row. row.now) theirs.entry)) }
+    ensures { IfOk result (λ told. told ≡ told_versions tolerance.entry
+        (option_map (λ row. row.now) base.entry) (option_map (λ row. row.now) ours.entry)
+        (option_map (λ row. row.now) theirs.entry)) }
 {
     match base {
         Some(base) => match ours {

@@ -1,4 +1,4 @@
-use Rattle.std.proofs.Common.{◌≡◌, ◌∙◌, None, refl}
+use Rattle.std.proofs.Common.{◌∙◌, refl}
 use Rattle.keyed_files.proofs.TableLemmas.{reads-all, reads-and, reads-none}
 use Rattle.keyed_tables.specs.Arranged.{noted}
 use Rattle.keyed_commands.proofs.NotedLemmas.{notes-and, notes-none}

@@ -1,4 +1,4 @@
-use Rattle.std.proofs.Common.{◌≡◌, ◌∙◌, None, refl}
+use Rattle.std.proofs.Common.{◌∙◌, refl}
 use Rattle.keyed_tables.specs.Arranged.{noted}
 use Rattle.keyed_commands.proofs.SignedLemmas.{parts-all, parts-and, parts-none}
 use Rattle.keyed_commands.proofs.job.read_signed_rest.Goals as goal

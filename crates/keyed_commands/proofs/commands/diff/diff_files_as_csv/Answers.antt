@@ -1,4 +1,4 @@
-use Rattle.std.proofs.Common.{◌≡◌, ◌∙◌, ap, ap₂, subst}
+use Rattle.std.proofs.Common.{◌∙◌, ap, ap₂, subst}
 use Rattle.std.specs.Prelude.{is_none}
 use Rattle.std.proofs.lemmas.Result.{IfOk-weaker}
 use Rattle.keyed_files.specs.ChangedColumns.{marked_names}
