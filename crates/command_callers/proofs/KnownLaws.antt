@@ -11,33 +11,36 @@ use Rattle.keyed_files.specs.ColumnNames.{place_under_key}
 use Rattle.keyed_files.specs.Going.{names_going}
 use Rattle.keyed_files.specs.Headers.{names_said}
 use Rattle.keyed_files.specs.Names.{repeats}
+use Rattle.keyed_files.specs.Reading.{HeadedBy, behind_header}
 use Rattle.keyed_files.specs.Rows.{change_name}
 use Rattle.keyed_files.specs.Writing.{comment_of, delimiter_of}
+use Rattle.keyed_files.specs.declared.columns.Columns.{Columns}
 use Rattle.keyed_files.specs.declared.columns.Place.{Place}
 use Rattle.keyed_files.specs.declared.merging.Unit.TheVariants as unit
 use Rattle.keyed_files.specs.declared.request.Form.{Form}
 use Rattle.keyed_files.specs.declared.request.Settings.{Settings}
-use Rattle.keyed_files.specs.declared.source.Content.TheVariants.{Changes}
+use Rattle.keyed_files.specs.declared.source.Content.TheVariants.{Changes, Rows}
 use Rattle.keyed_tables.specs.Gathered.{alone}
 use Rattle.keyed_text.specs.Texts.{AreRows, BeginsComments, PartsCells, ReadsAs}
 use Rattle.keyed_text.proofs.TextLemmas.{rows-once}
-use Rattle.keyed_commands.specs.Answers.{IsTableText, TableRows, key_cmp}
+use Rattle.keyed_commands.specs.Answers.{IsTableText, TableChanges, TableRows, key_cmp, status_of}
 use Rattle.keyed_commands.specs.AppliedTexts.{AppliesTexts}
 use Rattle.keyed_commands.specs.ChangeRows.{changes_rows}
+use Rattle.keyed_commands.specs.ChangesRead.{PairsRows, SaysChanges, come_rows, gone_rows, signed_under}
 use Rattle.keyed_commands.specs.ComeOut.{AlikePlaces, AlikeRows}
 use Rattle.keyed_commands.specs.Laws.{DiffReadsLaw}
 use Rattle.keyed_commands.specs.MergedTexts.{MergesTexts}
 use Rattle.keyed_commands.specs.OneSide.{KeepsOneSide, OneSideLaw}
-use Rattle.keyed_commands.specs.TablesRead.{DiffsTexts}
-use Rattle.keyed_commands.specs.TextLaws.{AnswersTableOf, DiffedTextLaw, NamesOnce}
+use Rattle.keyed_commands.specs.TablesRead.{DiffsTexts, SaysTable, headers_differ}
+use Rattle.keyed_commands.specs.TextLaws.{AnswersTableOf, DiffSaysLaw, DiffedTextLaw, NamesOnce, OneTableLaw}
 use Rattle.keyed_commands.specs.declared.answer.Answer.{Answer}
 use Rattle.keyed_commands.specs.declared.answer.Outcome.TheVariants.{Made}
 use Rattle.keyed_commands.proofs.AnswerLemmas.{key_exact, key_total}
-use Rattle.command_callers.specs.Answered.{IsInStyle}
+use Rattle.command_callers.specs.Answered.{IsInStyle, SaysOnlyChanges}
 use Rattle.command_callers.proofs.KnownApply as apply
 use Rattle.command_callers.proofs.KnownDiff as diff
 use Rattle.command_callers.proofs.KnownMerge as merge
-use Rattle.command_callers.proofs.KnownTables.{IsKnown, IsPlain, KeyedRows, came_out, header_is, known_text, rows_by, table_is, table_text, table_text_is}
+use Rattle.command_callers.proofs.KnownTables.{IsKnown, IsPlain, KeyedRows, came_out, header_is, known_text, names_are, rows_by, table_is, table_text, table_text_is}
 
 -- what follows of a value that is given, where one is
 pub and_so : {T E : Type 0} {P Q : T → Type 0} (result : Result T E) → IfOk result P → ((value : T) → P value → Q value) → IfOk result Q
@@ -81,6 +84,48 @@ module _ {settings : Settings} {old_form new_form : Form} {old_text new_text : L
       let rows : changes_rows d.columns.order.items read.0 ≡ wanted_rows = ap₂ changes_rows columns.order shown in
       let marked : d.changes.marked ≡ marked_names old_fields new_fields = d.marks ∙ ap₂ marked_names before after in
       subst₂ (λ names found. ReadsAs (delimiter_of settings.form) (comment_of settings.form) answer.bytes.items (change_name ∷ names) found) marked rows read.2
+
+-- what `diff` wrote says, where it is read as changes, those between two tables that are known
+module _ {settings : Settings} {old_form new_form : Form} {old_text new_text : List ℕ} {answer : Answer}
+    (d : DiffsTexts settings old_form new_form old_text new_text answer) (law : DiffSaysLaw) (plain : IsPlain settings)
+    (has : writes_heading settings.form ≡ true) (parts : PartsCells (delimiter_of settings.form)) (begins : BeginsComments (delimiter_of settings.form) (comment_of settings.form))
+    (commas : delimiter_of settings.form ≡ 44) (no_comment : comment_of settings.form ≡ None) (headed : settings.form.has_header ≡ true) (alone_each : settings.groups ≡ false)
+    (old_fields new_fields : List (List ℕ)) (old_records new_records : List (List (List ℕ)))
+    (old_known : IsKnown old_form old_text old_fields old_records) (new_known : IsKnown new_form new_text new_fields new_records)
+    (old new : KeyedRows) (old_up : Up key_cmp (λ k. ⊤) old) (new_up : Up key_cmp (λ k. ⊤) new)
+    (old_moved : IsPermutation (rows_by old_fields (diff.diff_key old_fields new_fields) (diff.diff_rest old_fields new_fields) old_records) old)
+    (new_moved : IsPermutation (rows_by new_fields (diff.diff_key old_fields new_fields) (diff.diff_rest old_fields new_fields) new_records) new) where
+  says_as : (form : Form) (header : List (List ℕ)) (columns : Columns) (others : TableChanges) → delimiter_of form ≡ 44 → comment_of form ≡ None → form.has_header ≡ true
+      → SaysChanges form false answer.bytes.items header header columns others → SaysChanges settings.form settings.groups answer.bytes.items header header columns others
+  says_as form header columns others ed ec eh says = (
+    says.0,
+    (
+      says.1.0,
+      subst₂ (λ d c. AreRows d c answer.bytes.items says.1.0) (ed ∙ sym commas) (ec ∙ sym no_comment) says.1.1,
+      subst (λ b. HeadedBy b Changes says.1.0 header) (eh ∙ sym headed) says.1.2,
+      says.1.3 ∙ ap (λ b. map (signed_under header columns) (behind_header b says.1.0)) (eh ∙ sym headed),
+    ),
+    subst (λ g. PairsRows g (gone_rows says.0) (come_rows says.0) others) (sym alone_each) says.2,
+  )
+
+  pub says_changes : SaysOnlyChanges answer.bytes.items (diff.diff_key old_fields new_fields) (diff.diff_rest old_fields new_fields) (diff.changes_between old new)
+  says_changes form header columns others ed ec eh ek er says =
+      let known = diff.columns_known d plain old_fields new_fields old_records new_records old_known new_known old new old_up new_up old_moved new_moved in
+      let kept = law settings old_form new_form old_text new_text answer header columns others has parts begins plain.order d
+      (record { key = ek ∙ sym known.key; rest = er ∙ sym known.rest }) (says_as form header columns others ed ec eh says) in
+      diff.changes_known d plain old_fields new_fields old_records new_records old_known new_known old new old_up new_up old_moved new_moved others kept
+
+-- a text that is compared with itself has no changes, where its header is known
+pub same_status : {settings : Settings} {form : Form} {text : List ℕ} {answer : Answer} (d : DiffsTexts settings form form text text answer) (law : OneTableLaw) (plain : IsPlain settings)
+    (fields : List (List ℕ)) (records : List (List (List ℕ))) (known : IsKnown form text fields records) → headers_differ fields fields ≡ false → answer.status ≡ 0
+same_status {settings} {form} {text} d law plain fields records known alike =
+    let header = header_is form text fields records known settings.groups d.header d.names d.columns d.old d.old_says in
+    let names : d.names ≡ fields = names_are settings plain d.header d.names d.named ∙ header in
+    let next = header_is form text fields records known settings.groups d.next_header d.next_header d.columns d.new d.new_says in
+    let old_says = subst₂ (λ h n. SaysTable form Rows settings.groups text h n d.columns d.old) header names d.old_says in
+    let new_says = subst (λ h. SaysTable form Rows settings.groups text h h d.columns d.new) next d.new_says in
+    let same : d.old ≡ d.new = law form Rows settings.groups text fields fields d.columns d.old d.new old_says new_says in
+    d.status.2 ∙ ap status_of (d.status.1.1 (same, ap (λ n. headers_differ n d.next_header) names ∙ ap (headers_differ fields) next ∙ alike))
 
 -- what `apply` makes of a table and of what `diff` wrote between it and another one is the file of the other one
 module _ {settings : Settings} {old_form new_form : Form} {old_text new_text : List ℕ} {difference answer : Answer}

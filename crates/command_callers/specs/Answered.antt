@@ -4,9 +4,20 @@ use Rattle.keyed_text.specs.Texts.{finished, text_by, writer_in}
 use Rattle.keyed_text.specs.declared.style.CellQuotes.TheVariants.{Everywhere, WhereNeeded}
 use Rattle.keyed_text.specs.declared.style.LineEnd.TheVariants.{CrLf, Lf}
 use Rattle.keyed_text.specs.declared.style.Style.{Style}
-use Rattle.keyed_files.specs.Writing.{quoted_first}
+use Rattle.keyed_files.specs.Writing.{comment_of, delimiter_of, quoted_first}
+use Rattle.keyed_files.specs.declared.columns.Columns.{Columns}
+use Rattle.keyed_files.specs.declared.request.Form.{Form}
+use Rattle.keyed_commands.specs.Answers.{TableChanges}
+use Rattle.keyed_commands.specs.ChangesRead.{SaysChanges}
 use Rattle.keyed_commands.specs.declared.answer.Answer.{Answer}
 use Rattle.keyed_commands.specs.declared.answer.Outcome.TheVariants.{Made}
+
+-- what a text says that is read as changes, with commas between cells and with a header, by a key and these other columns: these changes, and
+-- no others
+abbrev pub SaysOnlyChanges : List ℕ → (key rest : List (List ℕ)) → TableChanges → Type 0
+SaysOnlyChanges text key rest changes = (form : Form) (header : List (List ℕ)) (columns : Columns) (others : TableChanges)
+    → delimiter_of form ≡ 44 → comment_of form ≡ None → form.has_header ≡ true → columns.key ≡ key → columns.rest ≡ rest
+    → SaysChanges form false text header header columns others → others ≡ changes
 
 -- an answer is a table, with what text is said of some style
 pub record IsInStyle (text : Style → List ℕ) (answer : Answer) : Type 0 where

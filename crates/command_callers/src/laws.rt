@@ -1,13 +1,14 @@
 //! Callers of the laws of commands: what a program knows by them of answers to texts that it knows when it is written.
-ghost use Rattle.std.specs.Prelude.{◌≡◌, ◌∷◌, [], IfOk, None, codes};
+ghost use Rattle.std.specs.Prelude.{◌≡◌, ◌∷◌, [], ℕ, List, IfOk, None, codes};
+ghost use Rattle.eob_both.specs.declared.either_or_both.EitherOrBoth.TheVariants.{Left, Both, Right};
 ghost use Rattle.keyed_text.specs.Texts.{ReadsAs};
 ghost use Rattle.keyed_commands.specs.declared.answer.Outcome.TheVariants.{Made};
-ghost use Rattle.command_callers.specs.Answered.{IsFileOf, IsTableInStyle};
+ghost use Rattle.command_callers.specs.Answered.{IsFileOf, IsTableInStyle, SaysOnlyChanges};
 
 use crate::{CHANGES, PLAIN};
 use keyed_commands::{
     Answer, Fault, Merging, Stream, apply, diff, law_diff_apply_texts, law_diff_reads,
-    law_one_side, merge,
+    law_diff_says, law_one_side, law_text_once, merge,
 };
 use std::alloc::Global;
 
@@ -25,6 +26,46 @@ pub fn changes_read(alloc: Global) -> Result<Answer, Fault<'static>>
     let old = file!("old.csv", b"id,a\n1,x\n2,y\n");
     let new = file!("new.csv", b"id,a\n3,w\n1,z\n");
     law_diff_reads();
+    diff(alloc, PLAIN, CHANGES, old, new)
+}
+
+/// Returns the changes between two tables: whoever reads their text as changes, by the columns of both, finds these, and no others.
+///
+/// # Errors
+///
+/// Returns the errors of `diff`.
+pub fn changes_said(alloc: Global) -> Result<Answer, Fault<'static>>
+    ensures { IfOk result (λ answer. SaysOnlyChanges answer.bytes.items (codes "id" ∷ []) (codes "a" ∷ [])
+        ((codes "1" ∷ [], Both ((codes "x" ∷ []) ∷ []) ((codes "z" ∷ []) ∷ []))
+        ∷ (codes "2" ∷ [], Left ((codes "y" ∷ []) ∷ []))
+        ∷ (codes "3" ∷ [], Right ((codes "w" ∷ []) ∷ [])) ∷ [])) }
+{
+    let old = file!("old.csv", b"id,a\n1,x\n2,y\n");
+    let new = file!("new.csv", b"id,a\n3,w\n1,z\n");
+    law_diff_says();
+    diff(alloc, PLAIN, CHANGES, old, new)
+}
+
+/// Returns the changes between a text and itself: none, with status 0, whatever the rows are under its header.
+///
+/// # Errors
+///
+/// Returns the errors of `diff`.
+pub fn compared_with_itself<'a>(alloc: Global, text: &'a [u8]) -> Result<Answer, Fault<'a>>
+    ensures { IfOk result (λ answer. (rows : List (List (List ℕ)))
+        → ReadsAs 44 None text.now (codes "id" ∷ codes "a" ∷ []) rows → answer.status ≡ 0) }
+{
+    let old = Stream {
+        file: "old.csv",
+        delimiter: None,
+        reader: Ok(text),
+    };
+    let new = Stream {
+        file: "new.csv",
+        delimiter: None,
+        reader: Ok(text),
+    };
+    law_text_once();
     diff(alloc, PLAIN, CHANGES, old, new)
 }
 
