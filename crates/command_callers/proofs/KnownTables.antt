@@ -9,7 +9,7 @@ use Rattle.keyed_files.specs.Headers.{names_counted}
 use Rattle.keyed_files.specs.Keys.{AreColumnsBy, AreKeyNames, first_name}
 use Rattle.keyed_files.specs.Names.{repeats}
 use Rattle.keyed_files.specs.Reading.{HeadedBy, IsTable, behind_header, cell_under, parts_of, row_under}
-use Rattle.keyed_files.specs.Rows.{names_headed, names_placed, placed, table_rows}
+use Rattle.keyed_files.specs.Rows.{heading, names_headed, names_placed, placed, table_rows}
 use Rattle.keyed_files.specs.Spelled.{IsSpelledAs, SpelledBy, SpelledOf}
 use Rattle.keyed_files.specs.Writing.{comment_of, delimiter_of, file_text}
 use Rattle.keyed_files.specs.declared.columns.Columns.{Columns}
@@ -167,11 +167,18 @@ headed_alike form order names others false is same = rw is refl
 abbrev pub table_text : Form → List Place → (key rest : List (List ℕ)) → TableRows → List ℕ
 table_text form order key rest rows = file_text form (heading_by form order key rest ++ table_rows order rows)
 
+pub table_text_shown : (form : Form) (columns : Columns) (shown : TableRows) (text : List ℕ) (order : List Place) (key rest : List (List ℕ))
+    → columns.order.items ≡ order → columns.key ≡ key → columns.rest ≡ rest → HeadsPlainly form columns
+    → text ≡ file_text form (heading form None columns ++ table_rows columns.order.items shown) → text ≡ table_text form order key rest shown
+table_text_shown form columns shown text order key rest eo ek er heads is =
+    is
+    ∙ ap (λ l. file_text form (l ++ table_rows columns.order.items shown)) (headed_alike form columns.order.items (names_headed columns) (names_placed columns) _ refl heads)
+    ∙ ap (λ o. table_text form o columns.key columns.rest shown) eo ∙ ap (λ k. table_text form order k columns.rest shown) ek
+    ∙ ap (λ r. table_text form order key r shown) er
+
 pub table_text_is : (form : Form) (columns : Columns) (keys : Option (List (List (List ℕ)))) (by_cells : Bool) (rows : TableRows) (text : List ℕ)
     (order : List Place) (key rest : List (List ℕ)) → columns.order.items ≡ order → columns.key ≡ key → columns.rest ≡ rest
     → (keys ≡ None) × (by_cells ≡ true) → HeadsPlainly form columns → IsTableText form columns keys by_cells rows text → text ≡ table_text form order key rest rows
 table_text_is form columns keys by_cells rows text order key rest eo ek er plainly heads h =
-    h.2 ∙ ap (λ l. file_text form (headed form columns.order.items (names_headed columns) ++ table_rows columns.order.items l)) (came_out keys by_cells AlikeRows rows h.0 plainly h.1)
-    ∙ ap (λ l. file_text form (l ++ table_rows columns.order.items rows)) (headed_alike form columns.order.items (names_headed columns) (names_placed columns) _ refl heads)
-    ∙ ap (λ o. table_text form o columns.key columns.rest rows) eo ∙ ap (λ k. table_text form order k columns.rest rows) ek
-    ∙ ap (λ r. table_text form order key r rows) er
+    table_text_shown form columns rows text order key rest eo ek er heads
+    (h.2 ∙ ap (λ l. file_text form (heading form None columns ++ table_rows columns.order.items l)) (came_out keys by_cells AlikeRows rows h.0 plainly h.1))

@@ -10,6 +10,7 @@ pub mod KnownMerge
 pub mod KnownApply
 pub mod KnownLayers
 pub mod KnownLookup
+pub mod KnownOrder
 pub mod LiteralTexts
 pub mod KnownText
 pub mod KnownLaws

@@ -3,7 +3,7 @@ ghost use Rattle.std.specs.Prelude.{◌≡◌, ◌∷◌, [], IfOk, codes};
 ghost use Rattle.keyed_commands.specs.OverlayAnswers.{OverlaysStreams};
 ghost use Rattle.command_callers.specs.Answered.{IsTableInStyle};
 
-use crate::PLAIN;
+use crate::{IN_ORDER, PLAIN};
 use keyed_commands::{Answer, Fault, Layer, Reason, Settings, Stream, overlay};
 use std::alloc::{AllocError, Global};
 use std::io::Read;
@@ -38,6 +38,52 @@ pub fn cells_over(alloc: Global) -> Result<Answer, Fault<'static>>
     let below = file!("below.csv", b"id,a,b\n1,x,y\n");
     let above = file!("above.csv", b"id,a,b\n1,,w\n");
     overlay_two(alloc, PLAIN, Layer::Cells, below, above)
+}
+
+/// Returns a table as it is, with its rows in the order in which they stand in the file, and not in that of their keys.
+///
+/// # Errors
+///
+/// Returns the errors of `overlay`; also want of memory.
+pub fn in_file_order(alloc: Global) -> Result<Answer, Fault<'static>>
+    ensures { IfOk result (IsTableInStyle
+        ((codes "id" ∷ codes "a" ∷ []) ∷ (codes "2" ∷ codes "y" ∷ []) ∷ (codes "1" ∷ codes "x" ∷ []) ∷ [])
+        (codes "id,a\n2,y\n1,x\n")
+        (239 ∷ 187 ∷ 191 ∷ codes "\"id\",\"a\"\r\n\"2\",\"y\"\r\n\"1\",\"x\"")) }
+{
+    let table = file!("table.csv", b"id,a\n2,y\n1,x\n");
+    overlay_one(alloc, IN_ORDER, Layer::Rows, table)
+}
+
+// Lays a table over none.
+fn overlay_one<'a, R: Read + Drop>(
+    alloc: Global,
+    settings: Settings<'a>,
+    layer: Layer,
+    table: Stream<'a, R>,
+) -> Result<Answer, Fault<'a>>
+    ensures { IfOk result (OverlaysStreams R.remaining settings.entry layer (table.entry ∷ [])) }
+{
+    let file = table.file;
+    match one_of(alloc, table) {
+        Ok(tables) => overlay(alloc, settings, layer, tables),
+        Err(AllocError) => Err(Fault {
+            file,
+            reason: Reason::NoMemory,
+        }),
+    }
+}
+
+// One table alone.
+fn one_of<'a, R: Drop>(
+    alloc: Global,
+    table: Stream<'a, R>,
+) -> Result<Vec<Stream<'a, R>>, AllocError>
+    ensures { IfOk result (λ tables. tables.items ≡ table.entry ∷ []) }
+{
+    let mut tables = Vec::new(alloc);
+    tables.push(table)?;
+    Ok(tables)
 }
 
 // Lays a table over another.

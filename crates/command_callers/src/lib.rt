@@ -54,6 +54,12 @@ const PLAIN: Settings<'static> = Settings {
     look: Look::PLAIN,
 };
 
+// The same, where rows come out in the order of the files.
+const IN_ORDER: Settings<'static> = Settings {
+    keeps_order: true,
+    ..PLAIN
+};
+
 // The same of tables with no header, whose columns have numbers for names.
 const BARE: Settings<'static> = Settings {
     form: Form {
