@@ -2,6 +2,8 @@
 import os
 import subprocess
 
+# A table that cases begin with.
+BASE = "id,name,price\n1,pear,2\n2,fig,3\n3,sloe,4\n"
 
 
 class Repository:
