@@ -173,6 +173,12 @@ def a_key_of_two(repository):
     merged(repository, base, base.replace("mon,1,2", "mon,1,4"), base.replace("tue,1,3", "tue,1,5"), "day,id,count\nmon,1,4\ntue,1,5\n")
 
 
+def a_name_twice(repository):
+    """A header that has a name twice stays as it is."""
+    base = "id,a,a\n1,p,q\n2,r,s\n"
+    merged(repository, base, base.replace("p,q", "P,q"), base.replace("r,s", "r,S"), "id,a,a\n1,P,q\n2,r,S\n")
+
+
 # What git is asked, the options that git-setup is given, and the case.
 CASES = [
     ("merge: rows of both sides", (), rows_of_both),
@@ -182,6 +188,7 @@ CASES = [
     ("merge: a column that ours drops", (), a_column_dropped),
     ("merge: a column that theirs adds and one that ours drops", (), a_column_of_each),
     ("merge: a key of two columns", ("--key", "day,id"), a_key_of_two),
+    ("merge: a header that has a name twice", (), a_name_twice),
     ("merge: one line a row", (), one_line_changed),
     ("merge: CR LF", (), cr_lf),
     ("conflict: CR LF", (), cr_lf_in_conflict),
