@@ -198,8 +198,8 @@ impl<'a, R> Table<'a, R> {
         }
     }
 
-    /// The header of its parts, or none of a file with no row. Changes have a sign before the columns, and marks where the names would be
-    /// taken for others.
+    /// The header of its parts, spelled as that of the file, or none of a file with no row. Changes have a sign before the columns, and marks
+    /// where the names would be taken for others.
     ///
     /// # Errors
     ///
@@ -211,7 +211,7 @@ impl<'a, R> Table<'a, R> {
         let mut header = Cells::new(alloc);
         match self.content {
             Content::Rows => {
-                for name in self.opened.header() {
+                for name in self.spelled_names() {
                     header.push(name)?;
                 }
             }
@@ -223,6 +223,16 @@ impl<'a, R> Table<'a, R> {
             }
         }
         Ok(Some(header))
+    }
+
+    // The names of the columns as the header spells them, or the numbers of those that have none.
+    fn spelled_names(&self) -> &Cells {
+        let spelled = &self.opened.source.spelling().spelled;
+        if spelled.is_empty() {
+            self.opened.header()
+        } else {
+            spelled
+        }
     }
 
     // What becomes of a column of changes. One that comes needs no mark to be read.
