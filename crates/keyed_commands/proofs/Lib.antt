@@ -23,3 +23,4 @@ pub mod SpelledLemmas
 pub mod TableBackLemmas
 pub mod TextAnswerLemmas
 pub mod TextLawLemmas
+pub mod TurnedLemmas

@@ -20,6 +20,7 @@ use Rattle.keyed_columns.specs.Names.{has_lone}
 use Rattle.keyed_columns.specs.declared.column_changes.ColumnChanges.{ColumnChanges}
 use Rattle.keyed_columns.specs.declared.columns.Columns.{Columns}
 use Rattle.keyed_files.specs.Rows.{heading, table_rows}
+use Rattle.keyed_files.specs.SpelledFiles.{IsFileIn}
 use Rattle.keyed_files.specs.Writing.{file_text, text_of}
 use Rattle.keyed_commands.specs.declared.answer.Answer.{Answer}
 use Rattle.keyed_commands.specs.declared.answer.Outcome.TheVariants.{Made, Stopped}
@@ -82,10 +83,15 @@ module _ (form : Form) (columns : Columns) (noted : Option (List (List (List ℕ
   IsTableText rows text = (shown : TableRows) × ComesOut noted by_cells AlikeRows rows shown
       × (text ≡ file_text form (heading form None columns ++ table_rows columns.order.items shown))
 
+  -- the same with each row in the style of the form or in a spelling of its own
+  abbrev pub IsTableFile : TableRows → List ℕ → Type 0
+  IsTableFile rows text = (shown : TableRows) × ComesOut noted by_cells AlikeRows rows shown
+      × IsFileIn form (heading form None columns ++ table_rows columns.order.items shown) text
+
   -- an answer to a command that makes a table: its text, unless a cell would be lost
   abbrev pub AnswersTable : TableRows → Answer → Type 0
   AnswersTable rows answer = MatchBool (loses columns rows) (Stops answer)
-      ((answer.status ≡ 0) × (answer.outcome ≡ Made) × IsTableText rows answer.bytes.items)
+      ((answer.status ≡ 0) × (answer.outcome ≡ Made) × IsTableFile rows answer.bytes.items)
 
   -- the same of the table with changes made to it
   abbrev pub AnswersPatched : TableRows → TableChanges → Answer → Type 0

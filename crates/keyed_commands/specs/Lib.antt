@@ -20,3 +20,5 @@ pub mod Preferred
 pub mod SortedParts
 pub mod TablesRead
 pub mod TextLaws
+pub mod Turned
+pub mod Beside

@@ -25,7 +25,7 @@ use Rattle.keyed_commands.specs.declared.job.Job.{Job}
 
 -- a merge is reported: numbers are compared as they are written, and rows in conflict are not put between marks
 pub record IsReported (how : Merging) : Type 0 where
-  pub as_written : how.tolerance ≡ None
+  pub as_written : how.sameness ≡ None
   pub reports : how.conflicts ≡ Report
 
 module _ (form : Form) (columns : Columns) (keys : Option (List (List (List ℕ)))) (by_cells : Bool) (base ours theirs : TableRows) (answer : Answer) where

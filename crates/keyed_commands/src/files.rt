@@ -184,9 +184,14 @@ pub fn answer_request<'a, R: Files + Input + AllocGlobal>(
             let old = stream_of(rt, old, None);
             diff(alloc, settings, how, old, stream_of(rt, new, next))
         }
-        Request::Apply { old, changes } => {
+        Request::Apply {
+            old,
+            changes,
+            direction,
+        } => {
             let old = stream_of(rt, old, None);
-            apply(alloc, settings, old, stream_of(rt, changes, next))
+            let changes = stream_of(rt, changes, next);
+            apply(alloc, settings, direction, old, changes)
         }
         Request::Merge {
             base,

@@ -1,14 +1,13 @@
 //! A merged table in which rows in conflict stand between marks, as git writes them.
 ghost use Rattle.keyed_commands.specs.ComeOut.{AlikeMarked};
 
-use crate::conflict_cells::told_conflict;
+use crate::conflict_cells::{Telling, told_conflict};
 use crate::job::Job;
 use crate::row_order::{Grouped, RowOrder};
 use eob_joins::Versions;
 use keyed_columns::Columns;
 use keyed_faults::Reason;
 use keyed_files::{Written, begin_table, quote_first};
-use keyed_requests::Merging;
 use keyed_rows::{Group, Key};
 use keyed_tables::{Marked, Parted};
 use std::alloc::{AllocError, Global};
@@ -65,7 +64,7 @@ pub fn parted(
 /// writer makes of it, if a request for memory was refused.
 pub fn write_marked(
     job: &Job<'_, Columns>,
-    how: Merging<'_>,
+    how: Telling<'_>,
     rows: Vec<(Key, Marked<Group>)>,
 ) -> Result<Vec<u8>, Reason> {
     let mut text = Text {

@@ -81,7 +81,7 @@ fn many_rows_are_laid_over(rt: HostRuntime) -> Result<(), Fail> {
 const BY_ROW: Merging<'static> = Merging {
     unit: Unit::Row,
     conflicts: Conflicts::Marks,
-    tolerance: None,
+    sameness: None,
 };
 
 /// Hundreds of conflicts among hundreds of rows keep their places.
