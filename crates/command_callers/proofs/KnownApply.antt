@@ -10,25 +10,26 @@ use Rattle.eob_lists.specs.Join.{IsJoin, Rising, value_under}
 use Rattle.eob_lists.proofs.MergeLemmas.{IsJoin-merge, Up, merge}
 use Rattle.eob_joins.specs.Changes.{applied}
 use Rattle.eob_joins.specs.Tables.{IsKeptOfJoin, kept}
-use Rattle.keyed_files.specs.AnswerForm.{in_style}
-use Rattle.keyed_files.specs.ChangedColumns.{AreChangedColumns, changed_names}
-use Rattle.keyed_files.specs.ColumnNames.{column_names, is_beside, place_under_key}
-use Rattle.keyed_files.specs.Going.{names_going}
+use Rattle.keyed_requests.specs.AnswerForm.{in_style}
+use Rattle.keyed_requests.specs.FormBytes.{comment_of, delimiter_of}
+use Rattle.keyed_requests.specs.declared.request.Form.{Form}
+use Rattle.keyed_requests.specs.declared.request.Settings.{Settings}
+use Rattle.keyed_columns.specs.ChangedColumns.{AreChangedColumns, changed_names}
+use Rattle.keyed_columns.specs.ColumnNames.{column_names, is_beside, place_under_key}
+use Rattle.keyed_columns.specs.Going.{names_going}
+use Rattle.keyed_columns.specs.Headers.{names_said}
+use Rattle.keyed_columns.specs.Keys.{AreChangedColumnsBy, first_name}
+use Rattle.keyed_columns.specs.Names.{repeats}
+use Rattle.keyed_columns.specs.CellsUnder.{cell_under}
+use Rattle.keyed_columns.specs.declared.columns.Columns.{Columns}
+use Rattle.keyed_columns.specs.declared.columns.Place.{Place}
+use Rattle.keyed_columns.specs.declared.content.Content.TheVariants.{Changes}
 use Rattle.keyed_files.specs.Gone.{GoneBy, GoneOf}
-use Rattle.keyed_files.specs.Headers.{names_said}
-use Rattle.keyed_files.specs.Keys.{AreChangedColumnsBy, first_name}
-use Rattle.keyed_files.specs.Names.{repeats}
-use Rattle.keyed_files.specs.Reading.{HeadedBy, behind_header, cell_under, parts_of}
+use Rattle.keyed_files.specs.Reading.{HeadedBy, behind_header, parts_of}
 use Rattle.keyed_files.specs.Rows.{shown_sign}
-use Rattle.keyed_files.specs.Writing.{comment_of, delimiter_of}
-use Rattle.keyed_files.specs.declared.columns.Columns.{Columns}
-use Rattle.keyed_files.specs.declared.columns.Place.{Place}
-use Rattle.keyed_files.specs.declared.request.Form.{Form}
-use Rattle.keyed_files.specs.declared.request.Settings.{Settings}
 use Rattle.keyed_files.specs.declared.sign.Sign.{Sign}
 use Rattle.keyed_files.specs.declared.sign.Sign.TheVariants.{Minus, Plus}
 use Rattle.keyed_files.specs.declared.sign.SignedRow.{SignedRow}
-use Rattle.keyed_files.specs.declared.source.Content.TheVariants.{Changes}
 use Rattle.keyed_rows.specs.declared.row.ReadRow.{ReadRow}
 use Rattle.keyed_tables.specs.Gathered.{alone}
 use Rattle.keyed_text.specs.Texts.{AreRows}

@@ -6,12 +6,12 @@ use Rattle.eob_lists.proofs.MergeLemmas.{Up, merge}
 use Rattle.eob_joins.specs.Changes.{changed}
 use Rattle.eob_joins.specs.Tables.{IsKeptOfJoin, kept}
 use Rattle.eob_joins.proofs.TableLemmas.{by_test}
-use Rattle.keyed_files.specs.ChangedColumns.{marked_names}
-use Rattle.keyed_files.specs.ColumnNames.{HaveNames, column_names, is_beside, place_under_key}
-use Rattle.keyed_files.specs.Keys.{first_name}
+use Rattle.keyed_requests.specs.declared.request.Form.{Form}
+use Rattle.keyed_requests.specs.declared.request.Settings.{Settings}
+use Rattle.keyed_columns.specs.ChangedColumns.{marked_names}
+use Rattle.keyed_columns.specs.ColumnNames.{HaveNames, column_names, is_beside, place_under_key}
+use Rattle.keyed_columns.specs.Keys.{first_name}
 use Rattle.keyed_files.specs.Writing.{text_of}
-use Rattle.keyed_files.specs.declared.request.Form.{Form}
-use Rattle.keyed_files.specs.declared.request.Settings.{Settings}
 use Rattle.keyed_tables.specs.Gathered.{alone}
 use Rattle.keyed_commands.specs.Answers.{TableChanges, TableRows, key_cmp, rows_eq, status_of}
 use Rattle.keyed_commands.specs.ComeOut.{AlikePlaces, AlikeRows}

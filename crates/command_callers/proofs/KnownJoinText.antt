@@ -4,19 +4,19 @@ use Rattle.std.specs.Prelude.{⊤, unwrap_or}
 use Rattle.eob_lists.specs.Join.{IsJoin, Rising}
 use Rattle.eob_lists.proofs.MergeLemmas.{Up, merge}
 use Rattle.eob_joins.specs.Tables.{IsAntiJoin, IsInnerJoin, IsLeftJoin, IsRightJoin, IsSemiJoin, both_places, kept, lone_left, paired_left, paired_right, shared_left}
-use Rattle.keyed_files.specs.ColumnNames.{HaveNames, column_names, if_empty, is_beside, or_header, place_under_key}
-use Rattle.keyed_files.specs.JoinedNames.{joined_names, side_column, told_apart}
+use Rattle.keyed_requests.specs.declared.request.Form.{Form}
+use Rattle.keyed_requests.specs.declared.request.JoinNames.{JoinNames}
+use Rattle.keyed_requests.specs.declared.request.Joining.{Joining}
+use Rattle.keyed_requests.specs.declared.request.Kind.{Kind}
+use Rattle.keyed_requests.specs.declared.request.Kind.TheVariants as kind
+use Rattle.keyed_requests.specs.declared.request.Settings.{Settings}
+use Rattle.keyed_columns.specs.ColumnNames.{HaveNames, column_names, if_empty, is_beside, or_header, place_under_key}
+use Rattle.keyed_columns.specs.JoinedNames.{joined_names, side_column, told_apart}
+use Rattle.keyed_columns.specs.Keys.{AreJoinColumns, first_name}
+use Rattle.keyed_columns.specs.Placed.{first_cells, names_placed}
+use Rattle.keyed_columns.specs.declared.columns.JoinColumns.{JoinColumns}
 use Rattle.keyed_files.specs.JoinedRows.{each_before, side_count, side_row}
-use Rattle.keyed_files.specs.Keys.{AreJoinColumns, first_name}
-use Rattle.keyed_files.specs.Rows.{first_cells, names_placed}
 use Rattle.keyed_files.specs.Writing.{quoted_text}
-use Rattle.keyed_files.specs.declared.columns.JoinColumns.{JoinColumns}
-use Rattle.keyed_files.specs.declared.request.Form.{Form}
-use Rattle.keyed_files.specs.declared.request.JoinNames.{JoinNames}
-use Rattle.keyed_files.specs.declared.request.Joining.{Joining}
-use Rattle.keyed_files.specs.declared.request.Kind.{Kind}
-use Rattle.keyed_files.specs.declared.request.Kind.TheVariants as kind
-use Rattle.keyed_files.specs.declared.request.Settings.{Settings}
 use Rattle.keyed_tables.specs.Gathered.{alone}
 use Rattle.keyed_commands.specs.Answers.{IsTableText, TableRows, key_cmp}
 use Rattle.keyed_commands.specs.ComeOut.{AlikePlaces, AlikeRows}

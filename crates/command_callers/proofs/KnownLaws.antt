@@ -5,21 +5,21 @@ use Rattle.std.specs.Prelude.{⊤, IfOk, Result}
 use Rattle.eob_lists.specs.Join.{Rising, value_under}
 use Rattle.eob_lists.proofs.MergeLemmas.{Up}
 use Rattle.eob_joins.proofs.TableLemmas.{same_table}
-use Rattle.keyed_files.specs.AnswerForm.{in_style, writes_heading}
-use Rattle.keyed_files.specs.ChangedColumns.{marked_names}
-use Rattle.keyed_files.specs.ColumnNames.{place_under_key}
-use Rattle.keyed_files.specs.Going.{names_going}
-use Rattle.keyed_files.specs.Headers.{names_said}
-use Rattle.keyed_files.specs.Names.{repeats}
+use Rattle.keyed_requests.specs.AnswerForm.{in_style, writes_heading}
+use Rattle.keyed_requests.specs.FormBytes.{comment_of, delimiter_of}
+use Rattle.keyed_requests.specs.declared.merging.Unit.TheVariants as unit
+use Rattle.keyed_requests.specs.declared.request.Form.{Form}
+use Rattle.keyed_requests.specs.declared.request.Settings.{Settings}
+use Rattle.keyed_columns.specs.ChangedColumns.{marked_names}
+use Rattle.keyed_columns.specs.ColumnNames.{place_under_key}
+use Rattle.keyed_columns.specs.Going.{names_going}
+use Rattle.keyed_columns.specs.Headers.{names_said}
+use Rattle.keyed_columns.specs.Names.{repeats}
+use Rattle.keyed_columns.specs.declared.columns.Columns.{Columns}
+use Rattle.keyed_columns.specs.declared.columns.Place.{Place}
+use Rattle.keyed_columns.specs.declared.content.Content.TheVariants.{Changes, Rows}
 use Rattle.keyed_files.specs.Reading.{HeadedBy, behind_header}
 use Rattle.keyed_files.specs.Rows.{change_name}
-use Rattle.keyed_files.specs.Writing.{comment_of, delimiter_of}
-use Rattle.keyed_files.specs.declared.columns.Columns.{Columns}
-use Rattle.keyed_files.specs.declared.columns.Place.{Place}
-use Rattle.keyed_files.specs.declared.merging.Unit.TheVariants as unit
-use Rattle.keyed_files.specs.declared.request.Form.{Form}
-use Rattle.keyed_files.specs.declared.request.Settings.{Settings}
-use Rattle.keyed_files.specs.declared.source.Content.TheVariants.{Changes, Rows}
 use Rattle.keyed_tables.specs.Gathered.{alone}
 use Rattle.keyed_text.specs.Texts.{AreRows, BeginsComments, PartsCells, ReadsAs}
 use Rattle.keyed_text.proofs.TextLemmas.{rows-once}

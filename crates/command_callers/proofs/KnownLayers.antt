@@ -9,20 +9,20 @@ use Rattle.eob_lists.specs.Join.{Rising, value_under}
 use Rattle.eob_lists.proofs.MergeLemmas.{IsJoin-merge, Up, merge}
 use Rattle.eob_joins.specs.Tables.{kept}
 use Rattle.eob_joins.proofs.TableLemmas.{kept_law, retabled, same_table}
-use Rattle.keyed_files.specs.AnswerForm.{in_style}
-use Rattle.keyed_files.specs.ColumnNames.{HaveNames, column_names, is_beside, place_under_key}
-use Rattle.keyed_files.specs.Keys.{AreColumnsBy, first_name}
-use Rattle.keyed_files.specs.Opening.{form_of, text_of_stream}
-use Rattle.keyed_files.specs.Spelled.{IsSpelledAs, SpelledOf}
+use Rattle.keyed_requests.specs.AnswerForm.{in_style}
+use Rattle.keyed_requests.specs.declared.overlays.Layer.{Layer}
+use Rattle.keyed_requests.specs.declared.overlays.Layer.TheVariants as layer
+use Rattle.keyed_requests.specs.declared.request.Form.{Form}
+use Rattle.keyed_requests.specs.declared.request.Settings.{Settings}
 use Rattle.keyed_commands.specs.FileOrder.{KeysOf}
-use Rattle.keyed_files.specs.declared.columns.Columns.{Columns}
-use Rattle.keyed_files.specs.declared.columns.Place.{Place}
+use Rattle.keyed_columns.specs.ColumnNames.{HaveNames, column_names, is_beside, place_under_key}
+use Rattle.keyed_columns.specs.Keys.{AreColumnsBy, first_name}
+use Rattle.keyed_columns.specs.Spelled.{IsSpelledAs, SpelledOf}
+use Rattle.keyed_columns.specs.declared.columns.Columns.{Columns}
+use Rattle.keyed_columns.specs.declared.columns.Place.{Place}
+use Rattle.keyed_columns.specs.declared.content.Content.TheVariants.{Rows}
+use Rattle.keyed_files.specs.Opening.{form_of, text_of_stream}
 use Rattle.keyed_files.specs.declared.opened.Stream.{Stream}
-use Rattle.keyed_files.specs.declared.overlays.Layer.{Layer}
-use Rattle.keyed_files.specs.declared.overlays.Layer.TheVariants as layer
-use Rattle.keyed_files.specs.declared.request.Form.{Form}
-use Rattle.keyed_files.specs.declared.request.Settings.{Settings}
-use Rattle.keyed_files.specs.declared.source.Content.TheVariants.{Rows}
 use Rattle.keyed_tables.specs.Gathered.{alone}
 use Rattle.keyed_commands.specs.Answers.{TableRows, key_cmp}
 use Rattle.keyed_commands.specs.OverlayAnswers.{AreLaidOver, AreNamed, OverlaidIn, OverlaysStreams, Said, SaysRows, SpellsFirst, laid_rows}

@@ -5,21 +5,22 @@ use Rattle.std.specs.List.{AllByRecursion}
 use Rattle.std.specs.Map.{lookup}
 use Rattle.keyed_text.specs.Texts.{text_by, writer_in}
 use Rattle.keyed_text.specs.declared.style.Style.{Style}
-use Rattle.keyed_files.specs.AnswerForm.{writes_heading}
-use Rattle.keyed_files.specs.ColumnNames.{HaveNames, place_under_key}
-use Rattle.keyed_files.specs.JoinedNames.{found_names, told_apart}
+use Rattle.keyed_requests.specs.AnswerForm.{writes_heading}
+use Rattle.keyed_requests.specs.FormBytes.{comment_of, delimiter_of}
+use Rattle.keyed_requests.specs.declared.lookups.Finding.{Finding}
+use Rattle.keyed_requests.specs.declared.lookups.LookupKind.{LookupKind}
+use Rattle.keyed_requests.specs.declared.lookups.LookupKind.TheVariants as kind
+use Rattle.keyed_requests.specs.declared.request.Form.{Form}
+use Rattle.keyed_requests.specs.declared.request.JoinNames.{JoinNames}
+use Rattle.keyed_requests.specs.declared.request.Layout.{Layout}
+use Rattle.keyed_columns.specs.ColumnNames.{HaveNames, place_under_key}
+use Rattle.keyed_columns.specs.JoinedNames.{found_names, told_apart}
+use Rattle.keyed_columns.specs.Placed.{placed}
+use Rattle.keyed_columns.specs.declared.columns.JoinColumns.{JoinColumns}
+use Rattle.keyed_columns.specs.declared.columns.Place.{Place}
 use Rattle.keyed_files.specs.JoinedRows.{join_heading}
 use Rattle.keyed_files.specs.Reading.{parts_of}
-use Rattle.keyed_files.specs.Rows.{placed}
-use Rattle.keyed_files.specs.Writing.{comment_of, delimiter_of, quoted_first, quoted_text}
-use Rattle.keyed_files.specs.declared.columns.JoinColumns.{JoinColumns}
-use Rattle.keyed_files.specs.declared.columns.Place.{Place}
-use Rattle.keyed_files.specs.declared.lookups.Finding.{Finding}
-use Rattle.keyed_files.specs.declared.lookups.LookupKind.{LookupKind}
-use Rattle.keyed_files.specs.declared.lookups.LookupKind.TheVariants as kind
-use Rattle.keyed_files.specs.declared.request.Form.{Form}
-use Rattle.keyed_files.specs.declared.request.JoinNames.{JoinNames}
-use Rattle.keyed_files.specs.declared.request.Layout.{Layout}
+use Rattle.keyed_files.specs.Writing.{quoted_first, quoted_text}
 use Rattle.keyed_commands.specs.JoinAnswers.{heading_of_join}
 use Rattle.keyed_commands.specs.LookupAnswers.{AppendsRows, LooksUpTexts, key_eq, lookup_rows, rows_of}
 use Rattle.command_callers.specs.Answered.{plainly}

@@ -8,17 +8,17 @@ use Rattle.eob_joins.specs.Settled.{Became, BecameOf, stuck_row}
 use Rattle.eob_joins.specs.Tables.{Tabulates, kept}
 use Rattle.eob_joins.specs.Versions.{clashes, merged, merged_place}
 use Rattle.keyed_text.specs.declared.style.Style.{Style}
-use Rattle.keyed_files.specs.AnswerForm.{in_style}
-use Rattle.keyed_files.specs.ChangedColumns.{AreMergedColumns, names_merged}
-use Rattle.keyed_files.specs.ColumnNames.{column_names, is_beside, or_header, place_under_key}
-use Rattle.keyed_files.specs.Keys.{AreMergedColumnsBy, first_name}
-use Rattle.keyed_files.specs.Lost.{is_rest, loses_cells}
-use Rattle.keyed_files.specs.declared.columns.Columns.{Columns}
-use Rattle.keyed_files.specs.declared.columns.Place.{Place}
-use Rattle.keyed_files.specs.declared.merging.Unit.{Unit}
-use Rattle.keyed_files.specs.declared.merging.Unit.TheVariants as unit
-use Rattle.keyed_files.specs.declared.request.Form.{Form}
-use Rattle.keyed_files.specs.declared.request.Settings.{Settings}
+use Rattle.keyed_requests.specs.AnswerForm.{in_style}
+use Rattle.keyed_requests.specs.declared.merging.Unit.{Unit}
+use Rattle.keyed_requests.specs.declared.merging.Unit.TheVariants as unit
+use Rattle.keyed_requests.specs.declared.request.Form.{Form}
+use Rattle.keyed_requests.specs.declared.request.Settings.{Settings}
+use Rattle.keyed_columns.specs.ChangedColumns.{AreMergedColumns, names_merged}
+use Rattle.keyed_columns.specs.ColumnNames.{column_names, is_beside, or_header, place_under_key}
+use Rattle.keyed_columns.specs.Keys.{AreMergedColumnsBy, first_name}
+use Rattle.keyed_columns.specs.Lost.{is_rest, loses_cells}
+use Rattle.keyed_columns.specs.declared.columns.Columns.{Columns}
+use Rattle.keyed_columns.specs.declared.columns.Place.{Place}
 use Rattle.keyed_tables.specs.Gathered.{alone}
 use Rattle.keyed_tables.specs.RowsByCell.{GivesRow, can_by_row}
 use Rattle.keyed_commands.specs.Answers.{AnswersTable, HasConflict, HasNoConflict, HasNoneStuck, HasStuck, IsTableText, Stops, TableRows, clashes_at, key_cmp, rows_eq, sticks_at}

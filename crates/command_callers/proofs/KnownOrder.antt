@@ -9,20 +9,21 @@ use Rattle.std.specs.Ordering.{is_lt, nat_cmp}
 use Rattle.std.proofs.lemmas.List.{append-nil}
 use Rattle.eob_lists.proofs.MergeLemmas.{Up}
 use Rattle.eob_joins.proofs.TableLemmas.{same_table}
-use Rattle.keyed_files.specs.ColumnNames.{HaveNames, column_names, is_beside, place_under_key}
-use Rattle.keyed_files.specs.Keys.{AreColumnsBy, first_name}
-use Rattle.keyed_files.specs.AnswerForm.{in_style}
+use Rattle.keyed_requests.specs.AnswerForm.{in_style}
+use Rattle.keyed_requests.specs.FormBytes.{comment_of, delimiter_of}
+use Rattle.keyed_requests.specs.declared.overlays.Layer.{Layer}
+use Rattle.keyed_requests.specs.declared.request.Form.{Form}
+use Rattle.keyed_requests.specs.declared.request.Settings.{Settings}
+use Rattle.keyed_columns.specs.ColumnNames.{HaveNames, column_names, is_beside, place_under_key}
+use Rattle.keyed_columns.specs.Keys.{AreColumnsBy, first_name}
+use Rattle.keyed_columns.specs.CellsUnder.{cell_under}
+use Rattle.keyed_columns.specs.Spelled.{IsSpelledAs, SpelledOf}
+use Rattle.keyed_columns.specs.declared.columns.Columns.{Columns}
+use Rattle.keyed_columns.specs.declared.columns.Place.{Place}
+use Rattle.keyed_columns.specs.declared.content.Content.TheVariants.{Rows}
 use Rattle.keyed_files.specs.Opening.{form_of, text_of_stream}
-use Rattle.keyed_files.specs.Reading.{behind_header, cell_under}
-use Rattle.keyed_files.specs.Spelled.{IsSpelledAs, SpelledOf}
-use Rattle.keyed_files.specs.Writing.{comment_of, delimiter_of}
-use Rattle.keyed_files.specs.declared.columns.Columns.{Columns}
-use Rattle.keyed_files.specs.declared.columns.Place.{Place}
+use Rattle.keyed_files.specs.Reading.{behind_header}
 use Rattle.keyed_files.specs.declared.opened.Stream.{Stream}
-use Rattle.keyed_files.specs.declared.overlays.Layer.{Layer}
-use Rattle.keyed_files.specs.declared.request.Form.{Form}
-use Rattle.keyed_files.specs.declared.request.Settings.{Settings}
-use Rattle.keyed_files.specs.declared.source.Content.TheVariants.{Rows}
 use Rattle.keyed_tables.specs.Gathered.{alone}
 use Rattle.keyed_text.proofs.TextLemmas.{rows-once}
 use Rattle.keyed_commands.specs.Answers.{IsTableText, TableRows, key_cmp}

@@ -3,20 +3,23 @@ use Rattle.std.proofs.Common.{◌≡◌, ◌∙◌, ◌++◌, ℕ, Bool, Bor, tr
 use Rattle.std.specs.Prelude.{◌==◌, ◌&&◌, ◌||◌, ⊤, not, if◌then◌else◌}
 use Rattle.std.specs.Cmp.Lexicographic.{pointwise}
 use Rattle.eob_lists.proofs.MergeLemmas.{Up}
-use Rattle.keyed_files.specs.AnswerForm.{in_style, writes_heading}
-use Rattle.keyed_files.specs.ColumnNames.{HaveNames, column_names}
-use Rattle.keyed_files.specs.Headers.{names_counted}
-use Rattle.keyed_files.specs.Keys.{AreColumnsBy, AreKeyNames, first_name}
-use Rattle.keyed_files.specs.Names.{repeats}
-use Rattle.keyed_files.specs.Reading.{HeadedBy, IsTable, behind_header, cell_under, parts_of, row_under}
-use Rattle.keyed_files.specs.Rows.{heading, names_headed, names_placed, placed, table_rows}
-use Rattle.keyed_files.specs.Spelled.{IsSpelledAs, SpelledBy, SpelledOf}
-use Rattle.keyed_files.specs.Writing.{comment_of, delimiter_of, file_text}
-use Rattle.keyed_files.specs.declared.columns.Columns.{Columns}
-use Rattle.keyed_files.specs.declared.columns.Place.{Place}
-use Rattle.keyed_files.specs.declared.request.Form.{Form}
-use Rattle.keyed_files.specs.declared.request.Settings.{Settings}
-use Rattle.keyed_files.specs.declared.source.Content.TheVariants.{Rows}
+use Rattle.keyed_requests.specs.AnswerForm.{in_style, writes_heading}
+use Rattle.keyed_requests.specs.FormBytes.{comment_of, delimiter_of}
+use Rattle.keyed_requests.specs.declared.request.Form.{Form}
+use Rattle.keyed_requests.specs.declared.request.Settings.{Settings}
+use Rattle.keyed_columns.specs.ColumnNames.{HaveNames, column_names}
+use Rattle.keyed_columns.specs.Headers.{names_counted}
+use Rattle.keyed_columns.specs.Keys.{AreColumnsBy, AreKeyNames, first_name}
+use Rattle.keyed_columns.specs.Names.{repeats}
+use Rattle.keyed_columns.specs.CellsUnder.{cell_under, row_under}
+use Rattle.keyed_columns.specs.Placed.{names_headed, names_placed, placed}
+use Rattle.keyed_columns.specs.Spelled.{IsSpelledAs, SpelledBy, SpelledOf}
+use Rattle.keyed_columns.specs.declared.columns.Columns.{Columns}
+use Rattle.keyed_columns.specs.declared.columns.Place.{Place}
+use Rattle.keyed_columns.specs.declared.content.Content.TheVariants.{Rows}
+use Rattle.keyed_files.specs.Reading.{HeadedBy, IsTable, behind_header, parts_of}
+use Rattle.keyed_files.specs.Rows.{heading, table_rows}
+use Rattle.keyed_files.specs.Writing.{file_text}
 use Rattle.keyed_rows.specs.declared.row.ReadRow.{ReadRow}
 use Rattle.keyed_tables.specs.Arranged.{AreArranged}
 use Rattle.keyed_tables.specs.Gathered.{alone}

@@ -6,7 +6,7 @@ use Rattle.std.specs.Prelude.{◌||◌, if◌then◌else◌, unwrap_or}
 use Rattle.std.specs.List.{AllByRecursion, position_from}
 use Rattle.csv.specs.Writing.{is_blank, row_body, row_text}
 use Rattle.eob_joins.proofs.TableLemmas.{by_test}
-use Rattle.keyed_files.specs.Encodings.{is_marked}
+use Rattle.keyed_faults.specs.Encodings.{is_marked}
 use Rattle.keyed_files.specs.JoinedRows.{join_heading}
 use Rattle.keyed_files.specs.Writing.{end_of_cell, ends_cell, quoted, quoted_first}
 use Rattle.keyed_text.specs.Texts.{rows_text, writer_by}

@@ -4,9 +4,10 @@ use Rattle.keyed_text.specs.Texts.{finished, text_by, writer_in}
 use Rattle.keyed_text.specs.declared.style.CellQuotes.TheVariants.{Everywhere, WhereNeeded}
 use Rattle.keyed_text.specs.declared.style.LineEnd.TheVariants.{CrLf, Lf}
 use Rattle.keyed_text.specs.declared.style.Style.{Style}
-use Rattle.keyed_files.specs.Writing.{comment_of, delimiter_of, quoted_first}
-use Rattle.keyed_files.specs.declared.columns.Columns.{Columns}
-use Rattle.keyed_files.specs.declared.request.Form.{Form}
+use Rattle.keyed_requests.specs.FormBytes.{comment_of, delimiter_of}
+use Rattle.keyed_requests.specs.declared.request.Form.{Form}
+use Rattle.keyed_columns.specs.declared.columns.Columns.{Columns}
+use Rattle.keyed_files.specs.Writing.{quoted_first}
 use Rattle.keyed_commands.specs.Answers.{TableChanges}
 use Rattle.keyed_commands.specs.ChangesRead.{SaysChanges}
 use Rattle.keyed_commands.specs.declared.answer.Answer.{Answer}

@@ -5,8 +5,9 @@ use crate::help::example_of;
 use crate::progress::put_progress;
 use crate::{FLAGS, KEY, ParseError, TEXTS, TEXTS_OF_TWO, file_of, flag, put, put_texts, text};
 use clap::{Arg, ArgMatches, Command};
+use keyed_columns::key_names;
 use keyed_cut::{Cut, CutTables, Divided, LEAST_PARTS, MOST_PARTS, Second};
-use keyed_files::{Layout, key_names};
+use keyed_requests::Layout;
 use std::alloc::{AllocError, Global};
 
 /// Puts the command after others.

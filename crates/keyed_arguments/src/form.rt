@@ -3,7 +3,7 @@
 use crate::ParseError;
 use crate::output::heading_of;
 use clap::ArgMatches;
-use keyed_files::{Comment, Delimiter, Form, Lengths, Quotes, Reading, Request, Writing};
+use keyed_requests::{Comment, Delimiter, Form, Lengths, Quotes, Reading, Request, Writing};
 
 /// The form of the tables in these files.
 ///

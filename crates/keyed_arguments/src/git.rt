@@ -9,7 +9,7 @@ use crate::{
     COLOR, FLAGS, KEY, ParseError, TEXTS, choice, file_of, flag, put, put_texts, settings_of,
 };
 use clap::{Arg, ArgMatches, Command};
-use keyed_files::{
+use keyed_requests::{
     Asked, Comparing, Format, GitDiff, GitMerge, GitSetup, Look, Merging, Request, Settings, View,
 };
 use std::alloc::{AllocError, Global};

@@ -20,10 +20,12 @@ use cutting::{cut_of, put_cut};
 use form::{files_of, form_of};
 use git::{git_asked, put_git_commands};
 use help::{example_of, group_of};
+use keyed_columns::key_names;
 use keyed_cut::Cut;
-use keyed_files::{
-    Asked, Colours, Command, Comparing, Format, Heading, JoinNames, Joining, Kind, Look, Reason,
-    Request, RowFormat, RowsShown, Settings, SortedChanges, SortedRequest, Wanted, key_names,
+use keyed_faults::Reason;
+use keyed_requests::{
+    Asked, Colours, Command, Comparing, Format, Heading, JoinNames, Joining, Kind, Look, Request,
+    RowFormat, RowsShown, Settings, SortedChanges, SortedRequest, Wanted,
 };
 use merging::{merging_of, put_merging};
 use more::{lookup_of, overlay_of};

@@ -3,7 +3,7 @@
 use crate::numbers::tolerance_of;
 use crate::{OneOf, ParseError, choice, flag, one_of, put};
 use clap::{Arg, ArgMatches};
-use keyed_files::{Conflicts, Merging, Side, Unit};
+use keyed_requests::{Conflicts, Merging, Side, Unit};
 use std::alloc::{AllocError, Global};
 
 const CONFLICTS: OneOf = OneOf {

@@ -3,7 +3,7 @@
 use crate::form::delimiter_for;
 use crate::{ParseError, file_of, names_of, put, row_format_of, settings_of};
 use clap::ArgMatches;
-use keyed_files::{Command, Finding, Layer, Lookup, LookupKind, NamedFile, Overlay};
+use keyed_requests::{Command, Finding, Layer, Lookup, LookupKind, NamedFile, Overlay};
 use std::alloc::Global;
 
 /// A look-up.

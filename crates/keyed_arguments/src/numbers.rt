@@ -2,7 +2,7 @@
 
 use crate::{ParseError, flag, put, text};
 use clap::{Arg, ArgMatches};
-use keyed_files::Decimal;
+use keyed_numbers::Decimal;
 use std::alloc::{AllocError, Global};
 
 /// Puts the options after others.

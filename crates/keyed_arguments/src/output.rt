@@ -2,7 +2,7 @@
 
 use crate::{ParseError, flag, option, put};
 use clap::{Arg, ArgMatches};
-use keyed_files::Heading;
+use keyed_requests::Heading;
 use std::alloc::{AllocError, Global};
 
 /// The file that the answer goes into, if that is not the standard output.

@@ -2,7 +2,7 @@
 
 use crate::{ParseError, put, text};
 use clap::{Arg, ArgMatches};
-use keyed_files::key_names;
+use keyed_columns::key_names;
 use std::alloc::{AllocError, Global};
 
 // The name of the option.

@@ -2,7 +2,7 @@
 
 use crate::{ParseError, text};
 use clap::{Arg, ArgMatches};
-use keyed_files::Colours;
+use keyed_requests::Colours;
 use std::alloc::Global;
 
 /// What is known of the standard output where it is a terminal.

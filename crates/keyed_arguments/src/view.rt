@@ -4,9 +4,9 @@ use crate::numbers::tolerance_of;
 use crate::terminal::{Terminal, width_of, width_option};
 use crate::{ParseError, flag, put, text};
 use clap::{Arg, ArgMatches};
-use keyed_files::{
-    Colours, ColumnsShown, Comparing, Decimal, Format, Look, Picked, RowsShown, View, key_names,
-};
+use keyed_columns::key_names;
+use keyed_numbers::Decimal;
+use keyed_requests::{Colours, ColumnsShown, Comparing, Format, Look, Picked, RowsShown, View};
 use std::alloc::{AllocError, Global};
 
 // The options that leave something out and take a text: the name of each, what stands for the text in the help, and its help.

@@ -27,8 +27,8 @@ use Rattle.eob_joins.specs.Settled.{IsMergeWith}
 use Rattle.eob_joins.specs.Versions.{IsMergeByKey}
 use Rattle.eob_joins.specs.declared.versions.Merged.{Merged}
 use Rattle.eob_joins.specs.declared.versions.Merged.TheVariants.{Whole, Conflicts}
-use Rattle.keyed_files.specs.declared.columns.Columns.{Columns}
-use Rattle.keyed_files.specs.declared.request.Form.{Form}
+use Rattle.keyed_requests.specs.declared.request.Form.{Form}
+use Rattle.keyed_columns.specs.declared.columns.Columns.{Columns}
 use Rattle.keyed_tables.specs.RowsByCell.{GivesRow, can_by_row}
 use Rattle.keyed_commands.specs.declared.answer.Answer.{Answer}
 use Rattle.keyed_commands.specs.Answers.{AllFit, AnswersMerge, AnswersMerged, AnswersMergedByCell, HasConflict, HasNoConflict, HasNoneStuck, HasStuck}

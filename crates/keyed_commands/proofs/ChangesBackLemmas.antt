@@ -19,10 +19,11 @@ use Rattle.eob_lists.proofs.MergeLemmas.{up}
 use Rattle.eob_joins.specs.Changes.{changed}
 use Rattle.eob_joins.specs.Tables.{IsKeptOfJoin, kept}
 use Rattle.eob_joins.proofs.TableLemmas.{by_test, kept_join, kept_law, same_table}
+use Rattle.keyed_columns.specs.Placed.{placed}
+use Rattle.keyed_columns.specs.declared.columns.Columns.{Columns}
+use Rattle.keyed_columns.specs.declared.columns.Place.{Place}
 use Rattle.keyed_files.specs.Reading.{parts_of}
-use Rattle.keyed_files.specs.Rows.{placed, rows_under, shown_sign}
-use Rattle.keyed_files.specs.declared.columns.Columns.{Columns}
-use Rattle.keyed_files.specs.declared.columns.Place.{Place}
+use Rattle.keyed_files.specs.Rows.{rows_under, shown_sign}
 use Rattle.keyed_files.specs.declared.sign.Sign.{Sign}
 use Rattle.keyed_files.specs.declared.sign.Sign.TheVariants.{Minus, Plus}
 use Rattle.keyed_files.specs.declared.sign.SignedRow.{SignedRow}

@@ -9,22 +9,21 @@ use Rattle.std.proofs.lemmas.List.Folds.{list_any-append}
 use Rattle.std.proofs.lemmas.List.Quantifiers.{position-Some}
 use Rattle.csv.specs.Records.{field_at}
 use Rattle.indexmap.specs.IndexSet.{insert_all}
-use Rattle.keyed_files.specs.ChangedColumns.{begins_marked, changed_names, fate_between, marked_between, marked_name, marked_names}
-use Rattle.keyed_files.specs.ColumnNames.{AreColumns, WriteNames, column_names, distinct, has_name, is_beside, or_header, place_under_key}
-use Rattle.keyed_files.specs.Going.{going, name_if_goes}
-use Rattle.keyed_files.specs.Headers.{unmarked}
-use Rattle.keyed_files.specs.Names.{place_in, repeats}
-use Rattle.keyed_files.specs.Picked.{cell_at}
-use Rattle.keyed_files.specs.Reading.{cell_under, row_under}
-use Rattle.keyed_files.specs.Rows.{placed}
-use Rattle.keyed_files.specs.declared.columns.Columns.{Columns}
-use Rattle.keyed_files.specs.declared.columns.Place.{Place}
-use Rattle.keyed_files.specs.declared.fate.Fate.{Fate}
-use Rattle.keyed_files.specs.declared.fate.Fate.TheVariants as fate
-use Rattle.keyed_files.specs.declared.source.Content.TheVariants.{Changes, Rows}
-use Rattle.keyed_files.proofs.ColumnLemmas.{distinct-inserted, inserted}
-use Rattle.keyed_files.proofs.LawLemmas.{distinct-once, has-kept, names-of, names-once}
-use Rattle.keyed_files.proofs.NameLemmas.{all_names as in_all, none_at}
+use Rattle.keyed_columns.specs.ChangedColumns.{begins_marked, changed_names, fate_between, marked_between, marked_name, marked_names}
+use Rattle.keyed_columns.specs.ColumnNames.{AreColumns, WriteNames, column_names, distinct, has_name, is_beside, or_header, place_under_key}
+use Rattle.keyed_columns.specs.Going.{going, name_if_goes}
+use Rattle.keyed_columns.specs.Headers.{unmarked}
+use Rattle.keyed_columns.specs.Names.{place_in, repeats}
+use Rattle.keyed_columns.specs.CellsUnder.{cell_at, cell_under, row_under}
+use Rattle.keyed_columns.specs.Placed.{placed}
+use Rattle.keyed_columns.specs.declared.columns.Columns.{Columns}
+use Rattle.keyed_columns.specs.declared.columns.Place.{Place}
+use Rattle.keyed_columns.specs.declared.fate.Fate.{Fate}
+use Rattle.keyed_columns.specs.declared.fate.Fate.TheVariants as fate
+use Rattle.keyed_columns.specs.declared.content.Content.TheVariants.{Changes, Rows}
+use Rattle.keyed_columns.proofs.ColumnLemmas.{distinct-inserted, inserted}
+use Rattle.keyed_columns.proofs.LawLemmas.{distinct-once, has-kept, names-of, names-once}
+use Rattle.keyed_columns.proofs.NameLemmas.{all_names as in_all, none_at}
 use Rattle.keyed_commands.specs.ChangesRead.{signed_under}
 use Rattle.keyed_commands.proofs.ChangesBackLemmas.{ReadsBack}
 

@@ -5,21 +5,23 @@ use Rattle.std.specs.List.{flat_map}
 use Rattle.std.proofs.lemmas.List.{append-nil}
 use Rattle.eob_joins.specs.Changes.{changed}
 use Rattle.eob_joins.specs.Tables.{IsKeptOfJoin}
-use Rattle.keyed_files.specs.AnswerForm.{in_style, writes_heading}
-use Rattle.keyed_files.specs.ChangedColumns.{changed_names}
-use Rattle.keyed_files.specs.ColumnNames.{WriteNames, column_names, distinct, has_name, or_header}
-use Rattle.keyed_files.specs.Going.{going}
+use Rattle.keyed_requests.specs.AnswerForm.{in_style, writes_heading}
+use Rattle.keyed_requests.specs.FormBytes.{comment_of, delimiter_of}
+use Rattle.keyed_requests.specs.declared.request.Form.{Form}
+use Rattle.keyed_requests.specs.declared.request.Settings.{Settings}
+use Rattle.keyed_columns.specs.ChangedColumns.{changed_names}
+use Rattle.keyed_columns.specs.ColumnNames.{WriteNames, column_names, distinct, has_name, or_header}
+use Rattle.keyed_columns.specs.Going.{going}
+use Rattle.keyed_columns.specs.Keys.{AreKeyNames, first_name}
+use Rattle.keyed_columns.specs.Names.{repeats}
+use Rattle.keyed_columns.specs.CellsUnder.{cell_under, row_under}
+use Rattle.keyed_columns.specs.Placed.{names_headed, names_placed, placed}
+use Rattle.keyed_columns.specs.declared.columns.Columns.{Columns}
+use Rattle.keyed_columns.specs.declared.content.Content.TheVariants.{Rows}
+use Rattle.keyed_columns.proofs.LawLemmas.{distinct-once, writes-names}
 use Rattle.keyed_files.specs.Gone.{GoneBy}
-use Rattle.keyed_files.specs.Keys.{AreKeyNames, first_name}
-use Rattle.keyed_files.specs.Names.{repeats}
-use Rattle.keyed_files.specs.Reading.{HeadedBy, behind_header, cell_under, row_under}
-use Rattle.keyed_files.specs.Rows.{change_name, names_headed, names_placed, placed}
-use Rattle.keyed_files.specs.Writing.{comment_of, delimiter_of}
-use Rattle.keyed_files.specs.declared.columns.Columns.{Columns}
-use Rattle.keyed_files.specs.declared.request.Form.{Form}
-use Rattle.keyed_files.specs.declared.request.Settings.{Settings}
-use Rattle.keyed_files.specs.declared.source.Content.TheVariants.{Rows}
-use Rattle.keyed_files.proofs.LawLemmas.{distinct-once, writes-names}
+use Rattle.keyed_files.specs.Reading.{HeadedBy, behind_header}
+use Rattle.keyed_files.specs.Rows.{change_name}
 use Rattle.keyed_text.specs.Texts.{AreRows, BeginsComments, PartsCells}
 use Rattle.keyed_text.proofs.TextLemmas.{rows-once}
 use Rattle.keyed_commands.specs.Answers.{AnswersTable, Stops, TableRows, key_cmp, rows_eq}

@@ -6,12 +6,12 @@ use Rattle.csv.specs.Reading.{Reached, strip_bom}
 use Rattle.csv.specs.declared.parser.Config.{Config}
 use Rattle.csv.specs.declared.parser.State.{State}
 use Rattle.csv.specs.declared.parser.State.TheVariants as st
+use Rattle.keyed_requests.specs.FormBytes.{comment_of, delimiter_of}
+use Rattle.keyed_requests.specs.declared.request.Form.{Form}
+use Rattle.keyed_columns.specs.Spelled.{SpelledBy, SpelledOf}
+use Rattle.keyed_columns.specs.declared.content.Content.{Content}
 use Rattle.keyed_files.specs.Gone.{GoneBy, GoneOf, IsGoneHeader, KnowsGone}
 use Rattle.keyed_files.specs.Reading.{HasGiven, HasGivenIn, IsHeader, IsOpen, last_record}
-use Rattle.keyed_files.specs.Spelled.{SpelledBy, SpelledOf}
-use Rattle.keyed_files.specs.Writing.{comment_of, delimiter_of}
-use Rattle.keyed_files.specs.declared.request.Form.{Form}
-use Rattle.keyed_files.specs.declared.source.Content.{Content}
 use Rattle.keyed_files.specs.declared.source.Next.{Next}
 use Rattle.keyed_files.specs.declared.source.Next.TheVariants as next
 use Rattle.keyed_files.specs.declared.source.Source.{Source}

@@ -1,25 +1,25 @@
 -- Rows of a join as they are put, and from the tables that are joined to their texts.
 use Rattle.std.proofs.Common.{◌≡◌, ◌∙◌, ℕ, Bool, true, false, List, [], ◌∷◌, ◌++◌, Option, refl, sym, ap, subst}
 use Rattle.std.specs.Prelude.{◌&&◌, option_map, if◌then◌else◌}
-use Rattle.keyed_files.specs.AnswerForm.{is_written}
-use Rattle.keyed_files.specs.JoinedNames.{joined_names}
+use Rattle.keyed_requests.specs.AnswerForm.{is_written}
+use Rattle.keyed_requests.specs.declared.request.Form.{Form}
+use Rattle.keyed_requests.specs.declared.request.Joining.{Joining}
+use Rattle.keyed_requests.specs.declared.request.Kind.{Kind}
+use Rattle.keyed_requests.specs.declared.request.Kind.TheVariants as kind
+use Rattle.keyed_requests.specs.declared.request.RowFormat.{RowFormat}
+use Rattle.keyed_requests.specs.declared.request.RowFormat.TheVariants as format
+use Rattle.keyed_requests.specs.declared.request.Settings.{Settings}
+use Rattle.keyed_columns.specs.JoinedNames.{joined_names}
+use Rattle.keyed_columns.specs.Keys.{AreJoinColumns}
+use Rattle.keyed_columns.specs.Names.{repeats}
+use Rattle.keyed_columns.specs.declared.columns.JoinColumns.{JoinColumns}
+use Rattle.keyed_columns.specs.declared.content.Content.TheVariants.{Rows}
 use Rattle.keyed_files.specs.JoinedRows.{join_heading, joined_rows, left_of, right_of}
-use Rattle.keyed_files.specs.Keys.{AreJoinColumns}
-use Rattle.keyed_files.specs.Names.{repeats}
 use Rattle.keyed_files.specs.Opening.{IsOpened, form_of}
 use Rattle.keyed_files.specs.Writing.{PutsRows, Wrote, quoted_text}
-use Rattle.keyed_files.specs.declared.columns.JoinColumns.{JoinColumns}
 use Rattle.keyed_files.specs.declared.joined_rows.Sides.{Sides}
 use Rattle.keyed_files.specs.declared.opened.Stream.{Stream}
 use Rattle.keyed_files.specs.declared.opened.Two.{Two}
-use Rattle.keyed_files.specs.declared.request.Form.{Form}
-use Rattle.keyed_files.specs.declared.request.Joining.{Joining}
-use Rattle.keyed_files.specs.declared.request.Kind.{Kind}
-use Rattle.keyed_files.specs.declared.request.Kind.TheVariants as kind
-use Rattle.keyed_files.specs.declared.request.RowFormat.{RowFormat}
-use Rattle.keyed_files.specs.declared.request.RowFormat.TheVariants as format
-use Rattle.keyed_files.specs.declared.request.Settings.{Settings}
-use Rattle.keyed_files.specs.declared.source.Content.TheVariants.{Rows}
 use Rattle.keyed_files.specs.declared.written.Written.{Written}
 use Rattle.keyed_files.proofs.WritingLemmas.{no-rows-left, then-rows}
 use Rattle.keyed_commands.specs.ComeOut.{AlikeIn, AlikePlaces, AlikeRows, HasGroups}

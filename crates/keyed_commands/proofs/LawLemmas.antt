@@ -9,11 +9,13 @@ use Rattle.eob_both.specs.Places.{from_places, left_place, right_place}
 use Rattle.eob_lists.specs.Join.{value_under}
 use Rattle.eob_joins.specs.Changes.{changed}
 use Rattle.eob_joins.proofs.TableLemmas.{apply_diff, by_test, kept_join}
-use Rattle.keyed_files.specs.AnswerForm.{writes_heading}
-use Rattle.keyed_files.specs.Rows.{change_name, placed, rows_under, shown_sign}
-use Rattle.keyed_files.specs.Writing.{comment_of, delimiter_of, text_of}
-use Rattle.keyed_files.specs.declared.columns.Place.{Place}
-use Rattle.keyed_files.specs.declared.request.Form.{Form}
+use Rattle.keyed_requests.specs.AnswerForm.{writes_heading}
+use Rattle.keyed_requests.specs.FormBytes.{comment_of, delimiter_of}
+use Rattle.keyed_requests.specs.declared.request.Form.{Form}
+use Rattle.keyed_columns.specs.Placed.{placed}
+use Rattle.keyed_columns.specs.declared.columns.Place.{Place}
+use Rattle.keyed_files.specs.Rows.{change_name, rows_under, shown_sign}
+use Rattle.keyed_files.specs.Writing.{text_of}
 use Rattle.keyed_files.specs.declared.sign.Sign.{Sign}
 use Rattle.keyed_files.specs.declared.sign.Sign.TheVariants.{Minus, Plus}
 use Rattle.keyed_text.specs.Laws.{HasCells, HasNoMark}

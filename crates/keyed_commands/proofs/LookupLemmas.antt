@@ -7,20 +7,20 @@ use Rattle.std.proofs.KnownBytes.{Appends-kept, Appends-trans}
 use Rattle.std.proofs.lemmas.List.{append-nil, map-append}
 use Rattle.eob_joins.specs.Lookup.{with_found}
 use Rattle.eob_joins.proofs.TableLemmas.{by_test}
-use Rattle.keyed_files.specs.JoinedNames.{found_names}
-use Rattle.keyed_files.specs.Keys.{AreJoinColumns}
-use Rattle.keyed_files.specs.Names.{repeats}
+use Rattle.keyed_requests.specs.declared.lookups.Finding.{Finding}
+use Rattle.keyed_requests.specs.declared.lookups.LookupKind.{LookupKind}
+use Rattle.keyed_requests.specs.declared.request.Form.{Form}
+use Rattle.keyed_requests.specs.declared.request.Layout.{Layout}
+use Rattle.keyed_columns.specs.JoinedNames.{found_names}
+use Rattle.keyed_columns.specs.Keys.{AreJoinColumns}
+use Rattle.keyed_columns.specs.Names.{repeats}
+use Rattle.keyed_columns.specs.declared.columns.JoinColumns.{JoinColumns}
+use Rattle.keyed_columns.specs.declared.content.Content.TheVariants.{Rows}
 use Rattle.keyed_files.specs.Opening.{IsOpened, form_of}
 use Rattle.keyed_files.specs.Reading.{GivesRecord, HasGiven, IsPicked, IsTable, PlacesOf, ReadBehind, ReadsOn, ReadsRest, ReadsRows, last_record, parts_of, picked}
 use Rattle.keyed_files.specs.Writing.{Wrote, quoted_text}
-use Rattle.keyed_files.specs.declared.columns.JoinColumns.{JoinColumns}
-use Rattle.keyed_files.specs.declared.lookups.Finding.{Finding}
-use Rattle.keyed_files.specs.declared.lookups.LookupKind.{LookupKind}
 use Rattle.keyed_files.specs.declared.opened.Stream.{Stream}
 use Rattle.keyed_files.specs.declared.opened.Two.{Two}
-use Rattle.keyed_files.specs.declared.request.Form.{Form}
-use Rattle.keyed_files.specs.declared.request.Layout.{Layout}
-use Rattle.keyed_files.specs.declared.source.Content.TheVariants.{Rows}
 use Rattle.keyed_files.specs.declared.source.Places.{Places}
 use Rattle.keyed_files.specs.declared.source.Source.{Source}
 use Rattle.keyed_files.specs.declared.written.Written.{Written}

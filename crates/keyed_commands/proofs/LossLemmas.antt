@@ -4,17 +4,16 @@ use Rattle.std.specs.Prelude.{◌+◌, ◌&&◌, ◌||◌, is_none, ltb, nat_eq,
 use Rattle.std.specs.Cmp.Lexicographic.{pointwise}
 use Rattle.std.specs.List.{list_any}
 use Rattle.std.proofs.lemmas.List.Elements.{All-head, All-tail}
-use Rattle.keyed_files.specs.ColumnNames.{has_name, is_beside, place_by, place_under_key}
-use Rattle.keyed_files.specs.Names.{place_in}
-use Rattle.keyed_files.specs.Reading.{cell_under}
-use Rattle.keyed_files.specs.declared.columns.Columns.{Columns}
-use Rattle.keyed_files.specs.declared.columns.Place.{Place}
-use Rattle.keyed_files.specs.declared.source.Content.TheVariants.{Rows}
-use Rattle.keyed_files.proofs.LawLemmas.{has-kept}
-use Rattle.keyed_files.proofs.NameLemmas.{none_at}
-use Rattle.keyed_files.specs.Picked.{cell_at}
+use Rattle.keyed_columns.specs.ColumnNames.{has_name, is_beside, place_by, place_under_key}
+use Rattle.keyed_columns.specs.Names.{place_in}
+use Rattle.keyed_columns.specs.CellsUnder.{cell_under, cell_at}
+use Rattle.keyed_columns.specs.declared.columns.Columns.{Columns}
+use Rattle.keyed_columns.specs.declared.columns.Place.{Place}
+use Rattle.keyed_columns.specs.declared.content.Content.TheVariants.{Rows}
+use Rattle.keyed_columns.proofs.LawLemmas.{has-kept}
+use Rattle.keyed_columns.proofs.NameLemmas.{none_at}
+use Rattle.keyed_columns.specs.Lost.{count_written, is_filled, is_rest, loses_cells}
 use Rattle.keyed_commands.specs.Answers.{TableRows}
-use Rattle.keyed_files.specs.Lost.{count_written, is_filled, is_rest, loses_cells}
 use Rattle.keyed_commands.specs.Lost.{loses}
 use Rattle.keyed_commands.proofs.ColumnsBackLemmas.{WritesOf, has_head, or_second}
 use Rattle.keyed_commands.proofs.TextLawLemmas.{IsRow}

@@ -4,10 +4,10 @@ use Rattle.std.specs.Prelude.{MatchBool}
 use Rattle.std.specs.Option.{option_eq}
 use Rattle.eob_joins.specs.Versions.{merged_place}
 use Rattle.eob_joins.proofs.TableLemmas.{by_test}
-use Rattle.keyed_files.specs.AnswerForm.{in_style}
-use Rattle.keyed_files.specs.declared.request.Form.{Form}
-use Rattle.keyed_files.specs.declared.request.Settings.{Settings}
-use Rattle.keyed_files.specs.declared.merging.Unit.TheVariants as unit
+use Rattle.keyed_requests.specs.AnswerForm.{in_style}
+use Rattle.keyed_requests.specs.declared.request.Form.{Form}
+use Rattle.keyed_requests.specs.declared.request.Settings.{Settings}
+use Rattle.keyed_requests.specs.declared.merging.Unit.TheVariants as unit
 use Rattle.keyed_commands.specs.Answers.{AnswersMerged, HasNoConflict, IsTableText, Stops, clashes_at, rows_eq}
 use Rattle.keyed_commands.specs.Lost.{loses}
 use Rattle.keyed_commands.specs.MergedTexts.{AnswersByRow, MergesTexts}

@@ -5,18 +5,18 @@ use Rattle.std.specs.List.{AllZip, flat_map}
 use Rattle.eob_both.specs.Places.{from_places}
 use Rattle.either_or_both.specs.Join.{Rising, value_under}
 use Rattle.eob_lists.proofs.MergeLemmas.{rising}
-use Rattle.keyed_files.specs.Keys.{AreColumnsBy}
+use Rattle.keyed_requests.specs.declared.overlays.Layer.{Layer}
+use Rattle.keyed_requests.specs.declared.overlays.Layer.TheVariants as layer
+use Rattle.keyed_requests.specs.declared.request.Form.{Form}
+use Rattle.keyed_requests.specs.declared.request.Settings.{Settings}
+use Rattle.keyed_columns.specs.Keys.{AreColumnsBy}
+use Rattle.keyed_columns.specs.Spelled.{IsSpelledAs}
+use Rattle.keyed_columns.specs.declared.columns.Columns.{Columns}
+use Rattle.keyed_columns.specs.declared.content.Content.TheVariants.{Rows}
 use Rattle.keyed_files.specs.Opening.{IsRenamed, form_of, text_of_stream}
 use Rattle.keyed_files.specs.Reading.{IsOpen}
-use Rattle.keyed_files.specs.Spelled.{IsSpelledAs}
-use Rattle.keyed_files.specs.declared.columns.Columns.{Columns}
 use Rattle.keyed_files.specs.declared.opened.Opened.{Opened}
 use Rattle.keyed_files.specs.declared.opened.Stream.{Stream}
-use Rattle.keyed_files.specs.declared.overlays.Layer.{Layer}
-use Rattle.keyed_files.specs.declared.overlays.Layer.TheVariants as layer
-use Rattle.keyed_files.specs.declared.request.Form.{Form}
-use Rattle.keyed_files.specs.declared.request.Settings.{Settings}
-use Rattle.keyed_files.specs.declared.source.Content.TheVariants.{Rows}
 use Rattle.keyed_files.specs.declared.source.Source.{Source}
 use Rattle.keyed_files.proofs.TableLemmas.{open-renamed}
 use Rattle.keyed_commands.specs.Answers.{TableRows, key_cmp}

@@ -1,17 +1,17 @@
 -- From the rows that are read of a file to its table.
 use Rattle.std.proofs.Common.{◌≡◌, ◌∙◌, ◌++◌, ℕ, Bool, true, false, List, [], Option, None, Some, ap, subst, sym}
 use Rattle.std.specs.Prelude.{◌↔◌, ◌||◌, IfSome}
-use Rattle.keyed_files.specs.Keys.{AreChangeColumns}
-use Rattle.keyed_files.specs.Names.{compared, has_lone}
+use Rattle.keyed_requests.specs.declared.request.Settings.{Settings}
+use Rattle.keyed_columns.specs.Keys.{AreChangeColumns}
+use Rattle.keyed_columns.specs.Names.{compared, has_lone}
+use Rattle.keyed_columns.specs.declared.column_changes.ColumnChanges.{ColumnChanges}
+use Rattle.keyed_columns.specs.declared.columns.Columns.{Columns}
+use Rattle.keyed_columns.specs.declared.content.Content.TheVariants.{Rows}
 use Rattle.keyed_files.specs.Opening.{IsNamedAnew, IsOpened, IsRenamed, form_of}
 use Rattle.keyed_files.specs.Reading.{IsOpen, ReadsRows}
 use Rattle.keyed_files.proofs.TableLemmas.{open-anew}
-use Rattle.keyed_files.specs.declared.column_changes.ColumnChanges.{ColumnChanges}
-use Rattle.keyed_files.specs.declared.columns.Columns.{Columns}
 use Rattle.keyed_files.specs.declared.opened.Stream.{Stream}
 use Rattle.keyed_files.specs.declared.opened.Two.{Two}
-use Rattle.keyed_files.specs.declared.request.Settings.{Settings}
-use Rattle.keyed_files.specs.declared.source.Content.TheVariants.{Rows}
 use Rattle.keyed_files.specs.declared.source.Source.{Source}
 use Rattle.keyed_rows.specs.declared.row.ReadRow.{ReadRow}
 use Rattle.keyed_commands.specs.Answers.{IsDiffStatus, IsDiffText, TableRows, status_of}

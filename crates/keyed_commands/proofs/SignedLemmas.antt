@@ -4,14 +4,15 @@ use Rattle.std.proofs.lemmas.Grind.{flat_map-append}
 use Rattle.std.proofs.lemmas.List.{append-nil, map-append}
 use Rattle.std.proofs.lemmas.Simd.{map-map}
 use Rattle.csv.specs.Records.{field_at}
-use Rattle.keyed_files.specs.Headers.{ArePlaces, place_under}
-use Rattle.keyed_files.specs.Picked.{cell_at}
+use Rattle.keyed_requests.specs.FormBytes.{comment_of, delimiter_of}
+use Rattle.keyed_requests.specs.declared.request.Form.{Form}
+use Rattle.keyed_columns.specs.Headers.{place_under}
+use Rattle.keyed_columns.specs.CellsUnder.{cell_at}
+use Rattle.keyed_columns.specs.declared.columns.Columns.{Columns}
+use Rattle.keyed_columns.specs.declared.content.Content.TheVariants.{Changes}
+use Rattle.keyed_files.specs.CellPlaces.{ArePlaces}
 use Rattle.keyed_files.specs.Reading.{GivesRecord, HasGiven, IsHeader, IsSigned, PlacesOf, last_record}
-use Rattle.keyed_files.specs.Writing.{comment_of, delimiter_of}
-use Rattle.keyed_files.specs.declared.columns.Columns.{Columns}
-use Rattle.keyed_files.specs.declared.request.Form.{Form}
 use Rattle.keyed_files.specs.declared.sign.SignedRow.{SignedRow}
-use Rattle.keyed_files.specs.declared.source.Content.TheVariants.{Changes}
 use Rattle.keyed_files.specs.declared.source.Places.{Places}
 use Rattle.keyed_files.specs.declared.source.Source.{Source}
 use Rattle.keyed_rows.specs.declared.row.ReadRow.{ReadRow}

@@ -4,14 +4,14 @@ use Rattle.std.specs.Prelude.{◌&&◌, unwrap_or}
 use Rattle.std.specs.Cmp.Lexicographic.{pointwise}
 use Rattle.keyed_text.specs.Texts.{AreRows}
 use Rattle.keyed_text.proofs.TextLemmas.{rows-once}
-use Rattle.keyed_files.specs.Names.{repeats}
+use Rattle.keyed_requests.specs.FormBytes.{comment_of, delimiter_of}
+use Rattle.keyed_requests.specs.declared.request.Form.{Form}
+use Rattle.keyed_columns.specs.Names.{repeats}
+use Rattle.keyed_columns.specs.Placed.{names_headed, names_placed}
+use Rattle.keyed_columns.specs.Spelled.{IsSpelledAs, SpelledBy, SpelledOf, spelled_as}
+use Rattle.keyed_columns.specs.declared.columns.Columns.{Columns}
+use Rattle.keyed_columns.specs.declared.content.Content.TheVariants.{Rows}
 use Rattle.keyed_files.specs.Reading.{HeadedBy}
-use Rattle.keyed_files.specs.Rows.{names_headed, names_placed}
-use Rattle.keyed_files.specs.Spelled.{IsSpelledAs, SpelledBy, SpelledOf, spelled_as}
-use Rattle.keyed_files.specs.Writing.{comment_of, delimiter_of}
-use Rattle.keyed_files.specs.declared.columns.Columns.{Columns}
-use Rattle.keyed_files.specs.declared.request.Form.{Form}
-use Rattle.keyed_files.specs.declared.source.Content.TheVariants.{Rows}
 use Rattle.keyed_commands.proofs.ColumnsBackLemmas.{same_name}
 
 first_too : (a b : Bool) → (a && b) ≡ true → a ≡ true

@@ -6,19 +6,21 @@ use Rattle.std.proofs.lemmas.List.{get_or-map, map-append}
 use Rattle.std.proofs.lemmas.List.Elements.{All-append, All-cons, All-head, All-nil, All-tail}
 use Rattle.std.proofs.lemmas.List.Quantifiers.{position-Some}
 use Rattle.csv.specs.Reading.{is_bom, strip_bom}
-use Rattle.keyed_files.specs.AnswerForm.{writes_heading}
-use Rattle.keyed_files.specs.ColumnNames.{WriteNames}
-use Rattle.keyed_files.specs.Encodings.{begins, is_marked}
-use Rattle.keyed_files.specs.Names.{place_in, repeats}
-use Rattle.keyed_files.specs.Picked.{cell_at}
-use Rattle.keyed_files.specs.Reading.{behind_header, cell_under, parts_of, row_under}
-use Rattle.keyed_files.specs.Rows.{heading, names_headed, names_placed, names_row, placed, rows_under, table_rows}
-use Rattle.keyed_files.specs.Writing.{comment_of, delimiter_of, file_text, quoted, text_of}
-use Rattle.keyed_files.specs.declared.columns.Columns.{Columns}
-use Rattle.keyed_files.specs.declared.columns.Place.{Place}
-use Rattle.keyed_files.specs.declared.request.Form.{Form}
-use Rattle.keyed_files.specs.declared.source.Content.TheVariants.{Rows}
-use Rattle.keyed_files.proofs.LawLemmas.{writes-names}
+use Rattle.keyed_faults.specs.Encodings.{begins, is_marked}
+use Rattle.keyed_requests.specs.AnswerForm.{writes_heading}
+use Rattle.keyed_requests.specs.FormBytes.{comment_of, delimiter_of}
+use Rattle.keyed_requests.specs.declared.request.Form.{Form}
+use Rattle.keyed_columns.specs.ColumnNames.{WriteNames}
+use Rattle.keyed_columns.specs.Names.{place_in, repeats}
+use Rattle.keyed_columns.specs.CellsUnder.{cell_at, cell_under, row_under}
+use Rattle.keyed_columns.specs.Placed.{names_headed, names_placed, placed}
+use Rattle.keyed_columns.specs.declared.columns.Columns.{Columns}
+use Rattle.keyed_columns.specs.declared.columns.Place.{Place}
+use Rattle.keyed_columns.specs.declared.content.Content.TheVariants.{Rows}
+use Rattle.keyed_columns.proofs.LawLemmas.{writes-names}
+use Rattle.keyed_files.specs.Reading.{behind_header, parts_of}
+use Rattle.keyed_files.specs.Rows.{heading, names_row, rows_under, table_rows}
+use Rattle.keyed_files.specs.Writing.{file_text, quoted, text_of}
 use Rattle.keyed_tables.specs.Gathered.{HoldsRows}
 use Rattle.keyed_text.specs.Laws.{HasCells}
 use Rattle.keyed_text.specs.Texts.{AreRows, BeginsComments, PartsCells, finished}

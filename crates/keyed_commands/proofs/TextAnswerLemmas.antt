@@ -1,21 +1,21 @@
 -- From what `apply` and `merge` answer of sources to what they answer of texts.
 use Rattle.std.proofs.Common.{◌≡◌, ℕ, false, List, Option, None, Some, refl, subst, sym}
 use Rattle.std.specs.Prelude.{IfSome}
-use Rattle.keyed_files.specs.AnswerForm.{in_style}
+use Rattle.keyed_requests.specs.AnswerForm.{in_style}
+use Rattle.keyed_requests.specs.declared.merging.Unit.{Unit}
+use Rattle.keyed_requests.specs.declared.request.Form.{Form}
+use Rattle.keyed_requests.specs.declared.request.Settings.{Settings}
+use Rattle.keyed_columns.specs.Keys.{AreChangedColumnsBy, AreMergedColumnsBy}
+use Rattle.keyed_columns.specs.Spelled.{IsSpelledAs}
+use Rattle.keyed_columns.specs.declared.columns.Columns.{Columns}
+use Rattle.keyed_columns.specs.declared.content.Content.TheVariants.{Changes, Rows}
 use Rattle.keyed_files.specs.Gone.{GoneOf, IsGoneRead}
-use Rattle.keyed_files.specs.Keys.{AreChangedColumnsBy, AreMergedColumnsBy}
 use Rattle.keyed_files.specs.Opening.{IsNamedAnew, IsOpened, form_of, text_of_stream}
 use Rattle.keyed_files.specs.Reading.{IsOpen}
-use Rattle.keyed_files.specs.Spelled.{IsSpelledAs}
 use Rattle.keyed_files.proofs.TableLemmas.{open-anew}
-use Rattle.keyed_files.specs.declared.merging.Unit.{Unit}
 use Rattle.keyed_files.specs.declared.opened.Opened.{Opened}
 use Rattle.keyed_files.specs.declared.opened.Stream.{Stream}
 use Rattle.keyed_files.specs.declared.opened.Two.{Two}
-use Rattle.keyed_files.specs.declared.columns.Columns.{Columns}
-use Rattle.keyed_files.specs.declared.request.Form.{Form}
-use Rattle.keyed_files.specs.declared.request.Settings.{Settings}
-use Rattle.keyed_files.specs.declared.source.Content.TheVariants.{Changes, Rows}
 use Rattle.keyed_commands.specs.AppliedTexts.{AnswersApplied, AppliesSources, AppliesStreams, AppliesTexts}
 use Rattle.keyed_tables.specs.Arranged.{noted}
 use Rattle.keyed_commands.specs.ChangesRead.{SaysChanges}

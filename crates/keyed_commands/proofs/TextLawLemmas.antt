@@ -10,19 +10,21 @@ use Rattle.eob_lists.specs.Join.{IsJoin, Rising, value_under}
 use Rattle.eob_joins.specs.Changes.{changed}
 use Rattle.eob_joins.specs.Tables.{IsKeptOfJoin, kept}
 use Rattle.eob_joins.proofs.TableLemmas.{same_table}
-use Rattle.keyed_files.specs.AnswerForm.{writes_heading}
-use Rattle.keyed_files.specs.ColumnNames.{column_names}
-use Rattle.keyed_files.specs.Headers.{unmarked}
-use Rattle.keyed_files.specs.Names.{repeats}
-use Rattle.keyed_files.specs.Reading.{HeadedBy, behind_header, parts_of, row_under}
-use Rattle.keyed_files.specs.Rows.{change_name, placed}
-use Rattle.keyed_files.specs.Writing.{comment_of, delimiter_of}
-use Rattle.keyed_files.specs.declared.columns.Columns.{Columns}
-use Rattle.keyed_files.specs.declared.columns.Place.{Place}
-use Rattle.keyed_files.specs.declared.request.Form.{Form}
-use Rattle.keyed_files.specs.declared.request.Settings.{Settings}
-use Rattle.keyed_files.specs.declared.source.Content.TheVariants.{Changes, Rows}
-use Rattle.keyed_files.proofs.LawLemmas.{cells-of}
+use Rattle.keyed_requests.specs.AnswerForm.{writes_heading}
+use Rattle.keyed_requests.specs.FormBytes.{comment_of, delimiter_of}
+use Rattle.keyed_requests.specs.declared.request.Form.{Form}
+use Rattle.keyed_requests.specs.declared.request.Settings.{Settings}
+use Rattle.keyed_columns.specs.ColumnNames.{column_names}
+use Rattle.keyed_columns.specs.Headers.{unmarked}
+use Rattle.keyed_columns.specs.Names.{repeats}
+use Rattle.keyed_columns.specs.CellsUnder.{row_under}
+use Rattle.keyed_columns.specs.Placed.{placed}
+use Rattle.keyed_columns.specs.declared.columns.Columns.{Columns}
+use Rattle.keyed_columns.specs.declared.columns.Place.{Place}
+use Rattle.keyed_columns.specs.declared.content.Content.TheVariants.{Changes, Rows}
+use Rattle.keyed_columns.proofs.LawLemmas.{cells-of}
+use Rattle.keyed_files.specs.Reading.{HeadedBy, behind_header, parts_of}
+use Rattle.keyed_files.specs.Rows.{change_name}
 use Rattle.keyed_rows.specs.declared.row.ReadRow.{ReadRow}
 use Rattle.keyed_tables.specs.Gathered.{HoldsRows}
 use Rattle.keyed_text.specs.Texts.{AreRows, BeginsComments, PartsCells}

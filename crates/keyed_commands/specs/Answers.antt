@@ -15,12 +15,12 @@ use Rattle.eob_joins.specs.Tables.{IsKeptOfJoin, Tabulates}
 use Rattle.eob_joins.specs.Versions.{is_conflict, merged_place, verdict}
 use Rattle.keyed_tables.specs.RowsByCell.{GivesRow, can_by_row}
 use Rattle.keyed_commands.specs.Lost.{loses}
-use Rattle.keyed_files.specs.Names.{has_lone}
+use Rattle.keyed_requests.specs.declared.request.Form.{Form}
+use Rattle.keyed_columns.specs.Names.{has_lone}
+use Rattle.keyed_columns.specs.declared.column_changes.ColumnChanges.{ColumnChanges}
+use Rattle.keyed_columns.specs.declared.columns.Columns.{Columns}
 use Rattle.keyed_files.specs.Rows.{heading, table_rows}
 use Rattle.keyed_files.specs.Writing.{file_text, text_of}
-use Rattle.keyed_files.specs.declared.column_changes.ColumnChanges.{ColumnChanges}
-use Rattle.keyed_files.specs.declared.columns.Columns.{Columns}
-use Rattle.keyed_files.specs.declared.request.Form.{Form}
 use Rattle.keyed_commands.specs.declared.answer.Answer.{Answer}
 use Rattle.keyed_commands.specs.declared.answer.Outcome.TheVariants.{Made, Stopped}
 use Rattle.keyed_commands.specs.ChangeRows.{changes_heading, changes_rows}

@@ -1,17 +1,17 @@
 -- What `apply` answers of the texts of a table and of changes.
 use Rattle.std.specs.Prelude.{◌≡◌, ℕ, Bool, false, true, List, Option, None, IfSome}
 use Rattle.keyed_text.specs.declared.style.Style.{Style}
-use Rattle.keyed_files.specs.AnswerForm.{in_style}
+use Rattle.keyed_requests.specs.AnswerForm.{in_style}
+use Rattle.keyed_requests.specs.declared.request.Form.{Form}
+use Rattle.keyed_requests.specs.declared.request.Settings.{Settings}
+use Rattle.keyed_columns.specs.Keys.{AreChangedColumnsBy}
+use Rattle.keyed_columns.specs.Spelled.{IsSpelledAs, SpelledOf}
+use Rattle.keyed_columns.specs.declared.columns.Columns.{Columns}
+use Rattle.keyed_columns.specs.declared.content.Content.TheVariants.{Changes, Rows}
 use Rattle.keyed_files.specs.Gone.{GoneOf}
-use Rattle.keyed_files.specs.Keys.{AreChangedColumnsBy}
 use Rattle.keyed_files.specs.Opening.{form_of, text_of_stream}
-use Rattle.keyed_files.specs.Spelled.{IsSpelledAs, SpelledOf}
-use Rattle.keyed_files.specs.declared.columns.Columns.{Columns}
 use Rattle.keyed_files.specs.declared.opened.Stream.{Stream}
 use Rattle.keyed_files.specs.declared.opened.Two.{Two}
-use Rattle.keyed_files.specs.declared.request.Form.{Form}
-use Rattle.keyed_files.specs.declared.request.Settings.{Settings}
-use Rattle.keyed_files.specs.declared.source.Content.TheVariants.{Changes, Rows}
 use Rattle.keyed_tables.specs.Arranged.{noted}
 use Rattle.keyed_commands.specs.Answers.{AllFit, AnswersPatched, Stops, TableChanges, TableRows, key_cmp}
 use Rattle.keyed_commands.specs.ChangesRead.{ReadsChanges, SaysChanges}

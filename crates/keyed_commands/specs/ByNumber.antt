@@ -8,8 +8,8 @@ use Rattle.eob_both.specs.declared.either_or_both.EitherOrBoth.{EitherOrBoth}
 use Rattle.eob_both.specs.declared.either_or_both.EitherOrBoth.TheVariants.{Left, Both, Right}
 use Rattle.eob_joins.specs.Cells.{same_length}
 use Rattle.eob_joins.specs.Tables.{kept}
-use Rattle.keyed_files.specs.declared.merging.Unit.{Unit}
-use Rattle.keyed_files.specs.declared.merging.Unit.TheVariants as unit
+use Rattle.keyed_requests.specs.declared.merging.Unit.{Unit}
+use Rattle.keyed_requests.specs.declared.merging.Unit.TheVariants as unit
 use Rattle.keyed_numbers.specs.Decimals.{same_cell}
 use Rattle.keyed_numbers.specs.declared.decimal.Decimal.{Decimal}
 use Rattle.keyed_tables.specs.RowsByCell.{one_row}

@@ -3,9 +3,9 @@ use Rattle.std.specs.Prelude.{ℕ, List, [], ◌∷◌, ◌++◌, Option, Some, 
 use Rattle.std.specs.List.{flat_map}
 use Rattle.either_or_both.specs.Prelude.{left_place, right_place}
 use Rattle.eob_both.specs.declared.either_or_both.EitherOrBoth.{EitherOrBoth}
-use Rattle.keyed_files.specs.AnswerForm.{writes_heading}
-use Rattle.keyed_files.specs.declared.columns.Place.{Place}
-use Rattle.keyed_files.specs.declared.request.Form.{Form}
+use Rattle.keyed_requests.specs.AnswerForm.{writes_heading}
+use Rattle.keyed_requests.specs.declared.request.Form.{Form}
+use Rattle.keyed_columns.specs.declared.columns.Place.{Place}
 use Rattle.keyed_files.specs.declared.sign.Sign.{Sign}
 use Rattle.keyed_files.specs.declared.sign.Sign.TheVariants.{Minus, Plus}
 use Rattle.keyed_files.specs.Rows.{change_name, rows_under, shown_sign}

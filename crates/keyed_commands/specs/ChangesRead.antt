@@ -3,15 +3,16 @@ use Rattle.std.specs.Prelude.{◌≡◌, ℕ, Bool, List, [], ◌∷◌, ◌++�
 use Rattle.std.specs.List.{flat_map}
 use Rattle.csv.specs.Records.{field_at}
 use Rattle.either_or_both.specs.Join.{IsJoin}
-use Rattle.keyed_files.specs.Reading.{HasGiven, HeadedBy, IsOpen, behind_header, parts_of, picked, row_under}
+use Rattle.keyed_requests.specs.FormBytes.{comment_of, delimiter_of}
+use Rattle.keyed_requests.specs.declared.request.Form.{Form}
+use Rattle.keyed_columns.specs.CellsUnder.{row_under}
+use Rattle.keyed_columns.specs.declared.columns.Columns.{Columns}
+use Rattle.keyed_columns.specs.declared.content.Content.TheVariants.{Changes}
+use Rattle.keyed_files.specs.Reading.{HasGiven, HeadedBy, IsOpen, behind_header, parts_of, picked}
 use Rattle.keyed_files.specs.Rows.{shown_sign}
-use Rattle.keyed_files.specs.Writing.{comment_of, delimiter_of}
-use Rattle.keyed_files.specs.declared.columns.Columns.{Columns}
-use Rattle.keyed_files.specs.declared.request.Form.{Form}
 use Rattle.keyed_files.specs.declared.sign.Sign.{Sign}
 use Rattle.keyed_files.specs.declared.sign.Sign.TheVariants.{Minus, Plus}
 use Rattle.keyed_files.specs.declared.sign.SignedRow.{SignedRow}
-use Rattle.keyed_files.specs.declared.source.Content.TheVariants.{Changes}
 use Rattle.keyed_files.specs.declared.source.Places.{Places}
 use Rattle.keyed_files.specs.declared.source.Source.{Source}
 use Rattle.keyed_rows.specs.declared.row.ReadRow.{ReadRow}

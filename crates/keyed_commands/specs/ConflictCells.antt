@@ -6,8 +6,8 @@ use Rattle.eob_both.specs.Places.{item_left, item_right, left_place, right_place
 use Rattle.eob_both.specs.declared.either_or_both.EitherOrBoth.{EitherOrBoth}
 use Rattle.eob_both.specs.declared.either_or_both.EitherOrBoth.TheVariants.{Both}
 use Rattle.eob_joins.specs.Cells.{same_length}
-use Rattle.keyed_files.specs.declared.merging.Unit.{Unit}
-use Rattle.keyed_files.specs.declared.merging.Unit.TheVariants as unit
+use Rattle.keyed_requests.specs.declared.merging.Unit.{Unit}
+use Rattle.keyed_requests.specs.declared.merging.Unit.TheVariants as unit
 use Rattle.keyed_numbers.specs.declared.decimal.Decimal.{Decimal}
 use Rattle.keyed_tables.specs.RowsByCell.{one_row}
 use Rattle.keyed_commands.specs.ByNumber.{settled_cell}

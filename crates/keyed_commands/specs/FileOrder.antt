@@ -2,12 +2,13 @@
 use Rattle.std.specs.Prelude.{◌≡◌, ℕ, Bool, true, false, List, [], ◌++◌, Option, Some, None, map, nat_eq, option_map}
 use Rattle.std.specs.Cmp.Lexicographic.{pointwise}
 use Rattle.indexmap.specs.IndexSet.{insert_all}
-use Rattle.keyed_files.specs.Reading.{IsOpen, behind_header, row_under}
-use Rattle.keyed_files.specs.Writing.{comment_of, delimiter_of}
-use Rattle.keyed_files.specs.declared.columns.Columns.{Columns}
-use Rattle.keyed_files.specs.declared.request.Form.{Form}
-use Rattle.keyed_files.specs.declared.source.Content.{Content}
-use Rattle.keyed_files.specs.declared.source.Content.TheVariants.{Rows}
+use Rattle.keyed_requests.specs.FormBytes.{comment_of, delimiter_of}
+use Rattle.keyed_requests.specs.declared.request.Form.{Form}
+use Rattle.keyed_columns.specs.CellsUnder.{row_under}
+use Rattle.keyed_columns.specs.declared.columns.Columns.{Columns}
+use Rattle.keyed_columns.specs.declared.content.Content.{Content}
+use Rattle.keyed_columns.specs.declared.content.Content.TheVariants.{Rows}
+use Rattle.keyed_files.specs.Reading.{IsOpen, behind_header}
 use Rattle.keyed_files.specs.declared.source.Source.{Source}
 use Rattle.keyed_rows.specs.declared.row.ReadRow.{ReadRow}
 use Rattle.keyed_tables.specs.Placed.{placed_noted}

@@ -6,25 +6,25 @@ use Rattle.eob_both.specs.declared.either_or_both.EitherOrBoth.{EitherOrBoth}
 use Rattle.eob_both.specs.declared.either_or_both.EitherOrBoth.TheVariants.{Left, Both, Right}
 use Rattle.either_or_both.specs.Join.{IsJoin}
 use Rattle.eob_joins.specs.Tables.{IsAntiJoin, IsInnerJoin, IsLeftJoin, IsRightJoin, IsSemiJoin}
-use Rattle.keyed_files.specs.AnswerForm.{writes_heading}
-use Rattle.keyed_files.specs.JoinedNames.{joined_names}
+use Rattle.keyed_requests.specs.AnswerForm.{writes_heading}
+use Rattle.keyed_requests.specs.declared.request.Form.{Form}
+use Rattle.keyed_requests.specs.declared.request.Joining.{Joining}
+use Rattle.keyed_requests.specs.declared.request.Kind.{Kind}
+use Rattle.keyed_requests.specs.declared.request.Kind.TheVariants as kind
+use Rattle.keyed_requests.specs.declared.request.RowFormat.{RowFormat}
+use Rattle.keyed_requests.specs.declared.request.RowFormat.TheVariants as format
+use Rattle.keyed_requests.specs.declared.request.Settings.{Settings}
+use Rattle.keyed_columns.specs.JoinedNames.{joined_names}
+use Rattle.keyed_columns.specs.Keys.{AreJoinColumns}
+use Rattle.keyed_columns.specs.Names.{repeats}
+use Rattle.keyed_columns.specs.Placed.{first_cells}
+use Rattle.keyed_columns.specs.declared.columns.JoinColumns.{JoinColumns}
+use Rattle.keyed_columns.specs.declared.content.Content.TheVariants.{Rows}
 use Rattle.keyed_files.specs.JoinedRows.{each_before, join_heading, side_count, side_row}
-use Rattle.keyed_files.specs.Keys.{AreJoinColumns}
-use Rattle.keyed_files.specs.Names.{repeats}
 use Rattle.keyed_files.specs.Opening.{form_of, text_of_stream}
-use Rattle.keyed_files.specs.Rows.{first_cells}
 use Rattle.keyed_files.specs.Writing.{PutsRows, quoted_text}
-use Rattle.keyed_files.specs.declared.columns.JoinColumns.{JoinColumns}
 use Rattle.keyed_files.specs.declared.opened.Stream.{Stream}
 use Rattle.keyed_files.specs.declared.opened.Two.{Two}
-use Rattle.keyed_files.specs.declared.request.Form.{Form}
-use Rattle.keyed_files.specs.declared.request.Joining.{Joining}
-use Rattle.keyed_files.specs.declared.request.Kind.{Kind}
-use Rattle.keyed_files.specs.declared.request.Kind.TheVariants as kind
-use Rattle.keyed_files.specs.declared.request.RowFormat.{RowFormat}
-use Rattle.keyed_files.specs.declared.request.RowFormat.TheVariants as format
-use Rattle.keyed_files.specs.declared.request.Settings.{Settings}
-use Rattle.keyed_files.specs.declared.source.Content.TheVariants.{Rows}
 use Rattle.keyed_files.specs.declared.written.Written.{Written}
 use Rattle.keyed_tables.specs.Arranged.{noted}
 use Rattle.keyed_commands.specs.Answers.{IsTableText, TableRows, key_cmp}

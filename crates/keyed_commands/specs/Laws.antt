@@ -3,11 +3,11 @@ use Rattle.std.specs.Prelude.{◌≡◌, ℕ, Bool, true, List, ◌∷◌, Optio
 use Rattle.either_or_both.specs.Join.{Rising}
 use Rattle.eob_joins.specs.Changes.{applied, changed}
 use Rattle.eob_joins.specs.Tables.{IsKeptOfJoin}
-use Rattle.keyed_files.specs.AnswerForm.{writes_heading}
+use Rattle.keyed_requests.specs.AnswerForm.{writes_heading}
+use Rattle.keyed_requests.specs.FormBytes.{comment_of, delimiter_of}
+use Rattle.keyed_requests.specs.declared.request.Form.{Form}
+use Rattle.keyed_columns.specs.declared.columns.Columns.{Columns}
 use Rattle.keyed_files.specs.Rows.{change_name}
-use Rattle.keyed_files.specs.Writing.{comment_of, delimiter_of}
-use Rattle.keyed_files.specs.declared.columns.Columns.{Columns}
-use Rattle.keyed_files.specs.declared.request.Form.{Form}
 use Rattle.keyed_text.specs.Texts.{BeginsComments, PartsCells, ReadsAs}
 use Rattle.keyed_commands.specs.declared.answer.Answer.{Answer}
 use Rattle.keyed_commands.specs.Answers.{AllFit, AnswersPatched, AnswersTable, ChangesComeOut, IsDiffText, TableChanges, TableRows, key_cmp, rows_eq}

@@ -4,22 +4,22 @@ use Rattle.std.specs.Cmp.Lexicographic.{pointwise}
 use Rattle.std.specs.Io.KnownBytes.{Appends}
 use Rattle.std.specs.List.{IsDistinct, flat_map}
 use Rattle.std.specs.Map.{keys_of, lookup}
+use Rattle.keyed_requests.specs.declared.lookups.Finding.{Finding}
+use Rattle.keyed_requests.specs.declared.lookups.LookupKind.{LookupKind}
+use Rattle.keyed_requests.specs.declared.lookups.LookupKind.TheVariants as kind
+use Rattle.keyed_requests.specs.declared.request.Form.{Form}
+use Rattle.keyed_requests.specs.declared.request.Layout.{Layout}
+use Rattle.keyed_columns.specs.JoinedNames.{found_names}
+use Rattle.keyed_columns.specs.Keys.{AreJoinColumns}
+use Rattle.keyed_columns.specs.Names.{repeats}
+use Rattle.keyed_columns.specs.Placed.{placed}
+use Rattle.keyed_columns.specs.declared.columns.JoinColumns.{JoinColumns}
+use Rattle.keyed_columns.specs.declared.content.Content.TheVariants.{Rows}
 use Rattle.keyed_files.specs.FoundRows.{found_row}
-use Rattle.keyed_files.specs.JoinedNames.{found_names}
-use Rattle.keyed_files.specs.Keys.{AreJoinColumns}
-use Rattle.keyed_files.specs.Names.{repeats}
 use Rattle.keyed_files.specs.Opening.{form_of, text_of_stream}
 use Rattle.keyed_files.specs.Reading.{IsTable, ReadsOn, ReadsRest, parts_of}
-use Rattle.keyed_files.specs.Rows.{placed}
 use Rattle.keyed_files.specs.Writing.{Wrote, quoted_text}
-use Rattle.keyed_files.specs.declared.columns.JoinColumns.{JoinColumns}
-use Rattle.keyed_files.specs.declared.lookups.Finding.{Finding}
-use Rattle.keyed_files.specs.declared.lookups.LookupKind.{LookupKind}
-use Rattle.keyed_files.specs.declared.lookups.LookupKind.TheVariants as kind
 use Rattle.keyed_files.specs.declared.opened.Stream.{Stream}
-use Rattle.keyed_files.specs.declared.request.Form.{Form}
-use Rattle.keyed_files.specs.declared.request.Layout.{Layout}
-use Rattle.keyed_files.specs.declared.source.Content.TheVariants.{Rows}
 use Rattle.keyed_files.specs.declared.source.Places.{Places}
 use Rattle.keyed_files.specs.declared.source.Source.{Source}
 use Rattle.keyed_files.specs.declared.written.Written.{Written}

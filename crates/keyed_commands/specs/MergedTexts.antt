@@ -1,21 +1,21 @@
 -- What `merge` answers of the texts of three versions of a table.
 use Rattle.std.specs.Prelude.{◌≡◌, ℕ, Bool, false, true, List, Option, None, IfSome}
 use Rattle.keyed_text.specs.declared.style.Style.{Style}
-use Rattle.keyed_files.specs.AnswerForm.{in_style}
-use Rattle.keyed_files.specs.Keys.{AreMergedColumnsBy}
+use Rattle.keyed_requests.specs.AnswerForm.{in_style}
+use Rattle.keyed_requests.specs.declared.merging.Conflicts.TheVariants.{Report}
+use Rattle.keyed_requests.specs.declared.merging.Merging.{Merging}
+use Rattle.keyed_requests.specs.declared.merging.Unit.{Unit}
+use Rattle.keyed_requests.specs.declared.merging.Unit.TheVariants as unit
+use Rattle.keyed_requests.specs.declared.request.Form.{Form}
+use Rattle.keyed_requests.specs.declared.request.Settings.{Settings}
+use Rattle.keyed_columns.specs.Keys.{AreMergedColumnsBy}
+use Rattle.keyed_columns.specs.Spelled.{IsSpelledAs, SpelledOf}
+use Rattle.keyed_columns.specs.declared.columns.Columns.{Columns}
+use Rattle.keyed_columns.specs.declared.content.Content.TheVariants.{Rows}
 use Rattle.keyed_files.specs.Opening.{form_of, text_of_stream}
-use Rattle.keyed_files.specs.Spelled.{IsSpelledAs, SpelledOf}
-use Rattle.keyed_files.specs.declared.columns.Columns.{Columns}
-use Rattle.keyed_files.specs.declared.merging.Conflicts.TheVariants.{Report}
-use Rattle.keyed_files.specs.declared.merging.Merging.{Merging}
-use Rattle.keyed_files.specs.declared.merging.Unit.{Unit}
-use Rattle.keyed_files.specs.declared.merging.Unit.TheVariants as unit
 use Rattle.keyed_files.specs.declared.opened.Opened.{Opened}
 use Rattle.keyed_files.specs.declared.opened.Stream.{Stream}
 use Rattle.keyed_files.specs.declared.opened.Two.{Two}
-use Rattle.keyed_files.specs.declared.request.Form.{Form}
-use Rattle.keyed_files.specs.declared.request.Settings.{Settings}
-use Rattle.keyed_files.specs.declared.source.Content.TheVariants.{Rows}
 use Rattle.keyed_tables.specs.Arranged.{noted}
 use Rattle.keyed_commands.specs.Answers.{AnswersMerged, AnswersMergedByCell, HasConflict, HasNoConflict, HasNoneStuck, HasStuck, Stops, TableRows}
 use Rattle.keyed_commands.specs.FileOrder.{AreKeysOfBoth, NotesBoth, placed_with}

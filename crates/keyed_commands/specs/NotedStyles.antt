@@ -5,8 +5,8 @@ use Rattle.keyed_text.specs.declared.style.CellQuotes.TheVariants.{Everywhere, W
 use Rattle.keyed_text.specs.declared.style.LineEnd.{LineEnd}
 use Rattle.keyed_text.specs.declared.style.LineEnd.TheVariants.{CrLf, Lf}
 use Rattle.keyed_text.specs.declared.style.Style.{Style}
-use Rattle.keyed_files.specs.declared.writing.Heading.{Heading}
-use Rattle.keyed_files.specs.declared.writing.Heading.TheVariants as heading
+use Rattle.keyed_requests.specs.declared.writing.Heading.{Heading}
+use Rattle.keyed_requests.specs.declared.writing.Heading.TheVariants as heading
 use Rattle.keyed_commands.specs.declared.styles.FirstEnd.{FirstEnd}
 use Rattle.keyed_commands.specs.declared.styles.FirstEnd.TheVariants as first
 use Rattle.keyed_commands.specs.declared.styles.Noted.{Noted}

@@ -1,10 +1,10 @@
 -- What a merge keeps of what one side alone changed.
 use Rattle.std.specs.Prelude.{◌≡◌, ℕ, List}
 use Rattle.eob_lists.specs.Join.{Rising, value_under}
-use Rattle.keyed_files.specs.AnswerForm.{in_style}
-use Rattle.keyed_files.specs.declared.request.Form.{Form}
-use Rattle.keyed_files.specs.declared.request.Settings.{Settings}
-use Rattle.keyed_files.specs.declared.merging.Unit.TheVariants as unit
+use Rattle.keyed_requests.specs.AnswerForm.{in_style}
+use Rattle.keyed_requests.specs.declared.request.Form.{Form}
+use Rattle.keyed_requests.specs.declared.request.Settings.{Settings}
+use Rattle.keyed_requests.specs.declared.merging.Unit.TheVariants as unit
 use Rattle.keyed_commands.specs.Answers.{IsTableText, TableRows, key_cmp}
 use Rattle.keyed_commands.specs.MergedTexts.{MergesTexts}
 use Rattle.keyed_commands.specs.declared.answer.Answer.{Answer}

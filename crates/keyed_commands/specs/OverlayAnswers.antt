@@ -9,19 +9,19 @@ use Rattle.eob_joins.specs.Tables.{Tabulates}
 use Rattle.keyed_tables.specs.Arranged.{noted}
 use Rattle.keyed_tables.specs.Laid.{filled}
 use Rattle.keyed_text.specs.declared.style.Style.{Style}
-use Rattle.keyed_files.specs.AnswerForm.{in_style}
-use Rattle.keyed_files.specs.Keys.{AreColumnsBy}
+use Rattle.keyed_requests.specs.AnswerForm.{in_style}
+use Rattle.keyed_requests.specs.declared.overlays.Layer.{Layer}
+use Rattle.keyed_requests.specs.declared.overlays.Layer.TheVariants as layer
+use Rattle.keyed_requests.specs.declared.request.Form.{Form}
+use Rattle.keyed_requests.specs.declared.request.Settings.{Settings}
+use Rattle.keyed_columns.specs.Keys.{AreColumnsBy}
+use Rattle.keyed_columns.specs.Spelled.{IsSpelledAs, SpelledOf}
+use Rattle.keyed_columns.specs.declared.columns.Columns.{Columns}
+use Rattle.keyed_columns.specs.declared.content.Content.TheVariants.{Rows}
 use Rattle.keyed_files.specs.Opening.{form_of, text_of_stream}
 use Rattle.keyed_files.specs.Reading.{IsOpen}
-use Rattle.keyed_files.specs.Spelled.{IsSpelledAs, SpelledOf}
-use Rattle.keyed_files.specs.declared.columns.Columns.{Columns}
 use Rattle.keyed_files.specs.declared.opened.Opened.{Opened}
 use Rattle.keyed_files.specs.declared.opened.Stream.{Stream}
-use Rattle.keyed_files.specs.declared.overlays.Layer.{Layer}
-use Rattle.keyed_files.specs.declared.overlays.Layer.TheVariants as layer
-use Rattle.keyed_files.specs.declared.request.Form.{Form}
-use Rattle.keyed_files.specs.declared.request.Settings.{Settings}
-use Rattle.keyed_files.specs.declared.source.Content.TheVariants.{Rows}
 use Rattle.keyed_commands.specs.Answers.{IsTableText, TableRows, key_cmp}
 use Rattle.keyed_commands.specs.AppliedTexts.{watched_left}
 use Rattle.keyed_commands.specs.FileOrder.{Keys, KeysOf, OfKeys, noted_keys, noted_with}

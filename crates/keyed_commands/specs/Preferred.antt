@@ -2,9 +2,9 @@
 use Rattle.std.specs.Prelude.{ℕ, List, Option, Some}
 use Rattle.eob_both.specs.Places.{item_left, item_right, right_place}
 use Rattle.eob_joins.specs.Tables.{kept}
-use Rattle.keyed_files.specs.declared.merging.Side.{Side}
-use Rattle.keyed_files.specs.declared.merging.Side.TheVariants as side
-use Rattle.keyed_files.specs.declared.merging.Unit.{Unit}
+use Rattle.keyed_requests.specs.declared.merging.Side.{Side}
+use Rattle.keyed_requests.specs.declared.merging.Side.TheVariants as side
+use Rattle.keyed_requests.specs.declared.merging.Unit.{Unit}
 use Rattle.keyed_numbers.specs.declared.decimal.Decimal.{Decimal}
 use Rattle.keyed_tables.specs.declared.marked.Marked.{Marked}
 use Rattle.keyed_tables.specs.declared.marked.Marked.TheVariants.{Settled, Stuck}

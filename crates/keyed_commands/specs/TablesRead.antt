@@ -1,17 +1,17 @@
 -- Tables that are read of texts, and what a command answers of the texts of its files.
 use Rattle.std.specs.Prelude.{◌≡◌, ◌↔◌, ◌||◌, All, ℕ, Bool, false, true, List, Option, None, Some, IfSome, MatchBool, is_none, length, map}
-use Rattle.keyed_files.specs.ChangedColumns.{marked_names}
-use Rattle.keyed_files.specs.Keys.{AreChangeColumns}
-use Rattle.keyed_files.specs.Names.{compared, has_lone, renamed}
+use Rattle.keyed_requests.specs.declared.request.Form.{Form}
+use Rattle.keyed_requests.specs.declared.request.Settings.{Settings}
+use Rattle.keyed_columns.specs.ChangedColumns.{marked_names}
+use Rattle.keyed_columns.specs.Keys.{AreChangeColumns}
+use Rattle.keyed_columns.specs.Names.{compared, has_lone, renamed}
+use Rattle.keyed_columns.specs.declared.columns.Columns.{Columns}
+use Rattle.keyed_columns.specs.declared.content.Content.{Content}
+use Rattle.keyed_columns.specs.declared.content.Content.TheVariants.{Rows}
 use Rattle.keyed_files.specs.Opening.{form_of, text_of_stream}
 use Rattle.keyed_files.specs.Reading.{IsOpen, IsTable, parts_of}
-use Rattle.keyed_files.specs.declared.columns.Columns.{Columns}
 use Rattle.keyed_files.specs.declared.opened.Stream.{Stream}
 use Rattle.keyed_files.specs.declared.opened.Two.{Two}
-use Rattle.keyed_files.specs.declared.request.Form.{Form}
-use Rattle.keyed_files.specs.declared.request.Settings.{Settings}
-use Rattle.keyed_files.specs.declared.source.Content.{Content}
-use Rattle.keyed_files.specs.declared.source.Content.TheVariants.{Rows}
 use Rattle.keyed_files.specs.declared.source.Source.{Source}
 use Rattle.keyed_rows.specs.declared.row.ReadRow.{ReadRow}
 use Rattle.keyed_tables.specs.Arranged.{noted}

@@ -3,17 +3,19 @@ use Rattle.std.specs.Prelude.{◌≡◌, ◌≢◌, ◌++◌, ℕ, Bool, true, f
 use Rattle.eob_joins.specs.Changes.{changed}
 use Rattle.eob_joins.specs.Tables.{IsKeptOfJoin}
 use Rattle.keyed_text.specs.declared.style.Style.{Style}
-use Rattle.keyed_files.specs.AnswerForm.{in_style, writes_heading}
-use Rattle.keyed_files.specs.ColumnNames.{or_header}
-use Rattle.keyed_files.specs.Encodings.{is_marked}
-use Rattle.keyed_files.specs.Names.{repeats}
-use Rattle.keyed_files.specs.Rows.{heading, names_headed, placed, table_rows}
-use Rattle.keyed_files.specs.Writing.{comment_of, delimiter_of, text_of}
-use Rattle.keyed_files.specs.declared.columns.Columns.{Columns}
-use Rattle.keyed_files.specs.declared.request.Form.{Form}
-use Rattle.keyed_files.specs.declared.request.Settings.{Settings}
-use Rattle.keyed_files.specs.declared.source.Content.{Content}
-use Rattle.keyed_files.specs.declared.source.Content.TheVariants.{Rows}
+use Rattle.keyed_faults.specs.Encodings.{is_marked}
+use Rattle.keyed_requests.specs.AnswerForm.{in_style, writes_heading}
+use Rattle.keyed_requests.specs.FormBytes.{comment_of, delimiter_of}
+use Rattle.keyed_requests.specs.declared.request.Form.{Form}
+use Rattle.keyed_requests.specs.declared.request.Settings.{Settings}
+use Rattle.keyed_columns.specs.ColumnNames.{or_header}
+use Rattle.keyed_columns.specs.Names.{repeats}
+use Rattle.keyed_columns.specs.Placed.{names_headed, placed}
+use Rattle.keyed_columns.specs.declared.columns.Columns.{Columns}
+use Rattle.keyed_columns.specs.declared.content.Content.{Content}
+use Rattle.keyed_columns.specs.declared.content.Content.TheVariants.{Rows}
+use Rattle.keyed_files.specs.Rows.{heading, table_rows}
+use Rattle.keyed_files.specs.Writing.{text_of}
 use Rattle.keyed_text.specs.Texts.{BeginsComments, PartsCells, ReadsAs}
 use Rattle.keyed_commands.specs.Answers.{IsTableText, TableChanges, TableRows, key_cmp, rows_eq}
 use Rattle.keyed_commands.specs.AppliedTexts.{AppliesTexts}

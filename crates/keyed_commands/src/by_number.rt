@@ -13,7 +13,8 @@ ghost use Rattle.keyed_commands.specs.ByNumber.{settled_cell, settled_cells, set
 
 use either_or_both::EitherOrBoth;
 use eob_joins::{Change, Versions};
-use keyed_files::{Decimal, Unit, is_same_cell};
+use keyed_numbers::{Decimal, is_same_cell};
+use keyed_requests::Unit;
 use keyed_rows::{Cells, Group, Key};
 use keyed_tables::Marked;
 use std::alloc::{AllocError, Global};

@@ -7,7 +7,9 @@ ghost use Rattle.keyed_commands.specs.ChangeRows.{change_rows, changes_heading, 
 use crate::job::Job;
 use either_or_both::EitherOrBoth;
 use eob_joins::Change;
-use keyed_files::{Columns, Reason, Sign, Written};
+use keyed_columns::Columns;
+use keyed_faults::Reason;
+use keyed_files::{Sign, Written};
 use keyed_rows::{Cells, Group, Key};
 
 /// Changes, as `apply` reads them: a row that goes begins with `-`, one that comes with `+`. The header has the names

@@ -9,7 +9,8 @@ ghost use Rattle.keyed_commands.specs.ConflictCells.{with_merged_cells};
 use crate::by_number::{are_same_length, base_in, ours_in, row_of, settled_cell, theirs_in};
 use either_or_both::EitherOrBoth;
 use eob_joins::Versions;
-use keyed_files::{Decimal, Merging, Unit};
+use keyed_numbers::Decimal;
+use keyed_requests::{Merging, Unit};
 use keyed_rows::{Cells, Group, Key};
 use std::alloc::{AllocError, Global};
 

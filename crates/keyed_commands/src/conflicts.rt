@@ -3,7 +3,7 @@
 use crate::job::Job;
 use crate::lost_cells::{put_lost, said_of_lost};
 use eob_joins::Versions;
-use keyed_files::Columns;
+use keyed_columns::Columns;
 use keyed_reports::{Stopped, Version, write_stopped};
 use keyed_rows::{Group, Key};
 use std::alloc::AllocError;

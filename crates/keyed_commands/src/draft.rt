@@ -3,7 +3,7 @@
 //! The draft of `out` is `.out.keyed-PROCESS-NUMBER`. A process that a signal ends leaves its draft after. The next one that writes the
 //! same file takes it away, since no process has its number, and leaves the drafts of those that still run.
 
-use keyed_files::Reason;
+use keyed_faults::Reason;
 use std::alloc::{AllocError, Global};
 use std::fs;
 use std::fs::{Metadata, OpenFile, OpenOptions};

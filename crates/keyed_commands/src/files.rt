@@ -11,9 +11,11 @@ use crate::commands::overlay::overlay;
 use crate::finished::Finished;
 use crate::sorted::{diff_sorted, join_sorted};
 use either_or_both::Either;
-use keyed_files::{
-    Command, Delimiter, Fault, Layout, Lookup as LookupRequest, Overlay as OverlayRequest, Reason,
-    Request, Settings, SortedRequest, Stream, Wanted, at,
+use keyed_faults::{Fault, Reason, at};
+use keyed_files::Stream;
+use keyed_requests::{
+    Command, Delimiter, Layout, Lookup as LookupRequest, Overlay as OverlayRequest, Request,
+    Settings, SortedRequest, Wanted,
 };
 use std::alloc::AllocError;
 use std::io::Write;

@@ -1,8 +1,8 @@
 //! What the steps of a command share, and how they read tables.
 ghost use Rattle.std.specs.Prelude.{◌≡◌, ◌++◌, ◌∷◌, [], IfOk, None, OnOk, false, is_none, true};
-ghost use Rattle.keyed_files.specs.AnswerForm.{in_style};
+ghost use Rattle.keyed_requests.specs.AnswerForm.{in_style};
+ghost use Rattle.keyed_columns.specs.declared.content.Content.TheVariants as content;
 ghost use Rattle.keyed_files.specs.Reading.{ReadsRest, ReadsRows};
-ghost use Rattle.keyed_files.specs.declared.source.Content.TheVariants as content;
 ghost use Rattle.keyed_tables.specs.Arranged.{noted};
 ghost use Rattle.keyed_commands.specs.ChangesRead.{PairsRows, PartsChanges, PartsRest, ReadsChanges};
 ghost use Rattle.keyed_commands.specs.ChangesRead.{come_by, gone_by};
@@ -12,10 +12,10 @@ ghost use Rattle.keyed_commands.specs.TablesRead.{Gathers, IsUnordered, ReadsTab
 
 use crate::row_order::RowOrder;
 use eob_joins::Change;
-use keyed_files::{
-    Columns, Fault, Form, JoinColumns, Layout, Look, Opened, Places, Reason, Settings, Sign,
-    SignedRow, Source, Two, at,
-};
+use keyed_columns::{Columns, JoinColumns};
+use keyed_faults::{Fault, Reason, at};
+use keyed_files::{Opened, Places, Sign, SignedRow, Source, Two};
+use keyed_requests::{Form, Layout, Look, Settings};
 use keyed_rows::{Group, Key, ReadRow, Release};
 use keyed_tables::{Order, Rows, grouped_rows, paired, unique_rows};
 use keyed_text::Style;

@@ -40,15 +40,17 @@ pub use commands::merge::merge;
 pub use commands::overlay::overlay;
 pub use files::{answer_request, stream_request, write_command, write_request, write_whole};
 pub use finished::{Finished, SideCounts, StreamCounts};
-pub use keyed_files::{
-    Asked, Colours, ColumnsShown, Command, Comment, Comparing, Conflicts, Decimal, Delimiter,
-    Encoding, Fault, Finding, Form, Format, GitDiff, GitMerge, GitSetup, Heading, JoinNames,
-    Joining, Kind, Layer, Layout, Lengths, Look, Lookup as LookupRequest, LookupKind, Merging,
-    NamedFile, Overlay as OverlayRequest, Picked, Quotes, Reading, Reason, Request, RowFormat,
-    RowsShown, Settings, Shown, ShownCell, ShownName, Side, SortedChanges, SortedRequest, Stream,
-    Unit, View, Wanted, Writing, at,
-};
+pub use keyed_faults::{Encoding, Fault, Reason, Shown, ShownCell, ShownName, at};
+pub use keyed_files::Stream;
+pub use keyed_numbers::Decimal;
 pub use keyed_reports::Counts;
+pub use keyed_requests::{
+    Asked, Colours, ColumnsShown, Command, Comment, Comparing, Conflicts, Delimiter, Finding, Form,
+    Format, GitDiff, GitMerge, GitSetup, Heading, JoinNames, Joining, Kind, Layer, Layout, Lengths,
+    Look, Lookup as LookupRequest, LookupKind, Merging, NamedFile, Overlay as OverlayRequest,
+    Picked, Quotes, Reading, Request, RowFormat, RowsShown, Settings, Side, SortedChanges,
+    SortedRequest, Unit, View, Wanted, Writing,
+};
 pub use keyed_text::{CellQuotes, LineEnd, Style};
 pub use laws::{law_diff_apply_texts, law_diff_reads, law_diff_says, law_one_side, law_text_once};
 pub use output::write_into_file;

@@ -1,6 +1,6 @@
 //! Two versions of a file that is no table, compared line by line as git compares texts.
 
-use keyed_files::Shown;
+use keyed_faults::Shown;
 use keyed_lines::{Becomes, Hunk, Line, compare_lines, hunks_of};
 use std::alloc::{AllocError, Global};
 use std::fmt::Write;

@@ -1,11 +1,12 @@
 //! Cells that would be lost with columns that go: whether there are any, and a report of their rows for a person or a program.
 ghost use Rattle.std.specs.Prelude.{◌≡◌};
 ghost use Rattle.std.specs.List.{list_any};
-ghost use Rattle.keyed_files.specs.Lost.{count_written, loses_cells};
+ghost use Rattle.keyed_columns.specs.Lost.{count_written, loses_cells};
 ghost use Rattle.keyed_commands.specs.Lost.{loses};
 
 use crate::job::Job;
-use keyed_files::{Columns, ShownName};
+use keyed_columns::Columns;
+use keyed_faults::ShownName;
 use keyed_reports::{Stopped, Version, write_stopped};
 use keyed_rows::{Group, Key};
 use std::alloc::AllocError;

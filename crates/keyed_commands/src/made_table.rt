@@ -7,7 +7,9 @@ ghost use Rattle.keyed_commands.specs.declared.answer.Outcome.TheVariants.{Made}
 use crate::answer::{Answer, Outcome, stopped};
 use crate::job::Job;
 use crate::lost_cells::{lose_cells, render_lost};
-use keyed_files::{Columns, Reason, write_table};
+use keyed_columns::Columns;
+use keyed_faults::Reason;
+use keyed_files::write_table;
 use keyed_rows::{Group, Key};
 
 /// The rows as CSV, with status 0; or those that have cells in columns that go, with this word, and status 1.

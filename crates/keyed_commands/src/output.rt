@@ -4,7 +4,8 @@ use crate::answer::{Answer, Outcome};
 use crate::draft::Draft;
 use crate::files::{answer_overlay, answer_request, write_command, write_whole};
 use crate::finished::Finished;
-use keyed_files::{Command, Fault, Reason, Wanted, at};
+use keyed_faults::{Fault, Reason, at};
+use keyed_requests::{Command, Wanted};
 use std::io::Write;
 use std::rt::Files;
 

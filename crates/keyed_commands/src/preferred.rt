@@ -5,7 +5,7 @@ ghost use Rattle.keyed_commands.specs.Preferred.{row_by_side, rows_by_side, vers
 use crate::by_number::{ours_of, theirs_of};
 use crate::conflict_cells::told_conflict;
 use eob_joins::Versions;
-use keyed_files::{Merging, Side};
+use keyed_requests::{Merging, Side};
 use keyed_rows::{Group, Key};
 use keyed_tables::Marked;
 use std::alloc::{AllocError, Global};

@@ -3,8 +3,8 @@
 //! Where all rows of both tables up to a key are read, their join is the first part of the whole join (`law_cut_join` of `eob_joins`).
 ghost use Rattle.std.specs.Prelude.{◌≡◌, ◌==◌, ◌↔◌, ◌⊎◌, IfOk, IfSome, IsNone, List, false, is_none, length};
 ghost use Rattle.std.specs.Prelude.{option_map};
+ghost use Rattle.keyed_requests.specs.declared.request.RowFormat.TheVariants.{Csv};
 ghost use Rattle.keyed_files.specs.Parts.{TakesUpTo, key_cmp};
-ghost use Rattle.keyed_files.specs.declared.request.RowFormat.TheVariants.{Csv};
 ghost use Rattle.keyed_rows.specs.declared.row.ReadRow.{ReadRow};
 ghost use Rattle.keyed_tables.specs.Arranged.{noted};
 ghost use Rattle.keyed_commands.specs.Answers.{status_of};
@@ -21,12 +21,14 @@ use crate::commands::join_json::write_join;
 use crate::finished::{Finished, SideCounts, StreamCounts};
 use crate::job::{Job, Table};
 use eob_joins::Change;
-use keyed_files::{
-    ColumnChanges, Columns, Content, Decimal, Fault, Heading, JoinColumns, Joining, Layout,
-    LoneColumns, Parts, Picked, Reason, SortedChanges, Stream, Two, at, names_among,
-    picked_columns,
+use keyed_columns::{
+    ColumnChanges, Columns, Content, JoinColumns, LoneColumns, names_among, picked_columns,
 };
+use keyed_faults::{Fault, Reason, at};
+use keyed_files::{Parts, Stream, Two};
+use keyed_numbers::Decimal;
 use keyed_reports::{Counts, count, count_rows, json_columns, json_rows, row_changes};
+use keyed_requests::{Heading, Joining, Layout, Picked, SortedChanges};
 use keyed_rows::{Cells, Group, Key, Release};
 use keyed_tables::{changes_of, unique_rows};
 use std::alloc::{AllocError, Global};

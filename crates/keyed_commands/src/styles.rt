@@ -5,7 +5,8 @@ ghost use Rattle.keyed_commands.specs.AppliedTexts.{watched_left};
 ghost use Rattle.keyed_commands.specs.NotedStyles.{ends_row, noted_line_end, noted_quotes, noted_style};
 ghost use Rattle.keyed_commands.specs.NotedStyles.{style_under};
 
-use keyed_files::{Comment, Delimiter, Form, Heading, Stream};
+use keyed_files::Stream;
+use keyed_requests::{Comment, Delimiter, Form, Heading};
 use keyed_text::{CellQuotes, LineEnd, Marks, Place, Style};
 use std::io;
 use std::io::Read;

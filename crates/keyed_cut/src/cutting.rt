@@ -10,7 +10,7 @@ use crate::request::{Cut, Divided};
 use crate::sampling::{Sampled, key_size, sample_tables, weight_of};
 use crate::sinks::{Count, Counts, Sinks, Target, make_sinks, put};
 use crate::tables::{Table, Tables, open_tables};
-use keyed_files::{Reason, Shown, ShownInList};
+use keyed_faults::{Reason, Shown, ShownInList};
 use keyed_parts::Boundaries;
 use keyed_rows::{Cells, Key};
 use std::alloc::{AllocError, Global};

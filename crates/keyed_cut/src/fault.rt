@@ -1,6 +1,6 @@
 //! What can be wrong where tables are cut, and the line that says so.
 
-use keyed_files::{Fault, Reason, Shown};
+use keyed_faults::{Fault, Reason, Shown};
 use std::alloc::AllocError;
 use std::{fmt, io};
 

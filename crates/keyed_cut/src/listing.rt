@@ -4,10 +4,11 @@ use crate::fault::{CutFault, CutReason};
 use crate::request::MOST_PARTS;
 use crate::sinks::Counts;
 use crate::tables::columns_under;
-use keyed_files::{
-    Content, Delimiter, Form, Opened, Places, Reading, Reason, Source, Stream, Writing, at,
-};
+use keyed_columns::Content;
+use keyed_faults::{Reason, at};
+use keyed_files::{Opened, Places, Source, Stream};
 use keyed_parts::Boundaries;
+use keyed_requests::{Delimiter, Form, Reading, Writing};
 use keyed_rows::{Cells, Key};
 use keyed_text::{Marks, RowWriter};
 use std::alloc::{AllocError, Global};

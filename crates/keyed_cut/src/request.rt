@@ -1,6 +1,6 @@
 //! What is asked for where tables are cut.
 
-use keyed_files::Layout;
+use keyed_requests::Layout;
 
 /// How many parts there are at least.
 pub const LEAST_PARTS: usize = 1;

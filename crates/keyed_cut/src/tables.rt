@@ -5,9 +5,10 @@ ghost use Rattle.keyed_files.specs.Reading.{GivesRecord, key_in, last_record};
 use crate::fault::{CutFault, CutReason};
 use crate::request::{Cut, CutTables, Second};
 use csv::ByteRecord;
-use keyed_files::{
-    Columns, Content, Delimiter, Fate, KeyNames, Opened, Places, Reason, Stream, at, key_names,
-};
+use keyed_columns::{Columns, Content, Fate, KeyNames, key_names};
+use keyed_faults::{Reason, at};
+use keyed_files::{Opened, Places, Stream};
+use keyed_requests::Delimiter;
 use keyed_rows::{Cells, Key};
 use std::alloc::{AllocError, Global};
 use std::fs;

@@ -1,14 +1,6 @@
 pub mod BufferLemmas
-pub mod ColumnLemmas
-pub mod HeaderLemmas
-pub mod JoinedLemmas
-pub mod KeyLemmas
-pub mod LawLemmas
 pub mod LineLemmas
-pub mod NameLemmas
-pub mod NumberLemmas
 pub mod PartLemmas
-pub mod PlacedLemmas
 pub mod ReadingLemmas
 pub mod TableLemmas
 pub mod WritingLemmas

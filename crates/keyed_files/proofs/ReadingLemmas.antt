@@ -14,21 +14,21 @@ use Rattle.keyed_text.specs.Streams.{GivesRow, HasRead}
 use Rattle.keyed_text.specs.Texts.{AreRows, config_by}
 use Rattle.keyed_text.specs.declared.row_reader.RowReader.{RowReader}
 use Rattle.keyed_text.proofs.TextLemmas.{rows-once}
-use Rattle.keyed_files.specs.Going.{GoneSaid}
+use Rattle.keyed_requests.specs.FormBytes.{comment_of, delimiter_of}
+use Rattle.keyed_requests.specs.declared.request.Comment.{Comment}
+use Rattle.keyed_requests.specs.declared.request.Form.{Form}
+use Rattle.keyed_requests.specs.declared.request.Quotes.{Quotes}
+use Rattle.keyed_requests.specs.declared.request.Quotes.TheVariants as quotes
+use Rattle.keyed_requests.specs.declared.request.Reading.{Reading}
+use Rattle.keyed_columns.specs.Going.{GoneSaid}
+use Rattle.keyed_columns.specs.Headers.{HeaderOf, NamesOf}
+use Rattle.keyed_columns.specs.Spelled.{SpelledBy, SpelledFirst}
+use Rattle.keyed_columns.specs.declared.content.Content.{Content}
 use Rattle.keyed_files.specs.Gone.{KnowsGone}
-use Rattle.keyed_files.specs.Headers.{HeaderOf, NamesOf}
 use Rattle.keyed_files.specs.Lines.{Begins, checked_left, lines_left, where_strict}
 use Rattle.keyed_files.specs.Reading.{GivesRecord, HasGiven, HasGivenIn, HeadedBy, IsHeader, IsOpen, next_of, text_lined, text_read}
-use Rattle.keyed_files.specs.Spelled.{SpelledBy, SpelledFirst}
-use Rattle.keyed_files.specs.Writing.{comment_of, delimiter_of}
 use Rattle.keyed_files.specs.declared.by_line.ByLine.{ByLine}
 use Rattle.keyed_files.specs.declared.checked.Checked.{Checked}
-use Rattle.keyed_files.specs.declared.request.Comment.{Comment}
-use Rattle.keyed_files.specs.declared.request.Form.{Form}
-use Rattle.keyed_files.specs.declared.request.Quotes.{Quotes}
-use Rattle.keyed_files.specs.declared.request.Quotes.TheVariants as quotes
-use Rattle.keyed_files.specs.declared.request.Reading.{Reading}
-use Rattle.keyed_files.specs.declared.source.Content.{Content}
 use Rattle.keyed_files.specs.declared.source.Next.TheVariants as next
 use Rattle.keyed_files.specs.declared.source.Source.{Source}
 

@@ -5,16 +5,17 @@ use Rattle.std.proofs.lemmas.Simd.{map-map}
 use Rattle.keyed_rows.specs.declared.row.ReadRow.{ReadRow}
 use Rattle.keyed_text.specs.Texts.{AreRows}
 use Rattle.keyed_text.proofs.TextLemmas.{rows-once}
+use Rattle.keyed_requests.specs.FormBytes.{comment_of, delimiter_of}
+use Rattle.keyed_requests.specs.declared.request.Form.{Form}
+use Rattle.keyed_requests.specs.declared.request.Settings.{Settings}
+use Rattle.keyed_columns.specs.Headers.{NamesOf, place_under}
+use Rattle.keyed_columns.specs.CellsUnder.{cell_at, row_under}
+use Rattle.keyed_columns.specs.Spelled.{SpelledBy}
+use Rattle.keyed_columns.specs.declared.columns.Columns.{Columns}
+use Rattle.keyed_columns.specs.declared.content.Content.{Content}
 use Rattle.keyed_files.specs.Opening.{IsNamedAnew, IsRenamed}
-use Rattle.keyed_files.specs.Headers.{ArePlaces, NamesOf, place_under}
-use Rattle.keyed_files.specs.Picked.{cell_at}
-use Rattle.keyed_files.specs.Reading.{GivesRecord, HasGiven, IsHeader, IsOpen, IsPicked, IsTable, PlacesOf, ReadBehind, ReadsOn, ReadsRest, ReadsRows, behind_header, last_record, parts_of, picked, row_under}
-use Rattle.keyed_files.specs.Spelled.{SpelledBy}
-use Rattle.keyed_files.specs.Writing.{comment_of, delimiter_of}
-use Rattle.keyed_files.specs.declared.columns.Columns.{Columns}
-use Rattle.keyed_files.specs.declared.request.Form.{Form}
-use Rattle.keyed_files.specs.declared.request.Settings.{Settings}
-use Rattle.keyed_files.specs.declared.source.Content.{Content}
+use Rattle.keyed_files.specs.CellPlaces.{ArePlaces}
+use Rattle.keyed_files.specs.Reading.{GivesRecord, HasGiven, IsHeader, IsOpen, IsPicked, IsTable, PlacesOf, ReadBehind, ReadsOn, ReadsRest, ReadsRows, behind_header, last_record, parts_of, picked}
 use Rattle.keyed_files.specs.declared.source.Places.{Places}
 use Rattle.keyed_files.specs.declared.source.Source.{Source}
 

@@ -2,11 +2,12 @@
 use Rattle.std.proofs.Common.{◌≡◌, ◌==◌, ◌∙◌, ◌+◌, ℕ, Bool, None, Some, true, false, length, List, [], ◌∷◌, ◌++◌, add-one, drop, map, refl, subst, sym, ap}
 use Rattle.std.specs.Prelude.{if◌then◌else◌}
 use Rattle.keyed_text.proofs.WriteLemmas as one
-use Rattle.keyed_files.specs.declared.columns.Place.{Place}
-use Rattle.keyed_files.specs.declared.request.Form.{Form}
+use Rattle.keyed_requests.specs.declared.request.Form.{Form}
+use Rattle.keyed_columns.specs.declared.columns.Place.{Place}
+use Rattle.keyed_columns.specs.Placed.{cell_placed, placed, rest_behind}
 use Rattle.keyed_files.specs.declared.written.Written.{Written}
 use Rattle.keyed_files.specs.JoinedRows.{each_before, join_heading}
-use Rattle.keyed_files.specs.Rows.{cell_placed, placed, rest_behind, rows_under, table_rows}
+use Rattle.keyed_files.specs.Rows.{rows_under, table_rows}
 use Rattle.keyed_files.specs.Writing.{EndsRow, PutsCells, PutsRows, Wrote, bytes_in, writer_of}
 
 pub no-cells : (a : Written) → PutsCells a a []
@@ -35,15 +36,6 @@ none-left a left is = rw is (no-cells a)
 
 pub no-rows-left : (a : Written) (left : List (List (List ℕ))) → left ≡ [] → PutsRows a a left
 no-rows-left a left is = rw is (no-rows a)
-
--- the cell of the next column
-pub placed-next : (place : Place) (order : List Place) (key rest : List (List ℕ)) → placed (place ∷ order) key rest ≡ cell_placed place key rest ∷ placed order key (rest_behind place rest)
-unfolding placed
-placed-next place order key rest = refl
-
-pub placed-none : (key rest : List (List ℕ)) → placed [] key rest ≡ []
-unfolding placed
-placed-none key rest = refl
 
 -- a row of one more place
 module _ (f : List (List ℕ) → List (List ℕ)) (a b e : Written) (rows : List (List (List ℕ))) (i : ℕ) where

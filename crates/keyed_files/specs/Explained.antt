@@ -1,12 +1,12 @@
 -- Why a row is not read: for want of memory, by an error of the file or its quotes, or by a rule that this very row breaks.
 use Rattle.std.specs.Prelude.{◌≡◌, ◌≢◌, ◌≤◌, ℕ, List, [], ◌∷◌, length, Option, Some, ⊤}
 use Rattle.csv.specs.Records.{field_at}
-use Rattle.keyed_files.specs.Picked.{cell_at}
+use Rattle.keyed_faults.specs.declared.fault.Reason.{Reason}
+use Rattle.keyed_faults.specs.declared.fault.Reason.TheVariants as reason
+use Rattle.keyed_requests.specs.declared.request.Lengths.{Lengths}
+use Rattle.keyed_requests.specs.declared.request.Lengths.TheVariants as lengths
+use Rattle.keyed_columns.specs.CellsUnder.{cell_at}
 use Rattle.keyed_files.specs.Reading.{last_record}
-use Rattle.keyed_files.specs.declared.fault.Reason.{Reason}
-use Rattle.keyed_files.specs.declared.fault.Reason.TheVariants as reason
-use Rattle.keyed_files.specs.declared.request.Lengths.{Lengths}
-use Rattle.keyed_files.specs.declared.request.Lengths.TheVariants as lengths
 use Rattle.keyed_files.specs.declared.source.Source.{Source}
 
 -- a row has as many cells as it may have, where the first one has so many: as many, or where rows may be short none after these that is
@@ -19,13 +19,6 @@ FitsCount lengths.Ragged count fields = (place : ℕ) → count ≤ place → ce
 abbrev pub BreaksCount : Lengths → ℕ → List (List ℕ) → Type 0
 BreaksCount lengths.Equal count fields = length fields ≢ count
 BreaksCount lengths.Ragged count fields = (place : ℕ) × (count ≤ place) × (cell_at fields (Some place) ≢ [])
-
--- memory, the file or its quotes are to blame
-abbrev pub IsOutside : Reason → Type 0
-IsOutside reason.NoMemory = ⊤
-IsOutside (reason.Io error) = ⊤
-IsOutside (reason.Quotes line fault) = ⊤
-IsOutside _ = ⊥
 
 -- the row that was read last has another number of cells than it may have, and these numbers are told
 abbrev pub IsWrongCount : {R : Type 0} → Source R → Reason → Type 0

@@ -1,7 +1,7 @@
 -- The rows that a look-up is written as.
 use Rattle.std.specs.Prelude.{ℕ, List, [], ◌++◌, Option, map, unwrap_or}
-use Rattle.keyed_files.specs.declared.columns.JoinColumns.{JoinColumns}
-use Rattle.keyed_files.specs.Rows.{placed}
+use Rattle.keyed_columns.specs.declared.columns.JoinColumns.{JoinColumns}
+use Rattle.keyed_columns.specs.Placed.{placed}
 
 -- the cells that were found, or as many empty ones as the right table has beside its key
 abbrev pub found_cells : JoinColumns → Option (List (List ℕ)) → List (List ℕ)

@@ -1,15 +1,15 @@
 -- The columns that go from a text of changes.
 use Rattle.std.specs.Prelude.{◌≡◌, ℕ, List, [], ◌∷◌, Bool, true, false, Option, IfSome, ⊤}
 use Rattle.keyed_text.specs.Texts.{AreRows}
-use Rattle.keyed_files.specs.Going.{names_going}
+use Rattle.keyed_requests.specs.FormBytes.{comment_of, delimiter_of}
+use Rattle.keyed_requests.specs.declared.request.Form.{Form}
+use Rattle.keyed_columns.specs.Going.{names_going}
+use Rattle.keyed_columns.specs.declared.content.Content.{Content}
+use Rattle.keyed_columns.specs.declared.content.Content.TheVariants.{Changes}
 use Rattle.keyed_files.specs.Opening.{form_of, text_of_stream}
 use Rattle.keyed_files.specs.Reading.{HasGiven}
-use Rattle.keyed_files.specs.Writing.{comment_of, delimiter_of}
 use Rattle.keyed_files.specs.declared.opened.Opened.{Opened}
 use Rattle.keyed_files.specs.declared.opened.Stream.{Stream}
-use Rattle.keyed_files.specs.declared.request.Form.{Form}
-use Rattle.keyed_files.specs.declared.source.Content.{Content}
-use Rattle.keyed_files.specs.declared.source.Content.TheVariants.{Changes}
 use Rattle.keyed_files.specs.declared.source.Source.{Source}
 
 -- the header is the first record of a text of changes, if there is to be one, and says which columns go

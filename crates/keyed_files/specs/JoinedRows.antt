@@ -1,8 +1,8 @@
 -- The rows that a join is written as.
 use Rattle.std.specs.Prelude.{ℕ, zero, suc, List, [], ◌∷◌, ◌++◌, Option, Some, None, length, map, option_and_then, option_map, slice_get, unwrap_or}
-use Rattle.keyed_files.specs.declared.columns.JoinColumns.{JoinColumns}
+use Rattle.keyed_columns.specs.declared.columns.JoinColumns.{JoinColumns}
+use Rattle.keyed_columns.specs.Placed.{first_cells}
 use Rattle.keyed_files.specs.declared.joined_rows.Sides.{Sides}
-use Rattle.keyed_files.specs.Rows.{first_cells}
 
 -- the header of a join: none where there is no name
 abbrev pub join_heading : List (List ℕ) → List (List (List ℕ))

@@ -1,13 +1,13 @@
 -- What readers have left of a file, on its way to the reader of CSV.
 use Rattle.std.specs.Prelude.{◌≡◌, ℕ, [], false, option_map, List, Option, Some, None, is_none, slice_range, if◌then◌else◌}
 use Rattle.std.specs.Io.KnownBytes.{prepend_known}
+use Rattle.keyed_requests.specs.declared.request.Quotes.{Quotes}
+use Rattle.keyed_requests.specs.declared.request.Quotes.TheVariants as quotes
+use Rattle.keyed_requests.specs.declared.request.Reading.{Reading}
 use Rattle.keyed_files.specs.declared.ahead.Ahead.{Ahead}
 use Rattle.keyed_files.specs.declared.by_line.ByLine.{ByLine}
 use Rattle.keyed_files.specs.declared.checked.Checked.{Checked}
 use Rattle.keyed_files.specs.declared.checked.Checked.TheVariants as way
-use Rattle.keyed_files.specs.declared.request.Quotes.{Quotes}
-use Rattle.keyed_files.specs.declared.request.Quotes.TheVariants as quotes
-use Rattle.keyed_files.specs.declared.request.Reading.{Reading}
 
 -- the bytes that were read ahead and are not taken yet
 abbrev pub ahead_of : {R : Type 0} → Ahead R → List ℕ

@@ -1,15 +1,15 @@
 -- A stream of rows that is opened: the text that it has, and the form in which it is read.
 use Rattle.std.specs.Prelude.{◌≡◌, ℕ, List, [], ◌∷◌, Option, None, Some, IfSome, Result, Ok, Err, map, unwrap_or}
+use Rattle.keyed_faults.specs.declared.fault.Reason.{Reason}
+use Rattle.keyed_requests.specs.declared.request.Form.{Form}
+use Rattle.keyed_requests.specs.declared.request.Settings.{Settings}
+use Rattle.keyed_columns.specs.Names.{renamed}
+use Rattle.keyed_columns.specs.declared.content.Content.{Content}
 use Rattle.keyed_files.specs.Reading.{IsOpen, text_read}
-use Rattle.keyed_files.specs.Names.{renamed}
 use Rattle.keyed_files.specs.declared.opened.Opened.{Opened}
 use Rattle.keyed_files.specs.declared.opened.Stream.{Stream}
 use Rattle.keyed_files.specs.declared.opened.Two.{Two}
-use Rattle.keyed_files.specs.declared.request.Form.{Form}
-use Rattle.keyed_files.specs.declared.request.Settings.{Settings}
-use Rattle.keyed_files.specs.declared.source.Content.{Content}
 use Rattle.keyed_files.specs.declared.source.Source.{Source}
-use Rattle.keyed_files.specs.declared.fault.Reason.{Reason}
 
 -- the form in which a stream is read: its own byte parts cells, where it has one
 abbrev pub form_of : {R : Type 0} → Form → Stream R → Form

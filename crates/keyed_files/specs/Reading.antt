@@ -4,18 +4,19 @@ use Rattle.csv.specs.Records.{field_at, fields_of}
 use Rattle.keyed_rows.specs.declared.row.ReadRow.{ReadRow}
 use Rattle.keyed_text.specs.Streams.{HasRead}
 use Rattle.keyed_text.specs.Texts.{AreRows}
+use Rattle.keyed_requests.specs.FormBytes.{comment_of, delimiter_of}
+use Rattle.keyed_requests.specs.declared.request.Form.{Form}
+use Rattle.keyed_columns.specs.Headers.{HeaderOf, NamesOf}
+use Rattle.keyed_columns.specs.CellsUnder.{cell_at}
+use Rattle.keyed_columns.specs.Spelled.{SpelledBy}
+use Rattle.keyed_columns.specs.declared.columns.Columns.{Columns}
+use Rattle.keyed_columns.specs.declared.content.Content.{Content}
+use Rattle.keyed_columns.specs.declared.content.Content.TheVariants as content
 use Rattle.keyed_files.specs.Lines.{checked_left, where_strict}
-use Rattle.keyed_files.specs.Headers.{ArePlaces, HeaderOf, NamesOf, place_under}
-use Rattle.keyed_files.specs.Picked.{cell_at}
+use Rattle.keyed_files.specs.CellPlaces.{ArePlaces}
 use Rattle.keyed_files.specs.Rows.{shown_sign}
-use Rattle.keyed_files.specs.Spelled.{SpelledBy}
-use Rattle.keyed_files.specs.Writing.{comment_of, delimiter_of}
-use Rattle.keyed_files.specs.declared.columns.Columns.{Columns}
-use Rattle.keyed_files.specs.declared.request.Form.{Form}
 use Rattle.keyed_files.specs.declared.sign.Sign.{Sign}
 use Rattle.keyed_files.specs.declared.sign.SignedRow.{SignedRow}
-use Rattle.keyed_files.specs.declared.source.Content.{Content}
-use Rattle.keyed_files.specs.declared.source.Content.TheVariants as content
 use Rattle.keyed_files.specs.declared.source.Next.{Next}
 use Rattle.keyed_files.specs.declared.source.Next.TheVariants as next
 use Rattle.keyed_files.specs.declared.source.Places.{Places}
@@ -129,14 +130,6 @@ abbrev pub ReadsRest : {R : Type 0} → (R → Option (List ℕ)) → Places →
 ReadsRest remaining places source old new = (d : ℕ) (c : Option ℕ) (text : List ℕ) (given : List (List (List ℕ)))
     → HasGiven d c remaining text given source
     → (records : List (List (List ℕ))) × AreRows d c text (given ++ records) × ReadBehind places old new records
-
--- the cell of a record under the name of a column, and an empty one where no column has the name
-abbrev pub cell_under : Content → List (List ℕ) → List (List ℕ) → List ℕ → List ℕ
-cell_under kind names fields name = cell_at fields (place_under kind names name)
-
--- the cells of a record under the names of columns: those of the key, and the others
-abbrev pub row_under : Content → List (List ℕ) → Columns → List (List ℕ) → List (List ℕ) × List (List ℕ)
-row_under kind names columns fields = (map (cell_under kind names fields) columns.key, map (cell_under kind names fields) columns.rest)
 
 -- the records after the header, if there is one
 abbrev pub behind_header : Bool → List (List (List ℕ)) → List (List (List ℕ))

@@ -1,33 +1,12 @@
 -- The rows that a table and a join are written as, of the cells of keys and of what stands under them.
-use Rattle.std.specs.Prelude.{◌==◌, ◌||◌, ◌&&◌, ℕ, List, [], ◌∷◌, ◌++◌, Bool, not, Option, Some, None, is_some, drop, length, map, slice_get, unwrap_or, if◌then◌else◌}
+use Rattle.std.specs.Prelude.{◌==◌, ◌||◌, ◌&&◌, ℕ, List, [], ◌∷◌, ◌++◌, Bool, not, Option, None, is_some, length, map, if◌then◌else◌}
 use Rattle.std.specs.List.{flat_map}
-use Rattle.keyed_files.specs.declared.columns.Columns.{Columns}
-use Rattle.keyed_files.specs.declared.columns.Place.{Place}
-use Rattle.keyed_files.specs.declared.columns.Place.TheVariants as at
-use Rattle.keyed_files.specs.declared.request.Form.{Form}
-use Rattle.keyed_files.specs.AnswerForm.{writes_heading}
+use Rattle.keyed_requests.specs.declared.request.Form.{Form}
+use Rattle.keyed_requests.specs.AnswerForm.{writes_heading}
+use Rattle.keyed_columns.specs.declared.columns.Columns.{Columns}
+use Rattle.keyed_columns.specs.declared.columns.Place.{Place}
 use Rattle.keyed_files.specs.declared.sign.Sign.{Sign}
 use Rattle.keyed_files.specs.declared.sign.Sign.TheVariants as sign
-
--- the cell of a column: that of the key at its place, or the next one of the others; an empty one where the row has none there
-abbrev pub cell_placed : Place → List (List ℕ) → List (List ℕ) → List ℕ
-cell_placed (at.Key place) key rest = unwrap_or (slice_get key place) []
-cell_placed at.Rest key rest = unwrap_or (slice_get rest 0) []
-
--- the other cells that are left after a column
-abbrev pub rest_behind : Place → List (List ℕ) → List (List ℕ)
-rest_behind (at.Key place) rest = rest
-rest_behind at.Rest rest = drop 1 rest
-
--- the cells of a key and the others, in the order of columns
-unfoldable pub placed : List Place → List (List ℕ) → List (List ℕ) → List (List ℕ)
-placed [] key rest = []
-placed (place ∷ order) key rest = cell_placed place key rest ∷ placed order key (rest_behind place rest)
-
--- a cell that stands before the others, if there is one
-abbrev pub first_cells : Option (List ℕ) → List (List ℕ)
-first_cells None = []
-first_cells (Some cell) = cell ∷ []
 
 -- the cell that a sign is
 abbrev pub shown_sign : Sign → List ℕ
@@ -45,14 +24,6 @@ rows_under first order key rows = map (λ rest. first_cells first ++ placed orde
 -- the rows of a table
 abbrev pub table_rows : List Place → List (List (List ℕ) × List (List (List ℕ))) → List (List (List ℕ))
 table_rows order rows = flat_map (λ group. rows_under None order group.0 group.1) rows
-
--- the names of columns in their order
-abbrev pub names_placed : Columns → List (List ℕ)
-names_placed columns = placed columns.order.items columns.key columns.rest
-
--- the same as a heading spells them
-abbrev pub names_headed : Columns → List (List ℕ)
-names_headed columns = unwrap_or columns.spelled (names_placed columns)
 
 -- these after a first cell if there is one
 abbrev pub names_row : Option (List ℕ) → Columns → List (List ℕ)

@@ -1,23 +1,16 @@
 -- What stands after calls that write rows, and the text that is made of them.
-use Rattle.std.specs.Prelude.{◌≡◌, ◌==◌, ◌||◌, ℕ, List, [], ◌∷◌, ◌++◌, Bool, Option, Some, None, drop, take, length, option_map, if◌then◌else◌, unwrap_or, Vec}
+use Rattle.std.specs.Prelude.{◌≡◌, ◌==◌, ◌||◌, ℕ, List, [], ◌∷◌, ◌++◌, Bool, Option, Some, drop, take, length, if◌then◌else◌, unwrap_or, Vec}
 use Rattle.std.specs.List.{position}
 use Rattle.keyed_text.specs.Streams as stream
 use Rattle.csv.specs.declared.writer.WriterBuilder.{WriterBuilder}
 use Rattle.keyed_text.specs.Texts.{finished, text_by, writer_in}
-use Rattle.keyed_files.specs.Encodings.{is_marked}
-use Rattle.keyed_files.specs.declared.request.Form.{Form}
+use Rattle.keyed_faults.specs.Encodings.{is_marked}
+use Rattle.keyed_requests.specs.declared.request.Form.{Form}
 use Rattle.keyed_files.specs.declared.written.Written.{Written}
 
 -- the bytes that are written to a vector
 abbrev pub bytes_in : {M : Type 0} → Vec ℕ M → Option (List ℕ)
 bytes_in bytes = Some bytes.items
-
--- the byte between cells, and the one that begins lines which are passed over, if there is one
-abbrev pub delimiter_of : Form → ℕ
-delimiter_of form = form.delimiter.byte
-
-abbrev pub comment_of : Form → Option ℕ
-comment_of form = option_map (λ comment. comment.byte) form.reading.comment
 
 -- how rows are written in a form
 abbrev pub writer_of : Form → WriterBuilder

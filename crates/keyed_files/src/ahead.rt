@@ -4,7 +4,7 @@ ghost use Rattle.std.specs.Io.KnownBytes.{IsAtEnd, Keeps};
 ghost use Rattle.keyed_files.specs.Lines.{ahead_of, left_of};
 
 use crate::buffer::Buffer;
-use crate::encoding::TELLING;
+use keyed_faults::Encoding;
 use std::alloc::{AllocError, Global};
 use std::io;
 use std::io::Read;
@@ -72,8 +72,8 @@ impl<R: Read> Ahead<R> {
     pub fn read_first(&mut self) -> io::Result<()>
         ensures { Keeps (left_of R.remaining self.old) (left_of R.remaining self.new) }
     {
-        for _ in 0..TELLING {
-            if TELLING <= self.bytes.filled() {
+        for _ in 0..Encoding::TELLING {
+            if Encoding::TELLING <= self.bytes.filled() {
                 break;
             }
             self.read_more()?;

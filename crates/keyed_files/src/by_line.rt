@@ -5,9 +5,9 @@ ghost use Rattle.std.specs.Io.KnownBytes.{Keeps};
 ghost use Rattle.keyed_files.specs.Lines.{Begins, lines_left};
 
 use crate::ahead::Ahead;
-use crate::encoding::Encoding;
 use crate::first_cell::MARK;
-use crate::request::{Comment, Reading};
+use keyed_faults::Encoding;
+use keyed_requests::{Comment, Reading};
 use memchr::memchr2;
 use std::alloc::{AllocError, Global};
 use std::cell::Cell;

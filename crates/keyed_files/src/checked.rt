@@ -1,10 +1,10 @@
 //! The bytes of a file on their way to the reader of CSV: line by line, and with quotes in order, or put in order line by line.
 ghost use Rattle.std.specs.Prelude.{◌≡◌, IfOk};
+ghost use Rattle.keyed_requests.specs.FormBytes.{comment_of, delimiter_of};
 ghost use Rattle.keyed_files.specs.Lines.{checked_left, lines_left, where_strict};
-ghost use Rattle.keyed_files.specs.Writing.{comment_of, delimiter_of};
 
 use crate::by_line::ByLine;
-use crate::request::{Comment, Form, Quotes};
+use keyed_requests::{Comment, Form, Quotes};
 use keyed_text::{Lenient, Marks, QuoteFault, Strict};
 use std::alloc::{AllocError, Global};
 use std::io;

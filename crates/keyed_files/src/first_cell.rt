@@ -1,11 +1,11 @@
 //! The first cell of a text, whose first bytes say what the text is to whoever reads it.
 ghost use Rattle.std.specs.Prelude.{◌≡◌, ◌≤◌, ◌++◌, ◌∷◌, [], IfOk, IfSome, length};
 ghost use Rattle.std.specs.List.{position};
-ghost use Rattle.keyed_files.specs.Encodings.{is_marked};
+ghost use Rattle.keyed_faults.specs.Encodings.{is_marked};
 ghost use Rattle.keyed_files.specs.Writing.{end_of_cell, ends_cell, quoted, quoted_first};
 
-use crate::encoding::Encoding;
-use crate::request::Delimiter;
+use keyed_faults::Encoding;
+use keyed_requests::Delimiter;
 use std::alloc::{AllocError, Global};
 
 /// A byte order mark, which a text may begin with and which is no part of its first cell.

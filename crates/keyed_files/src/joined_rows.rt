@@ -4,9 +4,9 @@ ghost use Rattle.keyed_files.specs.JoinedRows.{join_heading, joined_row, joined_
 ghost use Rattle.keyed_files.specs.JoinedRows.{rows_beside, side_count, side_row};
 ghost use Rattle.keyed_files.specs.Writing.{PutsCells, PutsRows};
 
-use crate::columns::JoinColumns;
-use crate::fault::Reason;
 use crate::written::Written;
+use keyed_columns::JoinColumns;
+use keyed_faults::Reason;
 use keyed_rows::{Cells, Group, Key};
 
 /// What a row of a join has: the rows of each side, and a cell that stands before its key, if there is one.

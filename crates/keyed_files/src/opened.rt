@@ -1,21 +1,21 @@
-//! Files whose headers are read, and what is wrong with them.
+//! Files whose headers are read.
 ghost use Rattle.std.specs.Prelude.{◌≡◌, IfOk, Ok, OnOk};
-ghost use Rattle.keyed_files.specs.ChangedColumns.{marked_names};
+ghost use Rattle.keyed_columns.specs.ChangedColumns.{marked_names};
+ghost use Rattle.keyed_columns.specs.Keys.{AreChangeColumns, AreChangedColumnsBy, AreColumnsBy, AreJoinColumns};
+ghost use Rattle.keyed_columns.specs.Names.{compared};
+ghost use Rattle.keyed_columns.specs.Spelled.{IsSpelledAs};
+ghost use Rattle.keyed_columns.specs.declared.content.Content.TheVariants.{Rows};
 ghost use Rattle.keyed_files.specs.Gone.{IsGoneRead};
-ghost use Rattle.keyed_files.specs.Keys.{AreChangeColumns, AreChangedColumnsBy, AreColumnsBy, AreJoinColumns};
-ghost use Rattle.keyed_files.specs.Names.{compared};
 ghost use Rattle.keyed_files.specs.Opening.{IsNamedAnew, IsOpened, IsRenamed, first_header, headers_of};
 ghost use Rattle.keyed_files.specs.Opening.{next_header};
-ghost use Rattle.keyed_files.specs.Spelled.{IsSpelledAs};
-ghost use Rattle.keyed_files.specs.declared.source.Content.TheVariants.{Rows};
 
-use crate::column_changes::ColumnChanges;
-use crate::columns::{Columns, JoinColumns, columns_of, join_columns};
-use crate::fault::{Fault, Reason};
-use crate::key_record::key_names;
-use crate::new_columns::{changed_columns, marked_names};
-use crate::request::{Delimiter, Form, Settings};
-use crate::source::{Content, Source};
+use crate::source::Source;
+use keyed_columns::{
+    ColumnChanges, Columns, Content, JoinColumns, changed_columns, columns_of, join_columns,
+    key_names, marked_names,
+};
+use keyed_faults::{Fault, Reason, at};
+use keyed_requests::{Delimiter, Form, Settings};
 use keyed_rows::Cells;
 use std::alloc::Global;
 use std::io::Read;
@@ -34,25 +34,6 @@ pub struct Stream<'a, R> {
 pub struct Opened<'a, R> {
     pub file: &'a str,
     pub source: Box<Source<R>>,
-}
-
-/// The outcome, with the file that it is of.
-///
-/// # Errors
-///
-/// Returns the error of the outcome, as a fault of the file.
-pub fn at<'a, T: Drop, E: Drop>(file: &'a str, outcome: Result<T, E>) -> Result<T, Fault<'a>>
-where
-    Reason: From<E>,
-    ensures { IfOk result (λ value. outcome ≡ Ok value) }
-{
-    match outcome {
-        Ok(value) => Ok(value),
-        Err(error) => Err(Fault {
-            file,
-            reason: Reason::from(error),
-        }),
-    }
 }
 
 impl<'a, R> Opened<'a, R> {

@@ -5,10 +5,10 @@ ghost use Rattle.keyed_files.specs.Parts.{Fills, HasParts, IsFull, IsStep, Rises
 ghost use Rattle.keyed_files.specs.Parts.{first_within, keys_in, rises_behind};
 ghost use Rattle.keyed_files.specs.Reading.{HasGiven, PlacesOf};
 
-use crate::columns::Columns;
-use crate::fault::{Fault, Reason};
-use crate::opened::{Opened, at};
+use crate::opened::Opened;
 use crate::source::{Places, Source};
+use keyed_columns::Columns;
+use keyed_faults::{Fault, Reason, at};
 use keyed_rows::{Key, ReadRow};
 use std::alloc::Global;
 use std::collections::VecDeque;

@@ -4,44 +4,36 @@ ghost use Rattle.std.specs.Prelude.{OnOk, Some, is_some, map};
 ghost use Rattle.std.specs.Io.KnownBytes.{Keeps};
 ghost use Rattle.csv.specs.Records.{field_at, fields_of};
 ghost use Rattle.keyed_text.specs.Streams.{GivesRow, HasRead};
+ghost use Rattle.keyed_faults.specs.Outside.{IsOutside};
+ghost use Rattle.keyed_faults.specs.declared.fault.Reason.TheVariants.{NoSign};
+ghost use Rattle.keyed_requests.specs.FormBytes.{comment_of, delimiter_of};
+ghost use Rattle.keyed_columns.specs.Going.{GoneSaid};
+ghost use Rattle.keyed_columns.specs.Headers.{HeaderOf, cells_before, place_under};
+ghost use Rattle.keyed_columns.specs.Names.{renamed};
+ghost use Rattle.keyed_columns.specs.CellsUnder.{cell_at};
+ghost use Rattle.keyed_columns.specs.Spelled.{SpelledFirst};
+ghost use Rattle.keyed_columns.specs.declared.content.Content.TheVariants.{Changes};
 ghost use Rattle.keyed_files.specs.Explained.{BreaksCount, ExplainsRow, ExplainsSigned, FitsCount};
-ghost use Rattle.keyed_files.specs.Explained.{IsOutside, IsWrongCount};
-ghost use Rattle.keyed_files.specs.declared.fault.Reason.TheVariants.{NoSign};
-ghost use Rattle.keyed_files.specs.Going.{GoneSaid};
+ghost use Rattle.keyed_files.specs.Explained.{IsWrongCount};
 ghost use Rattle.keyed_files.specs.Gone.{KnowsGone};
-ghost use Rattle.keyed_files.specs.Headers.{ArePlaces, HeaderOf, cells_before, place_under};
+ghost use Rattle.keyed_files.specs.CellPlaces.{ArePlaces};
 ghost use Rattle.keyed_files.specs.Lines.{checked_left, lines_left};
-ghost use Rattle.keyed_files.specs.Names.{renamed};
-ghost use Rattle.keyed_files.specs.Picked.{cell_at};
 ghost use Rattle.keyed_files.specs.Reading.{GivesRecord, HasSign, IsOpen, IsPicked, IsSigned, PlacesOf};
 ghost use Rattle.keyed_files.specs.Reading.{key_in, last_record, next_of, text_lined, text_read};
 ghost use Rattle.keyed_files.specs.Rows.{shown_sign};
-ghost use Rattle.keyed_files.specs.Spelled.{SpelledFirst};
-ghost use Rattle.keyed_files.specs.Writing.{comment_of, delimiter_of};
-ghost use Rattle.keyed_files.specs.declared.source.Content.TheVariants.{Changes};
 ghost use Rattle.keyed_files.specs.declared.source.Next.TheVariants.{Read};
 
 use crate::by_line::ByLine;
 use crate::checked::{Checked, marks_of};
-use crate::columns::Columns;
-use crate::encoding::Encoding;
-use crate::fault::Reason;
-use crate::header::{Header, Spelling};
-use crate::key_record::KeyNames;
-use crate::request::{Form, Lengths, Quotes};
 use crate::sign::{Sign, SignedRow};
 use csv::ByteRecord;
+use keyed_columns::{Columns, Content, Header, KeyNames, Spelling};
+use keyed_faults::{Encoding, Reason};
+use keyed_requests::{Form, Lengths, Quotes};
 use keyed_rows::{Cells, Key, ReadRow};
 use keyed_text::RowReader;
 use std::alloc::{AllocError, Global};
 use std::io::Read;
-
-/// What a file has: rows, or changes as `diff` writes them, whose first column is a sign.
-#[derive(Clone, Copy)]
-pub enum Content {
-    Rows,
-    Changes,
-}
 
 /// What a source gives next.
 #[derive(Clone, Copy)]

@@ -1,16 +1,16 @@
 //! Rows written as CSV, in memory.
 ghost use Rattle.std.specs.Prelude.{◌≡◌, ◌∷◌, ◌++◌, [], List, ℕ, IfOk, OnOk, option_map};
-ghost use Rattle.keyed_files.specs.Rows.{first_cells, has_heading, heading, names_row, placed, rows_under};
+ghost use Rattle.keyed_columns.specs.Placed.{first_cells, placed};
+ghost use Rattle.keyed_files.specs.Rows.{change_name, has_heading, heading, names_row, rows_under};
 ghost use Rattle.keyed_files.specs.Rows.{shown_sign, table_rows};
 ghost use Rattle.keyed_files.specs.Writing.{EndsRow, IsTextOf, PutsCells, PutsRows, Wrote, file_text};
 
 use crate::checked::marks_of;
-use crate::columns::{Columns, Place};
-use crate::fault::Reason;
 use crate::first_cell::quote_first;
-use crate::placed::PlacedCells;
-use crate::request::Form;
 use crate::sign::Sign;
+use keyed_columns::{Columns, Place, PlacedCells};
+use keyed_faults::Reason;
+use keyed_requests::Form;
 use keyed_rows::{Cells, Group, Key};
 use keyed_text::RowWriter;
 use std::alloc::Global;
@@ -80,6 +80,21 @@ impl Written {
     {
         let text = self.rows.finish()?;
         Ok(text)
+    }
+
+    /// Puts the header of changes: the name of the column of signs, and the names of the columns as they are marked.
+    ///
+    /// # Errors
+    ///
+    /// Returns `CellCount` if a row has more or fewer cells than the first one, and `NoMemory`, or `Io` with the error that the
+    /// writer makes of it, if a request for memory was refused.
+    pub fn put_change_heading(&mut self, marked: &Cells) -> Result<(), Reason>
+        ensures { OnOk result (PutsRows self.old self.new ((change_name ∷ marked.now) ∷ [])) }
+    {
+        self.put_cell(b"change")?;
+        self.put(marked)?;
+        self.end_row()?;
+        Ok(())
     }
 
     // Puts a cell that stands before those of a row, if there is one.

@@ -1,7 +1,7 @@
 -- Which of the rows that changed are shown.
 use Rattle.std.specs.Prelude.{ℕ, ◌-◌, List, [], take}
-use Rattle.keyed_files.specs.declared.request.RowsShown.{RowsShown}
-use Rattle.keyed_files.specs.declared.request.RowsShown.TheVariants.{All, First, Nothing}
+use Rattle.keyed_requests.specs.declared.request.RowsShown.{RowsShown}
+use Rattle.keyed_requests.specs.declared.request.RowsShown.TheVariants.{All, First, Nothing}
 
 -- all of them, the first ones, or none
 abbrev pub shown_rows : {A : Type 0} → RowsShown → List A → List A

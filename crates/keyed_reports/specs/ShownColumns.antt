@@ -1,7 +1,7 @@
 -- Which columns are shown of rows that changed, each with its flag.
 use Rattle.std.specs.Prelude.{ℕ, Bool, true, false, not, ◌||◌, List, Option, Some, None, fold, length, map, replicate, zip}
-use Rattle.keyed_files.specs.declared.request.ColumnsShown.{ColumnsShown}
-use Rattle.keyed_files.specs.declared.request.ColumnsShown.TheVariants.{All, Changed}
+use Rattle.keyed_requests.specs.declared.request.ColumnsShown.{ColumnsShown}
+use Rattle.keyed_requests.specs.declared.request.ColumnsShown.TheVariants.{All, Changed}
 use Rattle.keyed_numbers.specs.Decimals.{same_cell}
 use Rattle.keyed_numbers.specs.declared.decimal.Decimal.{Decimal}
 

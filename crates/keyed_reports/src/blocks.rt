@@ -1,6 +1,6 @@
 //! Columns cut into blocks, so that no line of a table takes more columns of a terminal than it may.
 
-use keyed_files::Line;
+use keyed_layout::Line;
 use std::alloc::{AllocError, Global};
 
 /// The columns of a table, each with its flag, in blocks: of each block the flags of its columns, which are among them. The columns that

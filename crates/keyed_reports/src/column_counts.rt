@@ -7,7 +7,7 @@ use crate::changed_rows::RowChange;
 use either_or_both::EitherOrBoth;
 use eob_joins::Change;
 use indexmap::IndexMap;
-use keyed_files::{Decimal, is_same_cell};
+use keyed_numbers::{Decimal, is_same_cell};
 use keyed_rows::Cells;
 use std::alloc::{AllocError, Global};
 

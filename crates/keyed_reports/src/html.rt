@@ -8,7 +8,9 @@ use crate::changed_rows::{RowChange, word_of};
 use crate::report::Report;
 use crate::shown_columns::{columns_of, left_out};
 use either_or_both::EitherOrBoth;
-use keyed_files::{Columns, Decimal, ShownCell, ShownName, is_same_cell};
+use keyed_columns::Columns;
+use keyed_faults::{ShownCell, ShownName};
+use keyed_numbers::{Decimal, is_same_cell};
 use keyed_rows::{Cells, Iter};
 use std::alloc::{AllocError, Global};
 

@@ -2,7 +2,7 @@
 
 use crate::json_lines::put_cells;
 use json::Writer;
-use keyed_files::{Columns, JoinColumns};
+use keyed_columns::{Columns, JoinColumns};
 use keyed_rows::{Cells, Key};
 use std::alloc::{AllocError, Global};
 

@@ -8,7 +8,9 @@ ghost use Rattle.keyed_reports.specs.Escapes.{is_markdown_mark, markdown_byte};
 use crate::changed_rows::{RowChange, word_of};
 use crate::report::Report;
 use either_or_both::EitherOrBoth;
-use keyed_files::{Columns, Decimal, ShownCell, ShownName, is_same_cell};
+use keyed_columns::Columns;
+use keyed_faults::{ShownCell, ShownName};
+use keyed_numbers::{Decimal, is_same_cell};
 use keyed_rows::{Cells, Iter};
 use std::alloc::{AllocError, Global};
 

@@ -10,7 +10,9 @@ use crate::json_lines::{json_columns, json_rows};
 use crate::markdown::markdown;
 use crate::summary::{summary_json, summary_table};
 use crate::table::table;
-use keyed_files::{ColumnChanges, Columns, Decimal, Look, RowsShown, View};
+use keyed_columns::{ColumnChanges, Columns};
+use keyed_numbers::Decimal;
+use keyed_requests::{Look, RowsShown, View};
 use std::alloc::{AllocError, Global};
 
 /// What there is to say of two tables that were compared.

@@ -7,7 +7,8 @@ use crate::changed_rows::RowChange;
 use crate::report::Report;
 use either_or_both::EitherOrBoth;
 use eob_joins::Change;
-use keyed_files::{ColumnsShown, Decimal, is_same_cell};
+use keyed_numbers::{Decimal, is_same_cell};
+use keyed_requests::ColumnsShown;
 use keyed_rows::Cells;
 use std::alloc::{AllocError, Global};
 

@@ -4,7 +4,9 @@ use crate::html::{begin_page, end_page, put_element, put_elements, put_lines as 
 use crate::json_lines::put_cells as put_members;
 use crate::markdown::{put_cells as put_columns, put_heading, put_lines as put_items, put_word};
 use json::Writer;
-use keyed_files::{Columns, Grid, Look, heading, line_up, put_version};
+use keyed_columns::Columns;
+use keyed_layout::{Grid, heading, line_up, put_version};
+use keyed_requests::Look;
 use keyed_rows::{Cells, Group, Key};
 use std::alloc::{AllocError, Global};
 

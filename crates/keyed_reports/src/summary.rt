@@ -6,7 +6,8 @@ use crate::column_counts::{ColumnCount, CountedChange};
 use crate::json_lines::{json_counts, put_count, put_text};
 use crate::report::Report;
 use json::Writer;
-use keyed_files::{Grid, Line, ShownName, line_up};
+use keyed_faults::ShownName;
+use keyed_layout::{Grid, Line, line_up};
 use std::alloc::{AllocError, Global};
 use std::fmt::Write;
 

@@ -6,10 +6,11 @@ use crate::report::Report;
 use crate::shown_columns::{columns_of, left_out};
 use either_or_both::EitherOrBoth;
 use eob_joins::Change;
-use keyed_files::{
-    Colour, Colours, Decimal, Grid, Line, heading_of_picked, line_under, line_up, put_both,
-    put_picked, widths_of,
+use keyed_layout::{
+    Colour, Grid, Line, heading_of_picked, line_under, line_up, put_both, put_picked, widths_of,
 };
+use keyed_numbers::Decimal;
+use keyed_requests::Colours;
 use keyed_rows::Cells;
 use std::alloc::{AllocError, Global};
 use std::fmt::Write;

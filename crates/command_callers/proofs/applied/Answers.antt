@@ -4,9 +4,9 @@ use Rattle.std.proofs.lemmas.Result.{IfOk-weaker}
 use Rattle.std.specs.Prelude.{codes}
 use Rattle.csv.specs.Records.{field_at}
 use Rattle.csv.specs.Writing.{escaped, fields_text, is_blank}
-use Rattle.keyed_files.specs.ColumnNames.{distinct}
-use Rattle.keyed_files.specs.Names.{repeats}
-use Rattle.keyed_files.specs.Rows.{placed}
+use Rattle.keyed_columns.specs.ColumnNames.{distinct}
+use Rattle.keyed_columns.specs.Names.{repeats}
+use Rattle.keyed_columns.specs.Placed.{placed}
 use Rattle.command_callers.proofs.KnownApply.{apply_whole, known_changes}
 use Rattle.command_callers.proofs.KnownTables.{known_text}
 use Rattle.command_callers.proofs.LiteralTexts.{change_id_a, from_x_to_y, id_a, minus_one_x, one_x, plus_one_y, with_x}

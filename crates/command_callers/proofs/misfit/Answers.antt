@@ -3,8 +3,8 @@ use Rattle.std.proofs.lemmas.List.Sorted.{IsPermutation-refl}
 use Rattle.std.proofs.lemmas.Result.{IfOk-weaker}
 use Rattle.std.specs.Prelude.{codes}
 use Rattle.csv.specs.Records.{field_at}
-use Rattle.keyed_files.specs.ColumnNames.{distinct}
-use Rattle.keyed_files.specs.Names.{repeats}
+use Rattle.keyed_columns.specs.ColumnNames.{distinct}
+use Rattle.keyed_columns.specs.Names.{repeats}
 use Rattle.command_callers.proofs.KnownApply.{apply_stops, known_changes, some_none}
 use Rattle.command_callers.proofs.KnownTables.{known_text}
 use Rattle.command_callers.proofs.LiteralTexts.{change_id_a, id_a, minus_two_y, one_x, with_x, without_y}

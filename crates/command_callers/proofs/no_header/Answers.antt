@@ -5,8 +5,8 @@ use Rattle.std.specs.Fmt.{digits}
 use Rattle.std.specs.Prelude.{codes}
 use Rattle.csv.specs.Records.{field_at}
 use Rattle.csv.specs.Writing.{escaped, fields_text, is_blank}
-use Rattle.keyed_files.specs.ColumnNames.{distinct}
-use Rattle.keyed_files.specs.Rows.{placed}
+use Rattle.keyed_columns.specs.ColumnNames.{distinct}
+use Rattle.keyed_columns.specs.Placed.{placed}
 use Rattle.command_callers.proofs.KnownDiff.{diff_bytes, diff_differs}
 use Rattle.command_callers.proofs.KnownTables.{bare_text}
 use Rattle.command_callers.proofs.LiteralTexts.{bare_x, bare_y, first_second, one_x, one_y}

@@ -4,10 +4,10 @@ use Rattle.std.proofs.lemmas.Result.{IfOk-weaker}
 use Rattle.std.specs.Prelude.{codes}
 use Rattle.csv.specs.Records.{field_at}
 use Rattle.csv.specs.Writing.{escaped, fields_text, is_blank}
-use Rattle.keyed_files.specs.ColumnNames.{distinct}
+use Rattle.keyed_columns.specs.ColumnNames.{distinct}
+use Rattle.keyed_columns.specs.Names.{repeats}
+use Rattle.keyed_columns.specs.Placed.{placed}
 use Rattle.keyed_files.specs.JoinedRows.{each_before}
-use Rattle.keyed_files.specs.Names.{repeats}
-use Rattle.keyed_files.specs.Rows.{placed}
 use Rattle.command_callers.proofs.KnownJoinText.{right_join_bytes}
 use Rattle.command_callers.proofs.KnownTables.{known_text}
 use Rattle.command_callers.proofs.LiteralTexts.{id_a, id_b, one_x, three_w, two_y, two_z, with_x_and_y, with_z_and_w}

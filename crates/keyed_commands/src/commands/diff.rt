@@ -2,9 +2,9 @@
 //!
 //! Like each command it has three steps: the headers are read, then the rows under their columns, and then the tables are answered.
 ghost use Rattle.std.specs.Prelude.{◌≡◌, ◌↔◌, ◌==◌, ◌&&◌, IfOk, None, is_none, length, not};
-ghost use Rattle.keyed_files.specs.Keys.{AreChangeColumns};
+ghost use Rattle.keyed_requests.specs.declared.request.Format.TheVariants.{Csv};
+ghost use Rattle.keyed_columns.specs.Keys.{AreChangeColumns};
 ghost use Rattle.keyed_files.specs.Opening.{first_header, next_header};
-ghost use Rattle.keyed_files.specs.declared.request.Format.TheVariants.{Csv};
 ghost use Rattle.keyed_tables.specs.Arranged.{noted};
 ghost use Rattle.keyed_commands.specs.Answers.{ChangesComeOut, IsDiffStatus, IsDiffText, columns_differ};
 ghost use Rattle.keyed_commands.specs.Answers.{status_of};
@@ -16,11 +16,11 @@ use crate::by_number::changed_by_number;
 use crate::changes::write_changes;
 use crate::job::{Job, Table};
 use eob_joins::Change;
-use keyed_files::{
-    ColumnChanges, Columns, Comparing, Content, Fault, Format, Look, Picked, Reason, Settings,
-    Stream, Two, at, names_among, picked_columns,
-};
+use keyed_columns::{ColumnChanges, Columns, Content, names_among, picked_columns};
+use keyed_faults::{Fault, Reason, at};
+use keyed_files::{Stream, Two};
 use keyed_reports::{Report, count_rows, row_changes, write_report};
+use keyed_requests::{Comparing, Format, Look, Picked, Settings};
 use keyed_rows::{Cells, Group, Key};
 use keyed_tables::changes_of;
 use std::alloc::{AllocError, Global};

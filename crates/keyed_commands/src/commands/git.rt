@@ -3,9 +3,8 @@
 use crate::files::{answer_request, write_whole};
 use crate::line_diff::{Versions, render_line_diff};
 use crate::output::write_answer;
-use keyed_files::{
-    Comparing, Fault, GitDiff, GitMerge, GitSetup, Merging, Reason, Request, Settings, Shown, at,
-};
+use keyed_faults::{Fault, Reason, Shown, at};
+use keyed_requests::{Comparing, GitDiff, GitMerge, GitSetup, Merging, Request, Settings};
 use std::alloc::{AllocError, Global};
 use std::fmt::Write as WriteText;
 use std::fs;

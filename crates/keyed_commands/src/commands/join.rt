@@ -1,10 +1,10 @@
 //! Joins of two tables, written as CSV: an absent side has empty cells.
 ghost use Rattle.std.specs.Prelude.{◌≡◌, [], IfErr, IfOk, OnOk, false, is_none, option_map, true};
-ghost use Rattle.keyed_files.specs.JoinedNames.{ExplainsNames, joined_names, side_column};
+ghost use Rattle.keyed_requests.specs.declared.request.RowFormat.TheVariants.{Csv};
+ghost use Rattle.keyed_columns.specs.JoinedNames.{ExplainsNames, joined_names, side_column};
+ghost use Rattle.keyed_columns.specs.Names.{repeats};
 ghost use Rattle.keyed_files.specs.JoinedRows.{left_of, right_of};
-ghost use Rattle.keyed_files.specs.Names.{repeats};
 ghost use Rattle.keyed_files.specs.Writing.{Wrote};
-ghost use Rattle.keyed_files.specs.declared.request.RowFormat.TheVariants.{Csv};
 ghost use Rattle.keyed_tables.specs.Arranged.{noted};
 ghost use Rattle.keyed_commands.specs.Answers.{IsTableText};
 ghost use Rattle.keyed_commands.specs.ComeOut.{AlikePlaces, AlikeRows};
@@ -21,10 +21,10 @@ use crate::row_order::RowOrder;
 use either_or_both::EitherOrBoth;
 use either_or_both::join::outer_join;
 use eob_joins::{anti_join, inner_join, left_join, right_join, semi_join};
-use keyed_files::{
-    Content, Fault, Form, JoinColumns, Joining, Kind, Reason, RowFormat, Settings, Sides, Stream,
-    Two, Written, at, join_header, quote_first, write_table,
-};
+use keyed_columns::{Content, JoinColumns, join_header};
+use keyed_faults::{Fault, Reason, at};
+use keyed_files::{Sides, Stream, Two, Written, quote_first, write_table};
+use keyed_requests::{Form, Joining, Kind, RowFormat, Settings};
 use keyed_rows::{Cells, Group, Key};
 use std::alloc::{AllocError, Global};
 use std::io::Read;

@@ -1,6 +1,6 @@
 //! Joins of two tables, in the form that is wanted: as CSV, or as JSON, of which a row has no side that is absent.
 ghost use Rattle.std.specs.Prelude.{◌≡◌, IfOk, is_none};
-ghost use Rattle.keyed_files.specs.declared.request.RowFormat.TheVariants.{Csv};
+ghost use Rattle.keyed_requests.specs.declared.request.RowFormat.TheVariants.{Csv};
 ghost use Rattle.keyed_tables.specs.Arranged.{noted};
 ghost use Rattle.keyed_commands.specs.JoinAnswers.{IsJoinText};
 
@@ -8,8 +8,10 @@ use crate::commands::join::{JoinForm, JoinedRow, join_as_csv};
 use crate::job::{Job, Table};
 use either_or_both::EitherOrBoth;
 use either_or_both::join::outer_join;
-use keyed_files::{JoinColumns, Kind, Reason, RowFormat};
+use keyed_columns::JoinColumns;
+use keyed_faults::Reason;
 use keyed_reports::{JsonSides, put_json_row};
+use keyed_requests::{Kind, RowFormat};
 use keyed_rows::{Cells, Group, Key};
 use std::alloc::AllocError;
 

@@ -2,9 +2,9 @@
 ghost use Rattle.std.specs.Prelude.{◌≡◌, ◌++◌, ◌∷◌, [], IfOk, List, None, OnOk, map, option_map, ℕ};
 ghost use Rattle.std.specs.HashMap.{IsUnique, get_by};
 ghost use Rattle.eob_joins.specs.Lookup.{shown_lookup, with_found};
+ghost use Rattle.keyed_requests.specs.declared.request.RowFormat.TheVariants.{Csv};
 ghost use Rattle.keyed_files.specs.Reading.{ReadsRest, ReadsRows};
 ghost use Rattle.keyed_files.specs.Writing.{PutsRows, Wrote, quoted_text};
-ghost use Rattle.keyed_files.specs.declared.request.RowFormat.TheVariants.{Csv};
 ghost use Rattle.keyed_commands.specs.JoinAnswers.{heading_of_join};
 ghost use Rattle.keyed_commands.specs.LookupAnswers.{LooksUpStreams, ReadsPart, WritesBehind, WritesPart};
 ghost use Rattle.keyed_commands.specs.LookupAnswers.{WritesRest, as_rows, found_under, held_rows, key_eq};
@@ -12,11 +12,11 @@ ghost use Rattle.keyed_commands.specs.LookupAnswers.{lookup_rows, rows_of, shown
 
 use eob_joins::{LookupRow, lookup_join};
 use indexmap::IndexMap;
-use keyed_files::{
-    Columns, Content, Fault, Finding, Form, JoinColumns, Layout, LookupKind, Opened, Places,
-    Reason, RowFormat, Source, Stream, Two, Written, at, lookup_header, quote_first,
-};
+use keyed_columns::{Columns, Content, JoinColumns, lookup_header};
+use keyed_faults::{Fault, Reason, at};
+use keyed_files::{Opened, Places, Source, Stream, Two, Written, quote_first};
 use keyed_reports::{JsonSides, put_json_row};
+use keyed_requests::{Finding, Form, Layout, LookupKind, RowFormat};
 use keyed_rows::{Cells, Key, ReadRow, RepeatedKey};
 use std::alloc::{AllocError, Global};
 use std::io::{Read, Write};

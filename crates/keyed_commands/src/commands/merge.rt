@@ -1,9 +1,9 @@
 //! The answer to `merge`, of streams: two versions of a table merged over their base, or a report of the rows in conflict.
 ghost use Rattle.std.specs.Prelude.{◌≡◌, ◌==◌, IfOk, OnOk, is_none, length};
-ghost use Rattle.keyed_files.specs.Keys.{AreMergedColumnsBy};
+ghost use Rattle.keyed_columns.specs.Keys.{AreMergedColumnsBy};
+ghost use Rattle.keyed_columns.specs.Spelled.{IsSpelledAs};
+ghost use Rattle.keyed_columns.specs.declared.content.Content.TheVariants.{Rows};
 ghost use Rattle.keyed_files.specs.Opening.{first_header, next_header};
-ghost use Rattle.keyed_files.specs.Spelled.{IsSpelledAs};
-ghost use Rattle.keyed_files.specs.declared.source.Content.TheVariants.{Rows};
 ghost use Rattle.keyed_tables.specs.Arranged.{noted};
 ghost use Rattle.keyed_tables.specs.Parted.{merged_of};
 ghost use Rattle.keyed_commands.specs.AppliedTexts.{watched_left};
@@ -24,11 +24,12 @@ use crate::made_table::answer_of_rows;
 use crate::marks::{has_conflict, parted, write_marked};
 use crate::preferred::rows_by_side;
 use crate::styles::{Watched, style_under, watch};
-use keyed_files::{
-    Columns, Conflicts, Content, Decimal, Fault, Merging, Opened, Reason, Settings, Side, Stream,
-    Two, Unit, at, columns_of, merged_columns,
-};
+use keyed_columns::{Columns, Content, columns_of, merged_columns};
+use keyed_faults::{Fault, Reason, at};
+use keyed_files::{Opened, Stream, Two};
+use keyed_numbers::Decimal;
 use keyed_reports::Report;
+use keyed_requests::{Conflicts, Merging, Settings, Side, Unit};
 use keyed_rows::{Group, Key};
 use keyed_tables::{
     Marked, Parted, marked_merge_by_cell_of, marked_merge_of, parted_merge_by_cell_of,

@@ -1,7 +1,7 @@
 //! Tables that are laid one over the other, the last one on top.
 ghost use Rattle.std.specs.Prelude.{◌≡◌, ◌∷◌, [], IfOk, OnOk, is_none, map, option_map, unwrap_or};
-ghost use Rattle.keyed_files.specs.Keys.{AreColumnsBy};
-ghost use Rattle.keyed_files.specs.declared.source.Content.TheVariants.{Rows};
+ghost use Rattle.keyed_columns.specs.Keys.{AreColumnsBy};
+ghost use Rattle.keyed_columns.specs.declared.content.Content.TheVariants.{Rows};
 ghost use Rattle.keyed_tables.specs.Arranged.{noted};
 ghost use Rattle.keyed_commands.specs.Answers.{IsTableText};
 ghost use Rattle.keyed_commands.specs.OverlayAnswers.{AreLaidOver, AreLayers, IsLayer, IsSpelledAsFirst};
@@ -17,9 +17,10 @@ use crate::files::put;
 use crate::job::{Job, Table};
 use crate::made_table::table_as_csv;
 use crate::styles::{Watched, style_under, watch};
-use keyed_files::{
-    Columns, Content, Fault, Form, Layer, Opened, Reason, Settings, Stream, at, columns_of,
-};
+use keyed_columns::{Columns, Content, columns_of};
+use keyed_faults::{Fault, Reason, at};
+use keyed_files::{Opened, Stream};
+use keyed_requests::{Form, Layer, Settings};
 use keyed_rows::{Cells, Group, Key};
 use keyed_tables::{filled_over, laid_over};
 use keyed_text::Style;

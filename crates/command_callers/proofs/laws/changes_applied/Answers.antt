@@ -3,9 +3,9 @@ use Rattle.std.proofs.lemmas.List.Sorted.{IsPermutation-refl, IsPermutation-swap
 use Rattle.std.specs.Prelude.{codes}
 use Rattle.csv.specs.Records.{field_at}
 use Rattle.csv.specs.Writing.{escaped, fields_text, is_blank}
-use Rattle.keyed_files.specs.ColumnNames.{distinct}
-use Rattle.keyed_files.specs.Names.{repeats}
-use Rattle.keyed_files.specs.Rows.{placed}
+use Rattle.keyed_columns.specs.ColumnNames.{distinct}
+use Rattle.keyed_columns.specs.Names.{repeats}
+use Rattle.keyed_columns.specs.Placed.{placed}
 use Rattle.command_callers.proofs.KnownApply.{known_changes}
 use Rattle.command_callers.proofs.KnownDiff.{diff_bytes}
 use Rattle.command_callers.proofs.KnownLaws.{and_so, made_other}

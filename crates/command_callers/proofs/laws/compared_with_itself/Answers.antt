@@ -1,6 +1,6 @@
 use Rattle.std.proofs.Common.{refl}
 use Rattle.std.proofs.lemmas.Result.{IfOk-weaker}
-use Rattle.keyed_files.specs.Names.{repeats}
+use Rattle.keyed_columns.specs.Names.{repeats}
 use Rattle.command_callers.proofs.KnownLaws.{same_status}
 use Rattle.command_callers.proofs.KnownTables.{known_text}
 use Rattle.command_callers.proofs.LiteralTexts.{id_a}

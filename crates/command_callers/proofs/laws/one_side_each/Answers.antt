@@ -3,9 +3,9 @@ use Rattle.std.proofs.lemmas.List.Sorted.{IsPermutation-refl}
 use Rattle.std.proofs.lemmas.Result.{IfOk-weaker}
 use Rattle.csv.specs.Records.{field_at}
 use Rattle.csv.specs.Writing.{escaped, fields_text, is_blank}
-use Rattle.keyed_files.specs.ColumnNames.{distinct}
-use Rattle.keyed_files.specs.Names.{repeats}
-use Rattle.keyed_files.specs.Rows.{placed}
+use Rattle.keyed_columns.specs.ColumnNames.{distinct}
+use Rattle.keyed_columns.specs.Names.{repeats}
+use Rattle.keyed_columns.specs.Placed.{placed}
 use Rattle.keyed_tables.specs.Gathered.{alone}
 use Rattle.command_callers.proofs.KnownLaws.{has_both}
 use Rattle.command_callers.proofs.KnownSides.{both_are, both_rise, of_base, of_both, of_ours, of_theirs}

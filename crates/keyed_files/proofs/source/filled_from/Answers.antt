@@ -1,7 +1,7 @@
 use Rattle.std.proofs.Common.{◌≡◌, ◌<◌, ◌≤◌, ℕ, List, [], Some, arith, length}
 use Rattle.csv.proofs.RecordFacts.{field-none}
 use Rattle.csv.specs.Records.{fields_of}
-use Rattle.keyed_files.specs.Picked.{cell_at}
+use Rattle.keyed_columns.specs.CellsUnder.{cell_at}
 use Rattle.keyed_files.proofs.source.filled_from.Goals as goal
 
 none-behind : (fields : List (List ℕ)) (place end : ℕ) → ((k : ℕ) → place ≤ k → k < end → cell_at fields (Some k) ≡ []) → length fields ≤ end

@@ -1,6 +1,6 @@
 use Rattle.std.proofs.Common.{◌≡◌, ◌<◌, ◌≤◌, ℕ, [], Some}
 use Rattle.csv.specs.Records.{fields_of}
-use Rattle.keyed_files.specs.Picked.{cell_at}
+use Rattle.keyed_columns.specs.CellsUnder.{cell_at}
 use Rattle.keyed_files.proofs.source.filled_from.Given as goal
 
 abbrev pub invariant-loop-at : goal.invariant-loop-at

@@ -1,5 +1,5 @@
 use Rattle.std.proofs.Common.{◌≡◌, ◌++◌, map}
-use Rattle.keyed_files.specs.Headers.{place_under}
+use Rattle.keyed_columns.specs.Headers.{place_under}
 use Rattle.keyed_files.proofs.source.find_places.Given as goal
 
 abbrev pub invariant-loop-name : goal.invariant-loop-name

@@ -1,10 +1,10 @@
 use Rattle.std.proofs.Common.{◌≡◌, ◌∙◌, ◌-◌, ap, arith, length}
 use Rattle.std.proofs.lemmas.Result.{IfOk-weaker}
 use Rattle.csv.specs.Records.{fields_of}
-use Rattle.keyed_files.specs.Going.{names_going}
-use Rattle.keyed_files.specs.Headers.{cells_before}
-use Rattle.keyed_files.proofs.HeaderLemmas.{gone-read, header-read, names-said, spelled-read}
-use Rattle.keyed_files.proofs.NumberLemmas.{header-counted}
+use Rattle.keyed_columns.specs.Going.{names_going}
+use Rattle.keyed_columns.specs.Headers.{cells_before}
+use Rattle.keyed_columns.proofs.HeaderLemmas.{gone-read, header-read, names-said, spelled-read}
+use Rattle.keyed_columns.proofs.NumberLemmas.{header-counted}
 use Rattle.keyed_files.proofs.source.header_of.Goals as goal
 
 pub returns-then-form : goal.returns-then-form

@@ -1,6 +1,6 @@
 use Rattle.std.proofs.Common.{◌≡◌, map, take}
 use Rattle.csv.specs.Records.{fields_of}
-use Rattle.keyed_files.specs.Picked.{cell_at}
+use Rattle.keyed_columns.specs.CellsUnder.{cell_at}
 use Rattle.keyed_files.proofs.source.pick.Given as goal
 
 abbrev pub invariant-loop-place : goal.invariant-loop-place

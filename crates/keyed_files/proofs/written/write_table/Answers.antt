@@ -1,7 +1,8 @@
 use Rattle.std.proofs.Common.{◌∙◌, ap, None}
 use Rattle.keyed_text.specs.Texts.{finished}
+use Rattle.keyed_requests.specs.FormBytes.{delimiter_of}
 use Rattle.keyed_files.specs.Rows.{heading, table_rows}
-use Rattle.keyed_files.specs.Writing.{delimiter_of, quoted_first}
+use Rattle.keyed_files.specs.Writing.{quoted_first}
 use Rattle.keyed_files.proofs.WritingLemmas.{wrote-more}
 use Rattle.keyed_files.proofs.written.write_table.Goals as goal
 

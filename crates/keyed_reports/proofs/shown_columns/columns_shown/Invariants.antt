@@ -1,6 +1,6 @@
 use Rattle.std.proofs.Common.{◌≡◌, map, option_map, take}
 use Rattle.either_or_both.specs.Prelude.{left_place, right_place}
-use Rattle.keyed_files.specs.declared.request.ColumnsShown.TheVariants.{Changed}
+use Rattle.keyed_requests.specs.declared.request.ColumnsShown.TheVariants.{Changed}
 use Rattle.keyed_reports.specs.ShownColumns.{columns_shown}
 use Rattle.keyed_reports.proofs.shown_columns.columns_shown.Given as goal
 

@@ -1,7 +1,7 @@
 use Rattle.std.proofs.Common.{refl, subst, sym}
 use Rattle.std.proofs.lemmas.Result.{IfOk-weaker}
-use Rattle.keyed_files.specs.Keys.{AreChangeColumns}
-use Rattle.keyed_files.specs.declared.columns.Columns.{Columns}
+use Rattle.keyed_columns.specs.Keys.{AreChangeColumns}
+use Rattle.keyed_columns.specs.declared.columns.Columns.{Columns}
 use Rattle.keyed_commands.proofs.ReadLemmas.{diff-streams}
 use Rattle.keyed_commands.proofs.commands.diff.diff.Goals as goal
 

@@ -1,8 +1,8 @@
 use Rattle.std.proofs.Common.{◌∙◌, ap, ap₂, subst}
 use Rattle.std.specs.Prelude.{is_none}
 use Rattle.std.proofs.lemmas.Result.{IfOk-weaker}
-use Rattle.keyed_files.specs.ChangedColumns.{marked_names}
-use Rattle.keyed_files.specs.Names.{compared}
+use Rattle.keyed_columns.specs.ChangedColumns.{marked_names}
+use Rattle.keyed_columns.specs.Names.{compared}
 use Rattle.keyed_tables.specs.Arranged.{noted}
 use Rattle.keyed_commands.specs.Answers.{IsDiffText}
 use Rattle.keyed_commands.proofs.ReadLemmas.{status-between}

@@ -1,8 +1,8 @@
 use Rattle.std.proofs.Common.{◌≡◌, ◌∙◌, [], false, subst, sym}
 use Rattle.std.proofs.lemmas.Result.{IfOk-weaker}
-use Rattle.keyed_files.specs.Keys.{AreJoinColumns}
-use Rattle.keyed_files.specs.Names.{repeats}
-use Rattle.keyed_files.specs.declared.columns.JoinColumns.{JoinColumns}
+use Rattle.keyed_columns.specs.Keys.{AreJoinColumns}
+use Rattle.keyed_columns.specs.Names.{repeats}
+use Rattle.keyed_columns.specs.declared.columns.JoinColumns.{JoinColumns}
 use Rattle.keyed_commands.specs.JoinAnswers.{JoinsSources, header_of_join}
 use Rattle.keyed_commands.proofs.JoinLemmas.{join-streams}
 use Rattle.keyed_commands.proofs.commands.join.join.Goals as goal

@@ -1,5 +1,6 @@
 use Rattle.std.proofs.Common.{◌∙◌, ap}
-use Rattle.keyed_files.specs.Writing.{delimiter_of, quoted_first}
+use Rattle.keyed_requests.specs.FormBytes.{delimiter_of}
+use Rattle.keyed_files.specs.Writing.{quoted_first}
 use Rattle.keyed_files.proofs.WritingLemmas.{wrote-more}
 use Rattle.keyed_commands.specs.JoinAnswers.{heading_of_join, join_rows}
 use Rattle.keyed_commands.proofs.commands.join.write_joined.Goals as goal

@@ -1,7 +1,7 @@
 use Rattle.std.proofs.Common.{◌≡◌, [], false}
 use Rattle.std.proofs.lemmas.Result.{IfOk-weaker}
-use Rattle.keyed_files.specs.JoinedNames.{found_names}
-use Rattle.keyed_files.specs.Names.{repeats}
+use Rattle.keyed_columns.specs.JoinedNames.{found_names}
+use Rattle.keyed_columns.specs.Names.{repeats}
 use Rattle.keyed_files.specs.Reading.{PlacesOf}
 use Rattle.keyed_commands.proofs.LookupLemmas.{lookup-streams}
 use Rattle.keyed_commands.proofs.commands.lookup.lookup.Goals as goal

@@ -1,7 +1,8 @@
 use Rattle.std.proofs.Common.{◌≡◌, ◌∙◌, ap, map, subst}
 use Rattle.std.specs.Map.{lookup}
 use Rattle.eob_joins.specs.Lookup.{shown_lookup}
-use Rattle.keyed_files.specs.Writing.{PutsRows, delimiter_of, quoted_first}
+use Rattle.keyed_requests.specs.FormBytes.{delimiter_of}
+use Rattle.keyed_files.specs.Writing.{PutsRows, quoted_first}
 use Rattle.keyed_files.proofs.WritingLemmas.{wrote-more}
 use Rattle.keyed_commands.specs.LookupAnswers.{found_under, key_eq, lookup_rows, shown_rows}
 use Rattle.keyed_commands.proofs.LookupLemmas.{rows_shown}

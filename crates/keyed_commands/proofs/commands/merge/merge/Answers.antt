@@ -1,9 +1,9 @@
 use Rattle.std.proofs.Common.{subst, sym}
 use Rattle.std.proofs.lemmas.Result.{IfOk-weaker}
-use Rattle.keyed_files.specs.Keys.{AreMergedColumnsBy}
+use Rattle.keyed_columns.specs.Keys.{AreMergedColumnsBy}
+use Rattle.keyed_columns.specs.Spelled.{IsSpelledAs}
+use Rattle.keyed_columns.specs.declared.columns.Columns.{Columns}
 use Rattle.keyed_files.specs.Opening.{form_of, text_of_stream}
-use Rattle.keyed_files.specs.Spelled.{IsSpelledAs}
-use Rattle.keyed_files.specs.declared.columns.Columns.{Columns}
 use Rattle.keyed_commands.specs.AppliedTexts.{watched_left}
 use Rattle.keyed_commands.specs.MergedTexts.{MergesTexts}
 use Rattle.keyed_commands.proofs.TextAnswerLemmas.{merge-streams, three-alike}

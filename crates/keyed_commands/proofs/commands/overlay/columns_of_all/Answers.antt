@@ -1,5 +1,5 @@
 use Rattle.std.proofs.Common.{map, subst}
-use Rattle.keyed_files.specs.Keys.{AreColumnsBy}
+use Rattle.keyed_columns.specs.Keys.{AreColumnsBy}
 use Rattle.keyed_commands.proofs.OverlayLemmas.{columns_spelled}
 use Rattle.keyed_commands.proofs.commands.overlay.columns_of_all.Goals as goal
 

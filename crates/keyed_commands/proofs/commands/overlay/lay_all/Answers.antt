@@ -1,7 +1,7 @@
 use Rattle.std.proofs.Common.{◌≡◌, ◌∷◌, ◌∙◌, [], ap, arith, rules, subst}
 use Rattle.std.proofs.lemmas.Grind.{common_steps}
-use Rattle.keyed_files.specs.declared.columns.Columns.{Columns}
-use Rattle.keyed_files.specs.declared.source.Content.TheVariants.{Rows}
+use Rattle.keyed_columns.specs.declared.columns.Columns.{Columns}
+use Rattle.keyed_columns.specs.declared.content.Content.TheVariants.{Rows}
 use Rattle.keyed_tables.specs.Arranged.{noted}
 use Rattle.keyed_commands.specs.AppliedTexts.{watched_left}
 use Rattle.keyed_commands.specs.FileOrder.{OfKeys, noted_with}

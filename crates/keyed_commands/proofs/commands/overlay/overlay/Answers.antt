@@ -1,7 +1,7 @@
 use Rattle.std.proofs.Common.{map, subst, sym}
 use Rattle.std.proofs.lemmas.Result.{IfOk-weaker}
-use Rattle.keyed_files.specs.Keys.{AreColumnsBy}
-use Rattle.keyed_files.specs.declared.columns.Columns.{Columns}
+use Rattle.keyed_columns.specs.Keys.{AreColumnsBy}
+use Rattle.keyed_columns.specs.declared.columns.Columns.{Columns}
 use Rattle.keyed_commands.specs.OverlayAnswers.{IsSpelledAsFirst}
 use Rattle.keyed_commands.proofs.OverlayLemmas.{columns_alike, overlay_streams}
 use Rattle.keyed_commands.proofs.commands.overlay.overlay.Goals as goal

@@ -1,6 +1,6 @@
 use Rattle.std.proofs.Common.{◌≡◌, subst}
 use Rattle.keyed_commands.specs.TablesRead.{ReadsTable}
-use Rattle.keyed_files.specs.declared.source.Content.TheVariants as content
+use Rattle.keyed_columns.specs.declared.content.Content.TheVariants as content
 use Rattle.keyed_tables.specs.Arranged.{noted}
 use Rattle.keyed_commands.specs.FileOrder.{OfKeys, noted_with}
 use Rattle.keyed_commands.proofs.job.Job+Columns.read_both.Goals as goal

@@ -1,7 +1,7 @@
 use Rattle.std.proofs.Common.{ap}
 use Rattle.std.proofs.lemmas.Result.{IfOk-weaker}
 use Rattle.keyed_commands.proofs.ReadLemmas.{table-gathered}
-use Rattle.keyed_files.specs.declared.source.Content.TheVariants as content
+use Rattle.keyed_columns.specs.declared.content.Content.TheVariants as content
 use Rattle.keyed_tables.specs.Arranged.{noted}
 use Rattle.keyed_commands.specs.FileOrder.{noted_with}
 use Rattle.keyed_commands.proofs.NotedLemmas.{keys-as, keys-noted, on-ok}

@@ -1,7 +1,7 @@
 use Rattle.std.proofs.Common.{◌++◌}
 use Rattle.std.specs.Prelude.{option_map}
+use Rattle.keyed_columns.specs.Placed.{placed}
 use Rattle.keyed_files.specs.FoundRows.{found_cells}
-use Rattle.keyed_files.specs.Rows.{placed}
 use Rattle.keyed_files.proofs.WritingLemmas.{then-cells, then-end}
 use Rattle.keyed_files.proofs.written.Written.put_found.Goals as goal
 

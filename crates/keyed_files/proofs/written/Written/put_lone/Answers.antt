@@ -1,4 +1,4 @@
-use Rattle.keyed_files.specs.Rows.{placed}
+use Rattle.keyed_columns.specs.Placed.{placed}
 use Rattle.keyed_files.proofs.WritingLemmas.{then-end}
 use Rattle.keyed_files.proofs.written.Written.put_lone.Goals as goal
 

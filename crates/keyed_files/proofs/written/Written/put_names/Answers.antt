@@ -1,6 +1,6 @@
 use Rattle.std.proofs.Common.{◌++◌}
 use Rattle.std.specs.Prelude.{option_map}
-use Rattle.keyed_files.specs.Rows.{first_cells}
+use Rattle.keyed_columns.specs.Placed.{first_cells}
 use Rattle.keyed_files.proofs.WritingLemmas.{then-cells, then-end}
 use Rattle.keyed_files.proofs.written.Written.put_names.Goals as goal
 

@@ -1,7 +1,7 @@
 use Rattle.std.proofs.Common.{◌++◌}
 use Rattle.std.specs.Prelude.{option_map}
+use Rattle.keyed_columns.specs.Placed.{first_cells}
 use Rattle.keyed_files.specs.JoinedRows.{left_of, right_of, side_row}
-use Rattle.keyed_files.specs.Rows.{first_cells}
 use Rattle.keyed_files.proofs.WritingLemmas.{then-cells, then-end}
 use Rattle.keyed_files.proofs.written.Written.put_pair.Goals as goal
 

@@ -1,6 +1,6 @@
 use Rattle.std.proofs.Common.{◌≡◌, drop}
+use Rattle.keyed_columns.specs.Placed.{placed}
 use Rattle.keyed_files.specs.declared.written.Written.{Written}
-use Rattle.keyed_files.specs.Rows.{placed}
 use Rattle.keyed_files.specs.Writing.{PutsCells}
 use Rattle.keyed_files.proofs.written.Written.put_placed.Given as goal
 

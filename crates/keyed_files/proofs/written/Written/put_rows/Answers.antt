@@ -1,7 +1,8 @@
 use Rattle.std.proofs.Common.{◌≡◌, ◌∙◌, ◌+◌, ◌++◌, ◌∷◌, [], List, ℕ, ap, drop, map, sym}
 use Rattle.std.specs.Prelude.{option_map}
 use Rattle.std.proofs.lemmas.List.{drop_all, drop_more}
-use Rattle.keyed_files.specs.Rows.{first_cells, placed, shown_sign}
+use Rattle.keyed_columns.specs.Placed.{first_cells, placed}
+use Rattle.keyed_files.specs.Rows.{shown_sign}
 use Rattle.keyed_files.specs.Writing.{PutsRows}
 use Rattle.keyed_files.proofs.WritingLemmas.{no-rows-left, row-then}
 use Rattle.keyed_files.proofs.written.Written.put_rows.Goals as goal

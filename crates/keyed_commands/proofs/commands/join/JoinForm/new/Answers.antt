@@ -1,5 +1,5 @@
 use Rattle.std.proofs.Common.{◌∙◌, [], ap}
-use Rattle.keyed_files.specs.Names.{repeats}
+use Rattle.keyed_columns.specs.Names.{repeats}
 use Rattle.keyed_commands.proofs.JoinLemmas.{none-twice}
 use Rattle.keyed_commands.proofs.commands.join.JoinForm.new.Goals as goal
 use Rattle.keyed_commands.proofs.commands.join.JoinForm.new.Goals.{in-Csv+in_ok-header-in-Csv, in-Csv-2}

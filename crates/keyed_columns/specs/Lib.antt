@@ -1,0 +1,14 @@
+pub mod CellsUnder
+pub mod ChangedColumns
+pub mod ColumnLaws
+pub mod ColumnNames
+pub mod Going
+pub mod Headers
+pub mod JoinedNames
+pub mod KeyText
+pub mod Keys
+pub mod Lost
+pub mod Names
+pub mod NewColumns
+pub mod Placed
+pub mod Spelled

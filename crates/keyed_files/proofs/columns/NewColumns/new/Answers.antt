@@ -1,7 +1,0 @@
-use Rattle.std.proofs.Common.{refl}
-use Rattle.keyed_files.specs.ColumnNames.{distinct}
-use Rattle.keyed_files.proofs.columns.NewColumns.new.Goals as goal
-
-pub returns : goal.returns
-unfolding distinct
-returns c = record { seen = c.new-3.ensures; columns = record { key = refl; rest = c.new.ensures; order = c.new-2.ensures.items } }

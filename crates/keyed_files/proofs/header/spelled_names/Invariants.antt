@@ -1,7 +1,0 @@
-use Rattle.std.proofs.Common.{◌≡◌, ◌-◌, take}
-use Rattle.csv.specs.Records.{fields_of}
-use Rattle.keyed_files.specs.Headers.{names_behind}
-use Rattle.keyed_files.proofs.header.spelled_names.Given as goal
-
-abbrev pub invariant-loop-place : goal.invariant-loop-place
-invariant-loop-place l = l.names ≡ take (l.place - l.before) (names_behind l.before (fields_of l.record))

@@ -1,5 +1,0 @@
-use Rattle.keyed_files.proofs.ColumnLemmas.{once-none}
-use Rattle.keyed_files.proofs.key_record.NewNames.new.Goals as goal
-
-pub returns-clause-once : goal.returns-clause-once
-returns-clause-once c = once-none _ c.new.ensures c.new-2.ensures

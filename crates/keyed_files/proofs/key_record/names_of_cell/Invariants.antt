@@ -1,6 +1,0 @@
-use Rattle.std.proofs.Common.{take}
-use Rattle.keyed_files.specs.KeyText.{HasNames}
-use Rattle.keyed_files.proofs.key_record.names_of_cell.Given as goal
-
-abbrev pub invariant-loop-byte : goal.invariant-loop-byte
-invariant-loop-byte l = HasNames (take l.byte-index l.cell) l.names

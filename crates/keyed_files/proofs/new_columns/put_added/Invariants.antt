@@ -1,8 +1,0 @@
-use Rattle.std.proofs.Common.{◌≡◌, ◌++◌, filter}
-use Rattle.keyed_files.specs.ChangedColumns.{comes_in}
-use Rattle.keyed_files.specs.Names.{names_in}
-use Rattle.keyed_files.proofs.new_columns.put_added.Given as goal
-
-abbrev pub invariant-loop-name : goal.invariant-loop-name
-invariant-loop-name l =
-    l.names ++ filter (comes_in (names_in l.before) (names_in l.there)) l.name-iterator ≡ l.fn.names ++ filter (comes_in (names_in l.before) (names_in l.there)) l.header

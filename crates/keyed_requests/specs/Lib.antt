@@ -1,0 +1,3 @@
+pub mod AnswerForm
+pub mod Delimiters
+pub mod FormBytes
