@@ -3,7 +3,7 @@ from collections import Counter
 
 from model.cells import as_json, named
 from model.reports import FORMS, counts_of
-from model.merges import is_same
+from model.sameness import hows_of, is_same
 from model.tables import Table
 
 
@@ -68,17 +68,18 @@ class Changes:
         is_turned = [it for it in old if it in new] != [it for it in new if it in old]
         return said + ["columns in another order"] * is_turned, bool(said)
 
-    def check_report(self, tolerance=None):
-        """The report of what changed, in each form, perhaps in part, and with numbers compared by value where there is a tolerance."""
+    def check_report(self, sameness=None):
+        """The report of what changed, in each form, perhaps in part, and with cells compared as they stand or not."""
         columns, key, rest = self.columns_of(self.base, self.ours)
-        same = lambda cell, other: is_same(cell, other, tolerance)
+        hows, compared = hows_of(self.rng, sameness, rest)
+        same = lambda at, cell, other: is_same(cell, other, hows[at])
         told = self.told(key, rest, same)
         said, has_lone = self.said_of_columns()
         old, new = self.base.columns, self.ours.columns
         lone = [[as_json(it) for it in a if it not in b] if a and b else [] for a, b in ((new, old), (old, new))]
         report = {"key": key, "rest": rest, "told": told, "said": said, "lone": lone, "is_same": same}
         report |= {"counts": counts_of(told, len(self.base.rows)), "status": int(has_lone or bool(told))}
-        words = ["diff", "base", "ours", *self.numbers(tolerance)]
+        words = ["diff", "base", "ours", *compared]
         self.expect_report(words, "table", report, has_colour=self.rng.random() < 0.3)
         for form in self.some_of(FORMS):
             self.expect_report(words, form, report)
@@ -100,7 +101,7 @@ class Changes:
         for it in self.in_order(key, {*old, *new}, self.base, self.ours):
             gone, come = self.lone(old.get(it, []), new.get(it, [])), self.lone(new.get(it, []), old.get(it, []))
             if len(gone) == len(come) == 1:
-                if not all(map(same, gone[0], come[0])):
+                if not all(map(same, range(len(rest)), gone[0], come[0])):
                     told.append(("changed", it, *gone, *come))
             else:
                 told += [("removed", it, row, row) for row in gone] + [("added", it, row, row) for row in come]
@@ -115,7 +116,3 @@ class Changes:
             if spare[row] < 0:
                 found.append(row)
         return found
-
-    @staticmethod
-    def numbers(tolerance):
-        return [] if tolerance is None else ["--numbers", *(["--tolerance", tolerance] if tolerance != "0" else [])]

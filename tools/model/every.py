@@ -7,6 +7,7 @@ from model.merges import Merges
 from model.options import Options
 from model.reports import Reports
 from model.rounds import Round
+from model.sameness import some_sameness
 
 
 class EveryCheck(Round, Reports, Changes, Merges, Joins, Options, Faults):
@@ -18,9 +19,9 @@ class EveryCheck(Round, Reports, Changes, Merges, Joins, Options, Faults):
         self.check_merge()
         self.check_merge(by_cell=True)
         if not self.repeats:
-            tolerance = self.rng.choice(["0", "0", "0.1", "1", "1e-3", "+.50", "10000"])
-            self.check_report(tolerance)
-            self.check_merge(self.rng.random() < 0.5, tolerance)
+            sameness = some_sameness(self.rng)
+            self.check_report(sameness)
+            self.check_merge(self.rng.random() < 0.5, sameness)
         self.check_join(self.rng.choice(KINDS))
         self.check_lookup()
         self.check_overlay()

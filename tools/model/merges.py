@@ -1,28 +1,23 @@
 """What `merge` is to say of three versions of a table."""
 from model.cells import named
 from model.reports import FORMS
-from model.tables import as_number, are_near
+from model.sameness import hows_of, is_same
 
 MARKS = ("<<<<<<< ours", "||||||| base", "=======", ">>>>>>> theirs")
 
 
-def is_same(cell, other, tolerance):
-    """Whether two cells are the same, by value where there is a tolerance and they are numbers."""
-    return cell == other or tolerance is not None and are_near(as_number(cell), as_number(other), tolerance)
-
-
-def are_same(rows, others, tolerance):
+def are_same(rows, others, hows):
     """Whether two versions of a key, of one row at most, are there and the same."""
-    return bool(rows and others) and all(is_same(*it, tolerance) for it in zip(rows[0], others[0]))
+    return bool(rows and others) and all(is_same(*it) for it in zip(rows[0], others[0], hows))
 
 
-def merged_cell(base, ours, theirs, tolerance):
-    """What one side made of a cell, or None where both did, and not alike. What is ours stays where both have the same value."""
+def merged_cell(base, ours, theirs, how):
+    """What one side made of a cell, or None where both did, and not alike. What is ours stays where both have the same."""
     if base == ours:
         return theirs
-    if is_same(ours, theirs, tolerance) or is_same(base, theirs, tolerance):
+    if is_same(ours, theirs, how) or is_same(base, theirs, how):
         return ours
-    return theirs if is_same(base, ours, tolerance) else None
+    return theirs if is_same(base, ours, how) else None
 
 
 def loses(rest, gone, rows):
@@ -39,33 +34,34 @@ def said_of_lost(rest, gone, lost):
 class Merges:
     """Checks of a round, of merges."""
 
-    def check_merge(self, by_cell=False, tolerance=None):
+    def check_merge(self, by_cell=False, sameness=None):
         """The merged table, or the rows in conflict in each form, or the table with these between marks, or as a side has them. Rows are
-        merged whole or by cell, and numbers compared by value where there is a tolerance."""
+        merged whole or by cell, and cells compared as they stand or not."""
         columns, key, _ = self.columns_of(self.base, self.ours, self.theirs)
         written = self.merged_columns(self.base.columns, self.ours.columns, self.theirs.columns)
         gone = [it for it in columns if it not in written]
         rest = [it for it in [*written, *gone] if it not in key]
         sides = self.ours, self.theirs
         versions = [self.arranged(key, rest, it.groups(key, rest), *sides) for it in (self.base, *sides)]
-        rows, stuck, lost = [], [], []
+        hows, compared = hows_of(self.rng, sameness, rest)
+        rows, unresolved, lost = [], [], []
         for it in self.in_merged_order(key, {*versions[0], *versions[1], *versions[2]}, *sides):
             three = [rows.get(it) for rows in versions]
-            is_merged, found = self.merged(three, by_cell, tolerance)
+            is_merged, found = self.merged(three, by_cell, hows)
             rows.append((it, is_merged, found))
             if not is_merged:
-                stuck += [(word, it, version) for word, version in zip(("base", "ours", "theirs"), found)]
+                unresolved += [(word, it, version) for word, version in zip(("base", "ours", "theirs"), found)]
             elif loses(rest, gone, found):
                 lost.append(("merged", it, found))
-        words = ["merge", "base", "ours", "theirs", *["--by-cell"] * by_cell, *self.numbers(tolerance)]
+        words = ["merge", "base", "ours", "theirs", *["--by-cell"] * by_cell, *compared]
         self.check_preferred(words, written, gone, key, rest, rows)
-        if stuck or lost:
+        if unresolved or lost:
             said = said_of_lost(rest, gone, lost)
             why = {"base": "conflict", "ours": "conflict", "theirs": "conflict", "merged": "lost"}
             for form in self.some_of(FORMS[:2] if by_cell and self.is_large else FORMS):
-                self.expect_stopped(words, form, said, key, rest, [*stuck, *lost], why)
-            if gone or not stuck:
-                return self.expect_stopped([*words, "--conflicts", "marks"], "table", said, key, rest, [*stuck, *lost], why)
+                self.expect_stopped(words, form, said, key, rest, [*unresolved, *lost], why)
+            if gone or not unresolved:
+                return self.expect_stopped([*words, "--conflicts", "marks"], "table", said, key, rest, [*unresolved, *lost], why)
             lines = self.marked_lines(written, key, rest, rows)
             return self.expect("merge with marks", self.ask(*words, "--conflicts", "marks"), 1, written, lines, "ours", MARKS)
         lines = [self.line(written, (key, it), (rest, row)) for it, _, found in rows for row in found or []]
@@ -97,7 +93,7 @@ class Merges:
         return lines
 
     @staticmethod
-    def merged(three, by_cell, tolerance):
+    def merged(three, by_cell, hows):
         """Whether a key is merged, and the rows that it has then, or those of each version."""
         base, ours, theirs = three
         keys = [it and sorted(it) for it in three]
@@ -107,12 +103,13 @@ class Merges:
         plain = [merged_cell(*it, None) for it in zip(base[0], ours[0], theirs[0])] if is_one_each else []
         if by_cell and is_one_each and None not in plain:
             return True, [tuple(plain)]
-        if tolerance is not None and (are_same(ours, theirs, tolerance) or are_same(base, theirs, tolerance)):
+        is_plain = hows == [None] * len(hows)
+        if not is_plain and (are_same(ours, theirs, hows) or are_same(base, theirs, hows)):
             return True, ours
-        if tolerance is not None and are_same(base, ours, tolerance):
+        if not is_plain and are_same(base, ours, hows):
             return True, theirs
         if by_cell and is_one_each:
-            cells = [merged_cell(*it, tolerance) for it in zip(base[0], ours[0], theirs[0])]
+            cells = [merged_cell(*it) for it in zip(base[0], ours[0], theirs[0], hows)]
             if None not in cells:
                 return True, [tuple(cells)]
             return False, [[tuple(own if it is None else it for it, own in zip(cells, row[0]))] for row in three]

@@ -91,10 +91,11 @@ class Options:
             # The first line of a file says how its lines end, also where it is passed over.
             ends = [self.rng.choice(["\n", "\r\n", "\r"]) for _ in range(skipped)]
             ends[0] = "\r\n" if line_ends(body)[:1] == ["\r\n"] else self.rng.choice(["\n", "\r"])
-            top = "".join(self.rng.choice(["a title", '"', 'a "quote', "a\0b", '""', self.delimiter]) + it for it in ends)
             note = self.rng.choice(["", '%% a "note\n', "%\r\n", "%\r"])
-            # A line feed after a return is one end with it.
-            body = body.lstrip("\r\n") if ends[-1] == "\r" or note else body
+            if body.startswith(("\r", "\n")):
+                # Blank lines before the header are written again: no note parts them, and no return before a line feed is one end with it.
+                note, ends[-1] = "", "\r\n" if ends[-1] == "\r\n" else "\n"
+            top = "".join(self.rng.choice(["a title", '"', 'a "quote', "a\0b", '""', self.delimiter]) + it for it in ends)
             mark = MARK * text.startswith(MARK)
             names[name] = f"{name} below"
             self.put(names[name], mark + top + note + body)

@@ -40,9 +40,10 @@ class Reports:
         places = self.places_shown(len(rest), rows, report["is_same"], is_all)
         wide = rows if len(places) == len(rest) else [(*it[:2], *([cells[at] for at in places] for cells in it[2:])) for it in rows]
         names = [shown(rest[at]) for at in places]
+        same_wide = lambda at, a, b: report["is_same"](places[at], a, b)
         more += self.left_out(len(rest) - len(places)) if rows and form in ("table", "html") else []
         if form == "table":
-            grid = [["", *map(shown, key), *names]] * bool(rows) + [self.line_of_both(*it, report["is_same"]) for it in wide]
+            grid = [["", *map(shown, key), *names]] * bool(rows) + [self.line_of_both(*it, same_wide) for it in wide]
             lines = self.in_blocks(grid, 1 + len(key), most, has_colour)
             want = "".join(f"{it}\n" for it in report["said"]) + lines + "".join(f"{it}\n" for it in [*more, counts])
             return self.same(" ".join(words), text, want)
@@ -55,7 +56,7 @@ class Reports:
             return self.same(" ".join(words), (page.items, page.lines, page.paragraphs), want)
         page, empty = self.page_of(text), [""] * len(key)
         want = [["", *map(shown, key), *["old", "new"] * bool(names)], ["", *empty, *names, *names]] * bool(rows)
-        want = want[:2] + [self.line_side_by_side(*it, report["is_same"]) for it in wide]
+        want = want[:2] + [self.line_side_by_side(*it, same_wide) for it in wide]
         self.same(" ".join(words), (page.paragraphs, page.lines), ([*report["said"], *more, counts], want))
 
     def some_layout(self, form, is_summary):
@@ -69,7 +70,7 @@ class Reports:
         """The places of the columns that are shown: all of them, unless each row changed; then those in which one did."""
         if is_all or any(word != "changed" for word, *_ in rows):
             return [*range(count)]
-        return [at for at in range(count) if any(not is_same(row[at], other[at]) for _, _, row, other in rows)]
+        return [at for at in range(count) if any(not is_same(at, row[at], other[at]) for _, _, row, other in rows)]
 
     @staticmethod
     def left_out(count):
@@ -95,12 +96,12 @@ class Reports:
 
     @staticmethod
     def line_of_both(word, under, row, other, is_same, joined=" -> ".join):
-        cells = [shown(b) if is_same(a, b) else joined((named(a), named(b))) for a, b in zip(row, other)]
+        cells = [shown(b) if is_same(at, a, b) else joined((named(a), named(b))) for at, (a, b) in enumerate(zip(row, other))]
         return [word, *map(shown, under), *cells]
 
     @staticmethod
     def line_side_by_side(word, under, row, other, is_same):
-        side = lambda tag, cells, others: [shown(a) if is_same(a, b) else (tag, named(a)) for a, b in zip(cells, others)]
+        side = lambda tag, cells, others: [shown(a) if is_same(at, a, b) else (tag, named(a)) for at, (a, b) in enumerate(zip(cells, others))]
         none = [""] * len(row)
         return [word, *map(shown, under), *(none if word == "added" else side("del", row, other)), *(none if word == "removed" else side("ins", other, row))]
 
@@ -119,7 +120,7 @@ class Reports:
         rows = [it[2:] for it in report["told"] if it[0] == "changed"]
         found = []
         for place, name in enumerate(report["rest"]):
-            changes = Counter((row[place], other[place]) for row, other in rows if not report["is_same"](row[place], other[place]))
+            changes = Counter((row[place], other[place]) for row, other in rows if not report["is_same"](place, row[place], other[place]))
             if changes:
                 found.append((name, sum(changes.values()), sorted(changes.items(), key=lambda it: (-it[1], it[0]))[:3]))
         return found
@@ -134,7 +135,7 @@ class Reports:
         objects = [[("columns", lone)]] if any(report["lone"]) else []
         for word, under, row, other in rows:
             sides = [("old", pairs(report["rest"], row))] * (word != "added") + [("new", pairs(report["rest"], other))] * (word != "removed")
-            names = [as_json(name) for name, a, b in zip(report["rest"], row, other) if not report["is_same"](a, b)]
+            names = [as_json(name) for at, (name, a, b) in enumerate(zip(report["rest"], row, other)) if not report["is_same"](at, a, b)]
             objects.append([("change", word), ("key", pairs(report["key"], under)), *[("changed", names)] * (word == "changed"), *sides])
         return objects
 

@@ -214,23 +214,40 @@ class Round:
 
     def rows_of(self, answer):
         """The rows that were printed as CSV."""
-        return list(csv.reader(io.StringIO(answer[1].decode("latin-1"), newline=""), delimiter=self.delimiter))
+        return self.rows_in(answer[1].decode("latin-1"))
+
+    def rows_in(self, text):
+        """The rows of a text, in which blank lines are none."""
+        return [it for it in csv.reader(io.StringIO(text, newline=""), delimiter=self.delimiter) if it]
 
     def expect(self, what, answer, status, columns, rows, like=None, marks=()):
         """The header, where there is one, and rows as CSV, written as a file is, or plainly. A row that is a text is a mark."""
         text = answer[1].decode("latin-1")
-        has_mark, end, has_quotes = style_of((self.folder / like).read_bytes().decode("latin-1"), self.delimiter) if like else (False, "\n", False)
+        source = (self.folder / like).read_bytes().decode("latin-1") if like else ""
+        has_mark, end, has_quotes = style_of(source, self.delimiter) if like else (False, "\n", False)
         body = text[len(MARK) :] if has_mark else text
-        found = list(csv.reader(io.StringIO(body, newline=""), delimiter=self.delimiter))
+        found = self.rows_in(body)
         want = [columns] * self.has_header + [it.split(self.delimiter) if isinstance(it, str) else it for it in rows]
-        bare = "".join(f"|{re.escape(it)}" for it in marks)
-        quoted = re.fullmatch(f"(?:(?:{QUOTED}(?:{re.escape(self.delimiter)}{QUOTED})*{bare}){end})*", body)
-        if text.startswith(MARK) != has_mark or {*line_ends(body)} - {end} or has_quotes and not quoted:
+        if text.startswith(MARK) != has_mark or not self.is_written_as(source, end, has_quotes, body, marks):
             self.stop(what, f"not written as {like}: {text[:200]!r}")
         # A mark is a line of its own, in no quotes, whatever the style is.
         bare_marks = [it for it in marks if len(re.findall(f"(?m)^{re.escape(it)}\r?$", body)) != rows.count(it)]
         if answer[0] != status or found != want or answer[2] or bare_marks:
             self.stop(what, f"status {answer[0]}, not {status}, {answer[2]}, {bare_marks}", *apart(found, want))
+
+    def is_written_as(self, source, end, has_quotes, body, marks):
+        """Whether each row of a text, each mark and each blank line is written in a style, or stands so in the text that it is of."""
+        between = re.escape(self.delimiter)
+        cell = f'(?:{QUOTED}|[^"{between}\r\n]*)'
+        # A return that ends a line alone is written as a line feed.
+        fed = re.sub("\r(?!\n)", "\n", source)
+        for row in re.finditer(f"({cell}(?:{between}{cell})*)(\r\n|\r|\n|$)", body):
+            line, stop = row.groups()
+            if not row[0] or row[0] in source or row[0] in fed or line in marks and stop == end:
+                continue
+            if stop != end or has_quotes and line and not re.fullmatch(f"{QUOTED}(?:{between}{QUOTED})*", line):
+                return False
+        return True
 
     def expect_objects(self, words, status, objects, options=None):
         """An object of JSON a line."""

@@ -95,7 +95,7 @@ pub fn shown_mut(pointer: &mut Either<Box<u32>, Box<u32>>) -> u32
     *pointer.deref_mut()
 }
 
-/// One of two vectors with the items of any finite source put behind it: it keeps its side.
+/// One of two vectors with the items of any finite source put after it: it keeps its side.
 pub fn extended<I: IntoIterator<Item = u8>>(
     pair: &mut Either<Vec<u8>, Vec<u8>>,
     source: I,

@@ -16,7 +16,8 @@ use Rattle.keyed_requests.specs.declared.request.Form.{Form}
 use Rattle.keyed_requests.specs.declared.request.Settings.{Settings}
 use Rattle.keyed_columns.specs.ChangedColumns.{AreChangedColumns, changed_names}
 use Rattle.keyed_columns.specs.ColumnNames.{column_names, is_beside, place_under_key}
-use Rattle.keyed_columns.specs.Going.{names_going}
+use Rattle.keyed_columns.specs.Going.{names_going, names_coming}
+use Rattle.keyed_files.specs.Gone.{CameBy, GoneBy, GoneOf, LeaveOf}
 use Rattle.keyed_columns.specs.Headers.{names_said}
 use Rattle.keyed_columns.specs.Keys.{AreChangedColumnsBy, first_name}
 use Rattle.keyed_columns.specs.Names.{repeats}
@@ -24,9 +25,10 @@ use Rattle.keyed_columns.specs.CellsUnder.{cell_under}
 use Rattle.keyed_columns.specs.declared.columns.Columns.{Columns}
 use Rattle.keyed_columns.specs.declared.columns.Place.{Place}
 use Rattle.keyed_columns.specs.declared.content.Content.TheVariants.{Changes}
-use Rattle.keyed_files.specs.Gone.{GoneBy, GoneOf}
 use Rattle.keyed_files.specs.Reading.{HeadedBy, behind_header, parts_of}
 use Rattle.keyed_files.specs.Rows.{shown_sign}
+use Rattle.keyed_requests.specs.declared.request.Direction.{Direction}
+use Rattle.keyed_requests.specs.declared.request.Direction.TheVariants.{Backward, Forward}
 use Rattle.keyed_files.specs.declared.sign.Sign.{Sign}
 use Rattle.keyed_files.specs.declared.sign.Sign.TheVariants.{Minus, Plus}
 use Rattle.keyed_files.specs.declared.sign.SignedRow.{SignedRow}
@@ -37,13 +39,15 @@ use Rattle.keyed_text.proofs.TextLemmas.{rows-once}
 use Rattle.keyed_commands.specs.Answers.{AllFit, AnswersTable, Stops, TableChanges, TableRows, key_cmp}
 use Rattle.keyed_commands.specs.AppliedTexts.{AppliesTexts}
 use Rattle.keyed_commands.specs.ChangesRead.{SaysChanges, come_by, come_rows, gone_by, gone_rows, signed_parts, signed_under}
+use Rattle.keyed_commands.specs.Turned.{changes_in}
 use Rattle.keyed_commands.specs.declared.answer.Answer.{Answer}
 use Rattle.keyed_commands.proofs.AnswerLemmas.{key_exact, key_total}
+use Rattle.keyed_commands.proofs.TurnedLemmas.{turned-rises}
 use Rattle.command_callers.specs.Answered.{IsInStyle}
 use Rattle.command_callers.proofs.KnownJoins.{joined, kept_joined, value_has}
 use Rattle.command_callers.proofs.KnownMerge.{loses_by, styled_loss, styled_table}
 use Rattle.command_callers.proofs.KnownRows.{alone_rise, gathered}
-use Rattle.command_callers.proofs.KnownTables.{IsKnown, IsPlain, KeyedRows, header_is, heads_plainly, names_are, plain_key, rows_by, table_is, table_text}
+use Rattle.command_callers.proofs.KnownTables.{IsKnown, IsPlain, KeyedRows, header_is, heads_plainly, names_are, plain_key, rows_by, table_is, IsTableFileOf}
 
 -- a row with the cell that its sign is, if there is one
 abbrev pub SignedRows : Type 0
@@ -86,6 +90,16 @@ pub known_changes : (form : Form) (text literal : List ℕ) (fields : List (List
 known_changes form text literal fields records e has are once =
     record { headed = has; rows = subst (λ t. AreRows (delimiter_of form) (comment_of form) t (fields ∷ records)) (sym e) are; once = once }
 
+-- the names of the columns that go in a direction, as a header of changes says them
+abbrev pub names_leaving : Direction → List (List ℕ) → List (List ℕ)
+names_leaving Forward fields = names_going 1 fields
+names_leaving Backward fields = names_coming 1 fields
+
+-- changes strictly increase in each direction
+changes_rise : (direction : Direction) (changes : TableChanges) → Rising key_cmp changes → Rising key_cmp (changes_in direction changes)
+changes_rise Forward changes rises = rises
+changes_rise Backward changes rises = turned-rises changes rises
+
 -- the rows of records of changes, by key, each with its first cell
 abbrev pub signed_by : (names key rest : List (List ℕ)) → List (List (List ℕ)) → SignedRows
 signed_by names key rest records =
@@ -109,6 +123,15 @@ module _ (form : Form) (text : List ℕ) (fields : List (List ℕ)) (records : L
       let headed : GoneBy form.has_header (fields ∷ records) gone = subst (λ rs. GoneBy form.has_header rs gone) same said.2 in
       let going : GoneBy true (fields ∷ records) gone = subst (λ b. GoneBy b (fields ∷ records) gone) known.headed headed in
       going
+
+  -- and where they are taken back, those that it says to come
+  leaving_are_said : (direction : Direction) (leaving : List (List ℕ)) → LeaveOf direction form text leaving → leaving ≡ names_leaving direction fields
+  leaving_are_said Forward leaving said = gone_are_said leaving said
+  leaving_are_said Backward leaving said =
+      let same : said.0 ≡ fields ∷ records = rows-once (delimiter_of form) (comment_of form) text said.0 (fields ∷ records) said.1 known.rows in
+      let headed : CameBy form.has_header (fields ∷ records) leaving = subst (λ rs. CameBy form.has_header rs leaving) same said.2 in
+      let coming : CameBy true (fields ∷ records) leaving = subst (λ b. CameBy b (fields ∷ records) leaving) known.headed headed in
+      coming
 
   signed_are : (known_names key rest : List (List ℕ)) → names ≡ known_names → columns.key ≡ key → columns.rest ≡ rest
       → map signed_parts says.0 ≡ signed_by known_names key rest records
@@ -164,15 +187,15 @@ changed_columns : (key : Option (Bor (List ℕ))) (old changes gone : List (List
 changed_columns key old changes gone columns e h =
     subst (λ k. AreChangedColumns k old changes gone columns) (plain_key key (old ∷ changes ∷ []) h.first h.others e h.names).1 h.are
 
-module _ {settings : Settings} {old_form changes_form : Form} {old_text changes_text : List ℕ} {answer : Answer}
-    (a : AppliesTexts settings old_form changes_form old_text changes_text answer) (plain : IsPlain settings)
+module _ {settings : Settings} {direction : Direction} {old_form changes_form : Form} {old_text changes_text : List ℕ} {answer : Answer}
+    (a : AppliesTexts settings direction old_form changes_form old_text changes_text answer) (plain : IsPlain settings)
     (old_fields changes_fields : List (List ℕ)) (old_records changes_records : List (List (List ℕ)))
     (old_known : IsKnown old_form old_text old_fields old_records) (changes_known : AreKnown changes_form changes_text changes_fields changes_records) where
   abbrev changed : List (List ℕ)
   changed = names_said Changes changes_fields
 
   abbrev going : List (List ℕ)
-  going = names_going 1 changes_fields
+  going = names_leaving direction changes_fields
 
   abbrev key : List (List ℕ)
   key = apply_key old_fields changed
@@ -192,8 +215,8 @@ module _ {settings : Settings} {old_form changes_form : Form} {old_text changes_
 
   gone_names : a.gone ≡ going
   gone_names =
-      gone_are_said changes_form changes_text changes_fields changes_records changes_known settings.groups a.changes_header a.changes_header a.columns a.changes a.changes_say
-      a.gone a.gone_said
+      leaving_are_said changes_form changes_text changes_fields changes_records changes_known settings.groups a.changes_header a.changes_header a.columns a.changes a.changes_say
+      direction a.gone a.gone_said
 
   pub columns_known : Changed old_fields changed going a.columns
   columns_known =
@@ -209,8 +232,11 @@ module _ {settings : Settings} {old_form changes_form : Form} {old_text changes_
     abbrev changes : TableChanges
     changes = merge key_cmp (map alone gone) (map alone come)
 
+    abbrev made : TableChanges
+    made = changes_in direction changes
+
     abbrev pub applied_rows : TableRows
-    applied_rows = kept applied (merge key_cmp (map alone old) changes)
+    applied_rows = kept applied (merge key_cmp (map alone old) made)
 
     old_table : a.old ≡ map alone old
     old_table =
@@ -222,31 +248,35 @@ module _ {settings : Settings} {old_form changes_form : Form} {old_text changes_
         changes_are changes_form changes_text changes_fields changes_records changes_known settings.groups a.changes_header a.changes_header a.columns a.changes a.changes_say
         changed key rest gone come new_names columns_known.key columns_known.rest gone_moved gone_up come_moved come_up
 
+    made_changes : changes_in direction a.changes ≡ made
+    made_changes = ap (changes_in direction) changes_table
+
     -- where changes do not fit, the answer is a report
-    pub apply_stops : (AllFit key_cmp (map alone old) (merge key_cmp (map alone gone) (map alone come)) → ⊥) → Stops answer
+    pub apply_stops : (AllFit key_cmp (map alone old) (changes_in direction (merge key_cmp (map alone gone) (map alone come))) → ⊥) → Stops answer
     apply_stops misfit =
-        a.applied.applied.misfits (λ all. misfit (subst (λ t. AllFit key_cmp t changes) old_table (subst (λ c. AllFit key_cmp a.old c) changes_table all)))
+        a.applied.applied.misfits (λ all. misfit (subst (λ t. AllFit key_cmp t made) old_table (subst (λ c. AllFit key_cmp a.old c) made_changes all)))
 
     -- each change is from the rows that the table has under its key
-    module _ (fit : AllByRecursion (λ z. left_place z.1 ≡ value_under key_cmp (map alone old) z.0) (merge key_cmp (map alone gone) (map alone come))) where
-      all_fit : AllFit key_cmp a.old a.changes
+    module _ (fit : AllByRecursion (λ z. left_place z.1 ≡ value_under key_cmp (map alone old) z.0)
+        (changes_in direction (merge key_cmp (map alone gone) (map alone come)))) where
+      all_fit : AllFit key_cmp a.old (changes_in direction a.changes)
       all_fit =
-          subst (λ c. AllFit key_cmp a.old c) (sym changes_table)
-          (subst (λ t. AllFit key_cmp t changes) (sym old_table)
-          (value_has key_cmp key_total key_exact (λ k change. left_place change ≡ value_under key_cmp (map alone old) k) changes fit))
+          subst (λ c. AllFit key_cmp a.old c) (sym made_changes)
+          (subst (λ t. AllFit key_cmp t made) (sym old_table)
+          (value_has key_cmp key_total key_exact (λ k change. left_place change ≡ value_under key_cmp (map alone old) k) made fit))
 
       told : AnswersTable (in_style a.applied.style settings.form) a.columns a.applied.keys a.applied.by_cells applied_rows answer
       told =
           let patched = a.applied.applied.fits all_fit in
-          let rises : Rising key_cmp changes =
-          (IsJoin-merge key_cmp key_total (map alone gone) (map alone come) (alone_rise key_cmp key_total gone gone_up) (alone_rise key_cmp key_total come come_up)).rises in
+          let rises : Rising key_cmp made =
+          changes_rise direction changes (IsJoin-merge key_cmp key_total (map alone gone) (map alone come) (alone_rise key_cmp key_total gone gone_up) (alone_rise key_cmp key_total come come_up)).rises in
           let are : patched.0 ≡ applied_rows =
-          kept_joined key_cmp key_total key_exact (map alone old) changes (alone_rise key_cmp key_total old old_up) rises applied patched.0
-          (subst (λ t. IsKeptOfJoin key_cmp applied t changes patched.0) old_table (subst (λ c. IsKeptOfJoin key_cmp applied a.old c patched.0) changes_table patched.1)) in
+          kept_joined key_cmp key_total key_exact (map alone old) made (alone_rise key_cmp key_total old old_up) rises applied patched.0
+          (subst (λ t. IsKeptOfJoin key_cmp applied t made patched.0) old_table (subst (λ c. IsKeptOfJoin key_cmp applied a.old c patched.0) made_changes patched.1)) in
           subst (λ r. AnswersTable (in_style a.applied.style settings.form) a.columns a.applied.keys a.applied.by_cells r answer) are patched.2
 
       -- where they fit, it is the table that they make
-      pub apply_whole : loses_by order rest applied_rows ≡ false → IsInStyle (λ s. table_text (in_style s settings.form) order key rest applied_rows) answer
+      pub apply_whole : loses_by order rest applied_rows ≡ false → IsInStyle (λ s. IsTableFileOf (in_style s settings.form) order key rest applied_rows) answer
       apply_whole none =
           styled_table a.applied.style settings.form a.columns a.applied.keys a.applied.by_cells applied_rows answer order key rest
           columns_known.order columns_known.key columns_known.rest (a.applied.order plain.order)

@@ -10,7 +10,7 @@ use Rattle.eob_both.specs.declared.either_or_both.EitherOrBoth.{EitherOrBoth}
 use Rattle.eob_both.specs.declared.either_or_both.EitherOrBoth.TheVariants.{Left, Both, Right}
 use Rattle.eob_both.specs.Places.{from_places, item_left, item_right, left_place, right_place}
 use Rattle.eob_lists.specs.Join.{Rising, value_under}
-use Rattle.eob_joins.specs.Settled.{Became, BecameBy, BecameOf, is_stuck, stuck_row}
+use Rattle.eob_joins.specs.Settled.{Became, BecameBy, BecameOf, is_unresolved, unresolved_row}
 use Rattle.eob_joins.specs.Tables.{kept}
 use Rattle.eob_joins.specs.Versions.{clashes, is_conflict, merged, merged_place, verdict}
 use Rattle.eob_joins.proofs.SettledLemmas.{no_items}
@@ -45,15 +45,15 @@ module _ {V : Type 0} (eq : V → V → Bool) (gives : Option V → Option V →
   became_is f (Some b) (Some o) None m h g = became_once (Some b) (Some o) None m (f (Both b (Left o))) g h
   became_is f (Some b) (Some o) (Some t) m h g = became_once (Some b) (Some o) (Some t) m (f (Both b (Both o t))) g h
 
-  not_stuck : (can : Option V → Option V → Option V → Bool) (b p q : Option V) → IfSome (from_places b (from_places p q)) (λ v. stuck_row eq can v ≡ false) → is_stuck eq can b p q ≡ false
-  not_stuck can None None None h = refl
-  not_stuck can None None (Some t) h = h
-  not_stuck can None (Some o) None h = h
-  not_stuck can None (Some o) (Some t) h = h
-  not_stuck can (Some b) None None h = h
-  not_stuck can (Some b) None (Some t) h = h
-  not_stuck can (Some b) (Some o) None h = h
-  not_stuck can (Some b) (Some o) (Some t) h = h
+  not_unresolved : (can : Option V → Option V → Option V → Bool) (b p q : Option V) → IfSome (from_places b (from_places p q)) (λ v. unresolved_row eq can v ≡ false) → is_unresolved eq can b p q ≡ false
+  not_unresolved can None None None h = refl
+  not_unresolved can None None (Some t) h = h
+  not_unresolved can None (Some o) None h = h
+  not_unresolved can None (Some o) (Some t) h = h
+  not_unresolved can (Some b) None None h = h
+  not_unresolved can (Some b) None (Some t) h = h
+  not_unresolved can (Some b) (Some o) None h = h
+  not_unresolved can (Some b) (Some o) (Some t) h = h
 
   module _ {K : Type 0} (cmp : K → K → Ordering) (o : IsTotalOrder cmp) (exact : (j k : K) → cmp j k ≡ Equal → j ≡ k)
       (b p q : List (K × V)) (first : Rising cmp b) (second : Rising cmp p) (third : Rising cmp q) where
@@ -75,9 +75,9 @@ module _ {V : Type 0} (eq : V → V → Bool) (gives : Option V → Option V →
         })
         (kept_law cmp o (EitherOrBoth V (EitherOrBoth V V)) V f (value_under cmp (three cmp b p q)) (three cmp b p q) (record { rises = all.rises; values = λ k. refl }))
 
-    pub none_stuck : (can : Option V → Option V → Option V → Bool) → AllByRecursion (λ z. stuck_row eq can z.1 ≡ false) (three cmp b p q)
-        → (k : K) → is_stuck eq can (value_under cmp b k) (value_under cmp p k) (value_under cmp q k) ≡ false
-    none_stuck can h k = not_stuck can (value_under cmp b k) (value_under cmp p k) (value_under cmp q k) (at_row (λ v. stuck_row eq can v ≡ false) h k)
+    pub none_unresolved : (can : Option V → Option V → Option V → Bool) → AllByRecursion (λ z. unresolved_row eq can z.1 ≡ false) (three cmp b p q)
+        → (k : K) → is_unresolved eq can (value_under cmp b k) (value_under cmp p k) (value_under cmp q k) ≡ false
+    none_unresolved can h k = not_unresolved can (value_under cmp b k) (value_under cmp p k) (value_under cmp q k) (at_row (λ v. unresolved_row eq can v ≡ false) h k)
 
 -- the merged row of three is one
 some_same : {X : Type 0} (x y : X) → Some x ≡ Some y → x ≡ y

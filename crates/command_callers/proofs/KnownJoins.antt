@@ -1,4 +1,4 @@
--- Joins of two lists whose keys rise, and what is kept of them: they are what the loop of a join makes.
+-- Joins of two lists whose keys strictly increase, and what is kept of them: they are what the loop of a join makes.
 use Rattle.std.proofs.Common.{◌≡◌, ◌∙◌, Bool, false, List, [], ◌∷◌, Option, Some, None, option_map, ap, refl}
 use Rattle.std.specs.Prelude.{IfSome}
 use Rattle.std.specs.Cmp.{IsTotalOrder}

@@ -17,13 +17,14 @@ use Rattle.keyed_columns.specs.Headers.{names_said}
 use Rattle.keyed_columns.specs.Names.{repeats}
 use Rattle.keyed_columns.specs.declared.columns.Columns.{Columns}
 use Rattle.keyed_columns.specs.declared.columns.Place.{Place}
+use Rattle.keyed_requests.specs.declared.request.Direction.TheVariants.{Forward}
 use Rattle.keyed_columns.specs.declared.content.Content.TheVariants.{Changes, Rows}
 use Rattle.keyed_files.specs.Reading.{HeadedBy, behind_header}
 use Rattle.keyed_files.specs.Rows.{change_name}
 use Rattle.keyed_tables.specs.Gathered.{alone}
 use Rattle.keyed_text.specs.Texts.{AreRows, BeginsComments, PartsCells, ReadsAs}
 use Rattle.keyed_text.proofs.TextLemmas.{rows-once}
-use Rattle.keyed_commands.specs.Answers.{IsTableText, TableChanges, TableRows, key_cmp, status_of}
+use Rattle.keyed_commands.specs.Answers.{IsTableFile, TableChanges, TableRows, key_cmp, status_of}
 use Rattle.keyed_commands.specs.AppliedTexts.{AppliesTexts}
 use Rattle.keyed_commands.specs.ChangeRows.{changes_rows}
 use Rattle.keyed_commands.specs.ChangesRead.{PairsRows, SaysChanges, come_rows, gone_rows, signed_under}
@@ -40,7 +41,7 @@ use Rattle.command_callers.specs.Answered.{IsInStyle, SaysOnlyChanges}
 use Rattle.command_callers.proofs.KnownApply as apply
 use Rattle.command_callers.proofs.KnownDiff as diff
 use Rattle.command_callers.proofs.KnownMerge as merge
-use Rattle.command_callers.proofs.KnownTables.{IsKnown, IsPlain, KeyedRows, came_out, header_is, known_text, names_are, rows_by, table_is, table_text, table_text_is}
+use Rattle.command_callers.proofs.KnownTables.{IsKnown, IsPlain, KeyedRows, came_out, header_is, known_text, names_are, rows_by, table_is, IsTableFileOf, table_file_is}
 
 -- what follows of a value that is given, where one is
 pub and_so : {T E : Type 0} {P Q : T → Type 0} (result : Result T E) → IfOk result P → ((value : T) → P value → Q value) → IfOk result Q
@@ -129,7 +130,7 @@ same_status {settings} {form} {text} d law plain fields records known alike =
 
 -- what `apply` makes of a table and of what `diff` wrote between it and another one is the file of the other one
 module _ {settings : Settings} {old_form new_form : Form} {old_text new_text : List ℕ} {difference answer : Answer}
-    (d : DiffsTexts settings old_form new_form old_text new_text difference) (a : AppliesTexts settings old_form settings.form old_text difference.bytes.items answer)
+    (d : DiffsTexts settings old_form new_form old_text new_text difference) (a : AppliesTexts settings Forward old_form settings.form old_text difference.bytes.items answer)
     (law : DiffedTextLaw) (plain : IsPlain settings) (has : writes_heading settings.form ≡ true) (old_has : old_form.has_header ≡ true) (new_has : new_form.has_header ≡ true)
     (parts : PartsCells (delimiter_of settings.form)) (begins : BeginsComments (delimiter_of settings.form) (comment_of settings.form))
     (old_once : NamesOnce old_form old_text) (new_once : NamesOnce new_form new_text)
@@ -150,7 +151,7 @@ module _ {settings : Settings} {old_form new_form : Form} {old_text new_text : L
       law settings old_form new_form old_text new_text difference answer has old_has new_has parts begins plain.order old_once new_once plain.key plain.renames d a
 
   module _ (new : KeyedRows) (new_up : Up key_cmp (λ k. ⊤) new) (new_moved : IsPermutation (rows_by new_fields key rest new_records) new) where
-    makes_other : IsInStyle (λ s. table_text (in_style s settings.form) order key rest (map alone new)) answer
+    makes_other : IsInStyle (λ s. IsTableFileOf (in_style s settings.form) order key rest (map alone new)) answer
     makes_other =
         let columns = apply.columns_known a plain old_fields changes_fields old_records changes_records old_known changes_known in
         let header = header_is new_form new_text new_fields new_records new_known settings.groups made.header made.header a.columns made.table made.says in
@@ -160,16 +161,16 @@ module _ {settings : Settings} {old_form new_form : Form} {old_text new_text : L
         let written = in_style a.applied.style settings.form in
         record {
           style = a.applied.style;
-          bytes = table_text_is written a.columns None true (map alone new) answer.bytes.items order key rest columns.order columns.key columns.rest (refl, refl)
+          bytes = table_file_is written a.columns None true (map alone new) answer.bytes.items order key rest columns.order columns.key columns.rest (refl, refl)
               (λ writes. made.spells ∙ sym made.names)
-              (subst (λ t. IsTableText written a.columns None true t answer.bytes.items) table made.answers.2);
+              (subst (λ t. IsTableFile written a.columns None true t answer.bytes.items) table made.answers.2);
           status = made.answers.0;
           outcome = made.answers.1;
         }
 
 -- the same where both commands have their settings and texts from calls of their own, which are the same
 module _ {first settings : Settings} {first_form old_form new_form changes_form : Form} {first_text old_text new_text changes_text old_literal new_literal : List ℕ} {difference answer : Answer}
-    (d : DiffsTexts first first_form new_form first_text new_text difference) (a : AppliesTexts settings old_form changes_form old_text changes_text answer)
+    (d : DiffsTexts first first_form new_form first_text new_text difference) (a : AppliesTexts settings Forward old_form changes_form old_text changes_text answer)
     (alike : first ≡ settings) (form_alike : first_form ≡ old_form) (text_alike : first_text ≡ old_text) (changes_alike : changes_form ≡ settings.form)
     (same : changes_text ≡ difference.bytes.items) (law : DiffedTextLaw) (plain : IsPlain settings) (has : writes_heading settings.form ≡ true)
     (old_has : old_form.has_header ≡ true) (new_has : new_form.has_header ≡ true)
@@ -180,14 +181,14 @@ module _ {first settings : Settings} {first_form old_form new_form changes_form 
     (changes_known : apply.AreKnown settings.form difference.bytes.items changes_fields changes_records) (new : KeyedRows) (new_up : Up key_cmp (λ k. ⊤) new)
     (new_moved : IsPermutation (rows_by new_fields (apply.apply_key old_fields (names_said Changes changes_fields))
     (apply.apply_rest old_fields (names_said Changes changes_fields) (names_going 1 changes_fields)) new_records) new) where
-  pub made_other : IsInStyle (λ s. table_text (in_style s settings.form) (apply.apply_order old_fields (names_said Changes changes_fields) (names_going 1 changes_fields))
+  pub made_other : IsInStyle (λ s. IsTableFileOf (in_style s settings.form) (apply.apply_order old_fields (names_said Changes changes_fields) (names_going 1 changes_fields))
       (apply.apply_key old_fields (names_said Changes changes_fields)) (apply.apply_rest old_fields (names_said Changes changes_fields) (names_going 1 changes_fields)) (map alone new)) answer
   made_other =
       let differs : DiffsTexts settings old_form new_form old_text new_text difference =
       subst (λ s. DiffsTexts s old_form new_form old_text new_text difference) alike
       (subst₂ (λ f t. DiffsTexts first f new_form t new_text difference) form_alike text_alike d) in
-      let applies : AppliesTexts settings old_form settings.form old_text difference.bytes.items answer =
-      subst₂ (λ f t. AppliesTexts settings old_form f old_text t answer) changes_alike same a in
+      let applies : AppliesTexts settings Forward old_form settings.form old_text difference.bytes.items answer =
+      subst₂ (λ f t. AppliesTexts settings Forward old_form f old_text t answer) changes_alike same a in
       makes_other differs applies law plain has old_has new_has parts begins
       (names_once old_form old_text old_literal old_fields old_records old_is old_rows old_once) (names_once new_form new_text new_literal new_fields new_records new_is new_rows new_once)
       old_fields new_fields changes_fields old_records new_records changes_records (known_text old_form old_text old_literal old_fields old_records old_is old_has old_rows old_once)
@@ -214,7 +215,7 @@ module _ {settings : Settings} {base_form ours_form theirs_form : Form} {base_te
 
   pub has_both : (wanted : TableRows) → Rising key_cmp wanted
       → ((rows : TableRows) → KeepsOneSide (map alone base) (map alone ours) (map alone theirs) rows → (k : List (List ℕ)) → value_under key_cmp rows k ≡ value_under key_cmp wanted k)
-      → answer.bytes.items ≡ table_text (in_style m.merged.style settings.form) merged_order merged_key merged_rest wanted
+      → IsTableFileOf (in_style m.merged.style settings.form) merged_order merged_key merged_rest wanted answer.bytes.items
   has_both wanted rises same =
       let merged = law settings base_form ours_form theirs_form base_text ours_text theirs_text answer m made in
       let keeps : KeepsOneSide (map alone base) (map alone ours) (map alone theirs) merged.0 =
@@ -225,8 +226,8 @@ module _ {settings : Settings} {base_form ours_form theirs_form : Form} {base_te
       let rows : merged.0 ≡ wanted =
       same_table key_cmp key_total (List (List (List ℕ))) key_exact (λ k. value_under key_cmp wanted k) merged.0 wanted
       (record { rises = keeps.rises; values = same merged.0 keeps }) (record { rises = rises; values = λ k. refl }) in
-      table_text_is (in_style m.merged.style settings.form) m.columns m.merged.keys m.merged.by_cells wanted answer.bytes.items merged_order merged_key merged_rest
+      table_file_is (in_style m.merged.style settings.form) m.columns m.merged.keys m.merged.by_cells wanted answer.bytes.items merged_order merged_key merged_rest
       columns.order columns.key columns.rest (m.merged.order plain.order)
       (merge.heads m plain base_fields ours_fields theirs_fields base_records ours_records theirs_records base_known ours_known theirs_known
       base ours theirs base_up ours_up theirs_up base_moved ours_moved theirs_moved)
-      (subst (λ r. IsTableText (in_style m.merged.style settings.form) m.columns m.merged.keys m.merged.by_cells r answer.bytes.items) rows merged.2)
+      (subst (λ r. IsTableFile (in_style m.merged.style settings.form) m.columns m.merged.keys m.merged.by_cells r answer.bytes.items) rows merged.2)

@@ -31,7 +31,7 @@ use Rattle.keyed_commands.specs.declared.answer.Answer.{Answer}
 use Rattle.keyed_commands.proofs.AnswerLemmas.{key_exact, key_total}
 use Rattle.command_callers.specs.Answered.{IsInStyle}
 use Rattle.command_callers.proofs.KnownRows.{alone_rise}
-use Rattle.command_callers.proofs.KnownTables.{IsKnown, IsPlain, KeyedRows, columns_are, header_is, heads_plainly, plain_names, rows_by, table_is, table_text, table_text_is}
+use Rattle.command_callers.proofs.KnownTables.{IsKnown, IsPlain, KeyedRows, columns_are, header_is, heads_plainly, plain_names, rows_by, table_is, IsTableFileOf, table_file_is}
 
 -- what stands under a key of two tables, one over the other
 abbrev pub over : Layer → EitherOrBoth (List (List (List ℕ))) (List (List (List ℕ))) → Option (List (List (List ℕ)))
@@ -173,18 +173,18 @@ module _ {settings : Settings} {layer : Layer} {below_form above_form : Form} {b
       (subst (λ t. AreLaidOver layer [] (o.below.rows ∷ t ∷ []) o.overlaid.rows) above_table o.overlaid.laid))
 
   -- the answer is the table of the rows of both, one over the other
-  pub overlay_whole : IsInStyle (λ s. table_text (in_style s settings.form) (overlay_order below_fields above_fields) key rest (laid_table layer (map alone below) (map alone above))) answer
+  pub overlay_whole : IsInStyle (λ s. IsTableFileOf (in_style s settings.form) (overlay_order below_fields above_fields) key rest (laid_table layer (map alone below) (map alone above))) answer
   overlay_whole =
       let told = o.overlaid.answers in
       let form = in_style told.style settings.form in
       record {
         style = told.style;
         bytes =
-            table_text_is form o.columns o.overlaid.keys o.overlaid.by_cells o.overlaid.rows answer.bytes.items
+            subst (λ rows. IsTableFileOf form (overlay_order below_fields above_fields) key rest rows answer.bytes.items) rows_known
+            (table_file_is form o.columns o.overlaid.keys o.overlaid.by_cells o.overlaid.rows answer.bytes.items
             (overlay_order below_fields above_fields) key rest columns_known.order columns_known.key columns_known.rest (o.overlaid.order plain.order)
             (heads_plainly below_form settings.form told.style below_text below_fields below_records below_known settings.groups o.below.header o.below.names o.below.spelled o.columns o.below.rows
-            o.headed o.below_says o.below_spells o.spells) told.text
-            ∙ ap (table_text form (overlay_order below_fields above_fields) key rest) rows_known;
+            o.headed o.below_says o.below_spells o.spells) told.text);
         status = told.status;
         outcome = told.outcome;
       }

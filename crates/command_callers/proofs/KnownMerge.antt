@@ -4,7 +4,7 @@ use Rattle.std.specs.Prelude.{◌&&◌, MatchBool, ⊤, ltb}
 use Rattle.std.specs.List.{AllByRecursion, list_any}
 use Rattle.eob_lists.specs.Join.{Rising, value_under}
 use Rattle.eob_lists.proofs.MergeLemmas.{Up}
-use Rattle.eob_joins.specs.Settled.{Became, BecameOf, stuck_row}
+use Rattle.eob_joins.specs.Settled.{Became, BecameOf, unresolved_row}
 use Rattle.eob_joins.specs.Tables.{Tabulates, kept}
 use Rattle.eob_joins.specs.Versions.{clashes, merged, merged_place}
 use Rattle.keyed_text.specs.declared.style.Style.{Style}
@@ -21,17 +21,17 @@ use Rattle.keyed_columns.specs.declared.columns.Columns.{Columns}
 use Rattle.keyed_columns.specs.declared.columns.Place.{Place}
 use Rattle.keyed_tables.specs.Gathered.{alone}
 use Rattle.keyed_tables.specs.RowsByCell.{GivesRow, can_by_row}
-use Rattle.keyed_commands.specs.Answers.{AnswersTable, HasConflict, HasNoConflict, HasNoneStuck, HasStuck, IsTableText, Stops, TableRows, clashes_at, key_cmp, rows_eq, sticks_at}
+use Rattle.keyed_commands.specs.Answers.{AnswersTable, HasConflict, HasNoConflict, HasNoneUnresolved, HasUnresolved, IsTableFile, Stops, TableRows, clashes_at, key_cmp, rows_eq, unresolved_at}
 use Rattle.keyed_commands.specs.Lost.{loses}
 use Rattle.keyed_commands.specs.MergedTexts.{AnswersBy, AnswersByCell, AnswersByRow, MergesTexts}
 use Rattle.keyed_commands.specs.declared.answer.Answer.{Answer}
 use Rattle.keyed_commands.specs.declared.answer.Outcome.TheVariants.{Made}
 use Rattle.keyed_commands.proofs.AnswerLemmas.{key_exact, key_total}
 use Rattle.command_callers.specs.Answered.{IsInStyle}
-use Rattle.command_callers.proofs.KnownCells.{gives_once, merged_by_cell, none_stuck, settled_rows}
+use Rattle.command_callers.proofs.KnownCells.{gives_once, merged_by_cell, none_unresolved, settled_rows}
 use Rattle.command_callers.proofs.KnownJoins.{merged_rows, no_conflict, three}
 use Rattle.command_callers.proofs.KnownRows.{alone_rise}
-use Rattle.command_callers.proofs.KnownTables.{HeadsPlainly, IsKnown, IsPlain, KeyedRows, header_is, heads_plainly, names_are, plain_key, rows_by, table_is, table_text, table_text_is}
+use Rattle.command_callers.proofs.KnownTables.{HeadsPlainly, IsKnown, IsPlain, KeyedRows, header_is, heads_plainly, names_are, plain_key, rows_by, table_is, IsTableFileOf, table_file_is}
 
 -- whether rows lose cells, by the columns that are written and the names beside the key
 abbrev pub loses_by : List Place → (rest : List (List ℕ)) → TableRows → Bool
@@ -41,14 +41,14 @@ loses_by order rest rows = ltb (length (filter is_rest order)) (length rest) && 
 pub styled_table : (style : Style) (form : Form) (columns : Columns) (keys : Option (List (List (List ℕ)))) (by_cells : Bool) (rows : TableRows) (answer : Answer) (order : List Place) (key rest : List (List ℕ))
     → columns.order.items ≡ order → columns.key ≡ key → columns.rest ≡ rest → (keys ≡ None) × (by_cells ≡ true) → HeadsPlainly (in_style style form) columns
     → loses_by order rest rows ≡ false
-    → AnswersTable (in_style style form) columns keys by_cells rows answer → IsInStyle (λ s. table_text (in_style s form) order key rest rows) answer
+    → AnswersTable (in_style style form) columns keys by_cells rows answer → IsInStyle (λ s. IsTableFileOf (in_style s form) order key rest rows) answer
 styled_table style form columns keys by_cells rows answer order key rest eo ek er plainly heads none h =
     let keeps : loses columns rows ≡ false = ap (λ o. loses_by o columns.rest rows) eo ∙ ap (λ r. loses_by order r rows) er ∙ none in
-    let told : (answer.status ≡ 0) × (answer.outcome ≡ Made) × IsTableText (in_style style form) columns keys by_cells rows answer.bytes.items =
-    subst (λ b. MatchBool b (Stops answer) ((answer.status ≡ 0) × (answer.outcome ≡ Made) × IsTableText (in_style style form) columns keys by_cells rows answer.bytes.items)) keeps h in
+    let told : (answer.status ≡ 0) × (answer.outcome ≡ Made) × IsTableFile (in_style style form) columns keys by_cells rows answer.bytes.items =
+    subst (λ b. MatchBool b (Stops answer) ((answer.status ≡ 0) × (answer.outcome ≡ Made) × IsTableFile (in_style style form) columns keys by_cells rows answer.bytes.items)) keeps h in
     record {
       style = style;
-      bytes = table_text_is (in_style style form) columns keys by_cells rows answer.bytes.items order key rest eo ek er plainly heads told.2;
+      bytes = table_file_is (in_style style form) columns keys by_cells rows answer.bytes.items order key rest eo ek er plainly heads told.2;
       status = told.0;
       outcome = told.1;
     }
@@ -58,7 +58,7 @@ pub styled_loss : (form : Form) (columns : Columns) (keys : Option (List (List (
     → columns.order.items ≡ order → columns.rest ≡ rest → loses_by order rest rows ≡ true → AnswersTable form columns keys by_cells rows answer → Stops answer
 styled_loss form columns keys by_cells rows answer order rest eo er some h =
     let lost : loses columns rows ≡ true = ap (λ o. loses_by o columns.rest rows) eo ∙ ap (λ r. loses_by order r rows) er ∙ some in
-    subst (λ b. MatchBool b (Stops answer) ((answer.status ≡ 0) × (answer.outcome ≡ Made) × IsTableText form columns keys by_cells rows answer.bytes.items)) lost h
+    subst (λ b. MatchBool b (Stops answer) ((answer.status ≡ 0) × (answer.outcome ≡ Made) × IsTableFile form columns keys by_cells rows answer.bytes.items)) lost h
 
 -- the names of the columns of three versions
 abbrev pub merge_key : (base ours theirs : List (List ℕ)) → List (List ℕ)
@@ -169,7 +169,7 @@ module _ {settings : Settings} {by : Unit} {base_form ours_form theirs_form : Fo
 
   -- where no row of the three is in conflict, the answer is the table of the merged rows
   pub merge_whole : by ≡ unit.Row → AllByRecursion (λ z. clashes rows_eq z.1 ≡ false) (three key_cmp (map alone base) (map alone ours) (map alone theirs))
-      → loses_by order rest merged_three ≡ false → IsInStyle (λ s. table_text (in_style s settings.form) order key rest merged_three) answer
+      → loses_by order rest merged_three ≡ false → IsInStyle (λ s. IsTableFileOf (in_style s settings.form) order key rest merged_three) answer
   merge_whole is settled none =
       let free : HasNoConflict m.base m.ours m.theirs =
       from_tables HasNoConflict (no_conflict key_cmp key_total key_exact rows_eq (map alone base) (map alone ours) (map alone theirs) base_rises ours_rise theirs_rise settled) in
@@ -193,12 +193,12 @@ module _ {settings : Settings} {by : Unit} {base_form ours_form theirs_form : Fo
   merged_cells_of_three = kept merged_by_cell (three key_cmp (map alone base) (map alone ours) (map alone theirs))
 
   pub merge_cells : by ≡ unit.Cell
-      → AllByRecursion (λ z. stuck_row rows_eq can_by_row z.1 ≡ false) (three key_cmp (map alone base) (map alone ours) (map alone theirs))
+      → AllByRecursion (λ z. unresolved_row rows_eq can_by_row z.1 ≡ false) (three key_cmp (map alone base) (map alone ours) (map alone theirs))
       → AllByRecursion (λ z. BecameOf rows_eq GivesRow z.1 (merged_by_cell z.1)) (three key_cmp (map alone base) (map alone ours) (map alone theirs))
-      → loses_by order rest merged_cells_of_three ≡ false → IsInStyle (λ s. table_text (in_style s settings.form) order key rest merged_cells_of_three) answer
+      → loses_by order rest merged_cells_of_three ≡ false → IsInStyle (λ s. IsTableFileOf (in_style s settings.form) order key rest merged_cells_of_three) answer
   merge_cells is settled became none =
-      let free : HasNoneStuck m.base m.ours m.theirs =
-      from_tables HasNoneStuck (none_stuck rows_eq GivesRow gives_once key_cmp key_total key_exact (map alone base) (map alone ours) (map alone theirs)
+      let free : HasNoneUnresolved m.base m.ours m.theirs =
+      from_tables HasNoneUnresolved (none_unresolved rows_eq GivesRow gives_once key_cmp key_total key_exact (map alone base) (map alone ours) (map alone theirs)
       base_rises ours_rise theirs_rise can_by_row settled) in
       let told = (by_cell is).whole free in
       let are : told.0 ≡ merged_cells_of_three =
@@ -209,5 +209,5 @@ module _ {settings : Settings} {by : Unit} {base_form ours_form theirs_form : Fo
       columns_known.order columns_known.key columns_known.rest (m.merged.order plain.order) heads none
       (subst (λ r. AnswersTable made_in m.columns m.merged.keys m.merged.by_cells r answer) are told.3)
 
-  pub merge_sticks : by ≡ unit.Cell → (k : List (List ℕ)) → sticks_at (map alone base) (map alone ours) (map alone theirs) k ≡ true → Stops answer
-  merge_sticks is k stuck = (by_cell is).conflict (from_tables HasStuck (k, stuck))
+  pub merge_unresolved : by ≡ unit.Cell → (k : List (List ℕ)) → unresolved_at (map alone base) (map alone ours) (map alone theirs) k ≡ true → Stops answer
+  merge_unresolved is k unresolved = (by_cell is).conflict (from_tables HasUnresolved (k, unresolved))

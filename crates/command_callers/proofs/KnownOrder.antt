@@ -26,7 +26,7 @@ use Rattle.keyed_files.specs.Reading.{behind_header}
 use Rattle.keyed_files.specs.declared.opened.Stream.{Stream}
 use Rattle.keyed_tables.specs.Gathered.{alone}
 use Rattle.keyed_text.proofs.TextLemmas.{rows-once}
-use Rattle.keyed_commands.specs.Answers.{IsTableText, TableRows, key_cmp}
+use Rattle.keyed_commands.specs.Answers.{IsTableFile, TableRows, key_cmp}
 use Rattle.keyed_commands.specs.ComeOut.{AlikeRows, HasGroups}
 use Rattle.keyed_commands.specs.FileOrder.{Keys, KeysOf, noted_keys}
 use Rattle.keyed_commands.specs.OverlayAnswers.{AreKnown, AreLaidOver, AreNamed, OverlaidIn, OverlaysStreams, Said, SaysRows, SpellsFirst, laid_under}
@@ -36,7 +36,7 @@ use Rattle.keyed_commands.proofs.AnswerLemmas.{key_exact, key_total}
 use Rattle.keyed_commands.proofs.OverlayLemmas.{laid_alone}
 use Rattle.command_callers.specs.Answered.{IsInStyle}
 use Rattle.command_callers.proofs.KnownRows.{alone_rise}
-use Rattle.command_callers.proofs.KnownTables.{IsKnown, KeyedRows, columns_are, header_is, heads_plainly, plain_names, rows_by, table_is, table_text, table_text_shown}
+use Rattle.command_callers.proofs.KnownTables.{IsKnown, KeyedRows, columns_are, header_is, heads_plainly, plain_names, rows_by, table_is, IsTableFileOf, table_file_shown}
 
 -- two things are moved: they stand as they stood, or the other way about
 swap_two : {X : Type 0} (a b : X) (i j : ℕ) → i < 2 → j < 2 → (swap (a ∷ b ∷ []) i j ≡ a ∷ b ∷ []) ⊎ (swap (a ∷ b ∷ []) i j ≡ b ∷ a ∷ [])
@@ -201,24 +201,24 @@ module _ {settings : Settings} {layer : Layer} {form : Form} {text : List ℕ} {
   module _ (noted : Keys) (are : noted_keys true (map (λ row. map (cell_under Rows fields row) (one_key fields)) records) ≡ Some noted)
       (before : stands_before noted (alone b) (alone a) ≡ true) where
     -- the rows come out as they stand in the file
-    pub in_file_order : IsInStyle (λ s. table_text (in_style s settings.form) (one_order fields) (one_key fields) (one_rest fields) (map alone (b ∷ a ∷ []))) answer
+    pub in_file_order : IsInStyle (λ s. IsTableFileOf (in_style s settings.form) (one_order fields) (one_key fields) (one_rest fields) (map alone (b ∷ a ∷ []))) answer
     in_file_order =
         let told = o.overlaid.answers in
         let written = in_style told.style settings.form in
         let order : o.overlaid.keys ≡ Some noted =
         o.ordered ∙ ap (λ k. noted_keys k o.said.keys) keeps ∙ ap (noted_keys true) keys ∙ are in
-        let is : IsTableText written o.columns (Some noted) o.overlaid.by_cells (map alone rows) answer.bytes.items =
-        subst (λ r. IsTableText written o.columns (Some noted) o.overlaid.by_cells r answer.bytes.items) laid
-        (subst (λ k. IsTableText written o.columns k o.overlaid.by_cells o.overlaid.rows answer.bytes.items) order told.text) in
+        let is : IsTableFile written o.columns (Some noted) o.overlaid.by_cells (map alone rows) answer.bytes.items =
+        subst (λ r. IsTableFile written o.columns (Some noted) o.overlaid.by_cells r answer.bytes.items) laid
+        (subst (λ k. IsTableFile written o.columns k o.overlaid.by_cells o.overlaid.rows answer.bytes.items) order told.text) in
         let shown : is.0 ≡ map alone (b ∷ a ∷ []) =
         come_out b a o.overlaid.by_cells is.1.0 is.0 (sorted_two (stands_before noted) (alone a) (alone b) is.1.0 is.1.1 is.1.2 before) is.1.3 in
         record {
           style = told.style;
           bytes =
-              table_text_shown written o.columns is.0 answer.bytes.items (one_order fields) (one_key fields) (one_rest fields) columns_known.order columns_known.key columns_known.rest
+              subst (λ rows. IsTableFileOf written (one_order fields) (one_key fields) (one_rest fields) rows answer.bytes.items) shown
+              (table_file_shown written o.columns is.0 answer.bytes.items (one_order fields) (one_key fields) (one_rest fields) columns_known.order columns_known.key columns_known.rest
               (heads_plainly form settings.form told.style text fields records known settings.groups o.said.header o.said.names o.said.spelled o.columns o.said.rows
-              o.headed o.says o.spelled o.spells) is.2
-              ∙ ap (table_text written (one_order fields) (one_key fields) (one_rest fields)) shown;
+              o.headed o.says o.spelled o.spells) is.2);
           status = told.status;
           outcome = told.outcome;
         }

@@ -33,7 +33,7 @@ module _ {K V : Type 0} (cmp : K → K → Ordering) (o : IsTotalOrder cmp) wher
   up_alone P [] h = tt
   up_alone P (row ∷ rows) h = (h.0, up_alone (λ k. cmp row.0 k ≡ Less) rows h.1)
 
-  -- rows, each as a group of its own, rise as the rows do
+  -- rows, each as a group of its own, strictly increase as the rows do
   pub alone_rise : (rows : List (K × V)) → Up cmp (λ k. ⊤) rows → Rising cmp (map alone rows)
   alone_rise rows h = rising cmp (λ k. ⊤) (map alone rows) (up_alone (λ k. ⊤) rows h)
 

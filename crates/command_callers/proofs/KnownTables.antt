@@ -19,6 +19,7 @@ use Rattle.keyed_columns.specs.declared.columns.Place.{Place}
 use Rattle.keyed_columns.specs.declared.content.Content.TheVariants.{Rows}
 use Rattle.keyed_files.specs.Reading.{HeadedBy, IsTable, behind_header, parts_of}
 use Rattle.keyed_files.specs.Rows.{heading, table_rows}
+use Rattle.keyed_files.specs.SpelledFiles.{IsFileIn}
 use Rattle.keyed_files.specs.Writing.{file_text}
 use Rattle.keyed_rows.specs.declared.row.ReadRow.{ReadRow}
 use Rattle.keyed_tables.specs.Arranged.{AreArranged}
@@ -26,7 +27,7 @@ use Rattle.keyed_tables.specs.Gathered.{alone}
 use Rattle.keyed_text.specs.Texts.{AreRows}
 use Rattle.keyed_text.specs.declared.style.Style.{Style}
 use Rattle.keyed_text.proofs.TextLemmas.{rows-once}
-use Rattle.keyed_commands.specs.Answers.{IsTableText, TableRows, key_cmp}
+use Rattle.keyed_commands.specs.Answers.{IsTableFile, IsTableText, TableRows, key_cmp}
 use Rattle.keyed_commands.specs.ComeOut.{AlikeRows, ComesOut, HasGroups}
 use Rattle.keyed_commands.specs.TablesRead.{AreNames, AreNamesBy, SaysTable}
 use Rattle.keyed_commands.proofs.AnswerLemmas.{key_exact, key_total}
@@ -178,6 +179,27 @@ table_text_shown form columns shown text order key rest eo ek er heads is =
     ∙ ap (λ l. file_text form (l ++ table_rows columns.order.items shown)) (headed_alike form columns.order.items (names_headed columns) (names_placed columns) _ refl heads)
     ∙ ap (λ o. table_text form o columns.key columns.rest shown) eo ∙ ap (λ k. table_text form order k columns.rest shown) ek
     ∙ ap (λ r. table_text form order key r shown) er
+
+-- the file of a table, whose rows may have spellings of their own
+abbrev pub IsTableFileOf : Form → List Place → (key rest : List (List ℕ)) → TableRows → List ℕ → Type 0
+IsTableFileOf form order key rest rows text = IsFileIn form (heading_by form order key rest ++ table_rows order rows) text
+
+pub table_file_shown : (form : Form) (columns : Columns) (shown : TableRows) (text : List ℕ) (order : List Place) (key rest : List (List ℕ))
+    → columns.order.items ≡ order → columns.key ≡ key → columns.rest ≡ rest → HeadsPlainly form columns
+    → IsFileIn form (heading form None columns ++ table_rows columns.order.items shown) text → IsTableFileOf form order key rest shown text
+table_file_shown form columns shown text order key rest eo ek er heads is =
+    let rows : List Place → (key rest : List (List ℕ)) → List (List (List ℕ)) = λ o k r. heading_by form o k r ++ table_rows o shown in
+    let same : heading form None columns ++ table_rows columns.order.items shown ≡ rows order key rest =
+    ap (λ l. l ++ table_rows columns.order.items shown) (headed_alike form columns.order.items (names_headed columns) (names_placed columns) _ refl heads)
+    ∙ ap (λ o. rows o columns.key columns.rest) eo ∙ ap (λ k. rows order k columns.rest) ek ∙ ap (rows order key) er in
+    subst (λ l. IsFileIn form l text) same is
+
+pub table_file_is : (form : Form) (columns : Columns) (keys : Option (List (List (List ℕ)))) (by_cells : Bool) (rows : TableRows) (text : List ℕ)
+    (order : List Place) (key rest : List (List ℕ)) → columns.order.items ≡ order → columns.key ≡ key → columns.rest ≡ rest
+    → (keys ≡ None) × (by_cells ≡ true) → HeadsPlainly form columns → IsTableFile form columns keys by_cells rows text → IsTableFileOf form order key rest rows text
+table_file_is form columns keys by_cells rows text order key rest eo ek er plainly heads h =
+    table_file_shown form columns rows text order key rest eo ek er heads
+    (subst (λ shown. IsFileIn form (heading form None columns ++ table_rows columns.order.items shown) text) (came_out keys by_cells AlikeRows rows h.0 plainly h.1) h.2)
 
 pub table_text_is : (form : Form) (columns : Columns) (keys : Option (List (List (List ℕ)))) (by_cells : Bool) (rows : TableRows) (text : List ℕ)
     (order : List Place) (key rest : List (List ℕ)) → columns.order.items ≡ order → columns.key ≡ key → columns.rest ≡ rest

@@ -5,6 +5,7 @@ pub mod KnownJoins
 pub mod KnownCells
 pub mod KnownTables
 pub mod KnownDiff
+pub mod KnownReport
 pub mod KnownJoinText
 pub mod KnownMerge
 pub mod KnownApply

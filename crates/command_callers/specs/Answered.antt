@@ -1,12 +1,15 @@
 -- What a caller knows of an answer that is written in the style of a table that is read.
-use Rattle.std.specs.Prelude.{◌≡◌, ℕ, List, None, false, true}
+use Rattle.std.specs.Prelude.{◌≡◌, ◌∷◌, [], ℕ, List, None, codes, false, true}
 use Rattle.keyed_text.specs.Texts.{finished, text_by, writer_in}
 use Rattle.keyed_text.specs.declared.style.CellQuotes.TheVariants.{Everywhere, WhereNeeded}
 use Rattle.keyed_text.specs.declared.style.LineEnd.TheVariants.{CrLf, Lf}
+use Rattle.keyed_text.specs.Spelling.{text_as}
+use Rattle.keyed_text.specs.declared.spelling.RowSpelling.{RowSpelling}
 use Rattle.keyed_text.specs.declared.style.Style.{Style}
 use Rattle.keyed_requests.specs.FormBytes.{comment_of, delimiter_of}
 use Rattle.keyed_requests.specs.declared.request.Form.{Form}
 use Rattle.keyed_columns.specs.declared.columns.Columns.{Columns}
+use Rattle.keyed_files.specs.SpelledFiles.{IsSpelledFile}
 use Rattle.keyed_files.specs.Writing.{quoted_first}
 use Rattle.keyed_commands.specs.Answers.{TableChanges}
 use Rattle.keyed_commands.specs.ChangesRead.{SaysChanges}
@@ -20,10 +23,10 @@ SaysOnlyChanges text key rest changes = (form : Form) (header : List (List ℕ))
     → delimiter_of form ≡ 44 → comment_of form ≡ None → form.has_header ≡ true → columns.key ≡ key → columns.rest ≡ rest
     → SaysChanges form false text header header columns others → others ≡ changes
 
--- an answer is a table, with what text is said of some style
-pub record IsInStyle (text : Style → List ℕ) (answer : Answer) : Type 0 where
+-- an answer is a table, with what is said of its text in some style
+pub record IsInStyle (IsText : Style → List ℕ → Type 0) (answer : Answer) : Type 0 where
   pub style : Style
-  pub bytes : answer.bytes.items ≡ text style
+  pub bytes : IsText style answer.bytes.items
   pub status : answer.status ≡ 0
   pub outcome : answer.outcome ≡ Made
 
@@ -31,9 +34,13 @@ pub record IsInStyle (text : Style → List ℕ) (answer : Answer) : Type 0 wher
 abbrev pub file_in : List (List (List ℕ)) → Style → List ℕ
 file_in rows style = finished style (quoted_first 44 (text_by (writer_in style 44 None) rows))
 
+-- a text is that file, or that of the same rows each of which has a spelling of its own
+abbrev pub IsSpelledIn : List (List (List ℕ)) → Style → List ℕ → Type 0
+IsSpelledIn rows style text = IsSpelledFile style 44 None rows text
+
 -- a text is the file of these rows in some style
 abbrev pub IsFileOf : List (List (List ℕ)) → List ℕ → Type 0
-IsFileOf rows text = (style : Style) × (text ≡ file_in rows style)
+IsFileOf rows text = (style : Style) × IsSpelledIn rows style text
 
 -- quotes where they are needed, and LF after each row
 abbrev pub plainly : Style
@@ -43,8 +50,13 @@ plainly = record { has_mark = false; quotes = WhereNeeded; line_end = Lf; has_en
 abbrev pub fully : Style
 fully = record { has_mark = true; quotes = Everywhere; line_end = CrLf; has_end = false }
 
--- an answer is the file of these rows in some style; it would be this text in the plain style, and that one in the other
+-- an answer is the file of these rows in some style, or with each row in a spelling of its own; it would be this text in the plain style,
+-- and that one in the other
 pub record IsTableInStyle (rows : List (List (List ℕ))) (plain full : List ℕ) (answer : Answer) : Type 0 where
-  pub file : IsInStyle (file_in rows) answer
+  pub file : IsInStyle (IsSpelledIn rows) answer
   pub plain_text : file_in rows plainly ≡ plain
   pub full_text : file_in rows fully ≡ full
+
+-- the text of a header and a row with semicolons between cells, each in its spelling
+abbrev pub spelled_rows : Style → (header row : RowSpelling) → List ℕ
+spelled_rows style header row = text_as style 59 None ((header, codes "id" ∷ codes "name" ∷ []) ∷ (row, codes "2" ∷ codes "a;b" ∷ []) ∷ []) []

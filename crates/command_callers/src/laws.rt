@@ -7,7 +7,7 @@ ghost use Rattle.command_callers.specs.Answered.{IsFileOf, IsTableInStyle, SaysO
 
 use crate::{CHANGES, PLAIN};
 use keyed_commands::{
-    Answer, Fault, Merging, Stream, apply, diff, law_diff_apply_texts, law_diff_reads,
+    Answer, Direction, Fault, Merging, Stream, apply, diff, law_diff_apply_texts, law_diff_reads,
     law_diff_says, law_one_side, law_text_once, merge,
 };
 use std::alloc::Global;
@@ -101,7 +101,7 @@ pub fn changes_applied(alloc: Global) -> Result<Answer, Fault<'static>>
         delimiter: None,
         reader: Ok(difference.bytes.as_slice()),
     };
-    apply(alloc, settings, table, changes)
+    apply(alloc, settings, Direction::Forward, table, changes)
 }
 
 /// Returns two versions of a table merged over their base, of which ours changed a row, and theirs removed one and added one. Where the

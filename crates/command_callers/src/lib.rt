@@ -34,8 +34,9 @@ pub mod lookups;
 pub mod texts;
 
 use keyed_commands::{
-    Answer, Comparing, Conflicts, Delimiter, Fault, Form, Format, JoinNames, Joining, Kind, Look,
-    Merging, Reading, RowFormat, Settings, Stream, Unit, View, Writing, apply, diff, join, merge,
+    Answer, Comparing, Conflicts, Delimiter, Direction, Fault, Form, Format, JoinNames, Joining,
+    Kind, Look, Merging, Reading, RowFormat, Settings, Stream, Unit, View, Writing, apply, diff,
+    join, merge,
 };
 use std::alloc::Global;
 
@@ -78,13 +79,19 @@ const BARE: Settings<'static> = Settings {
 const CHANGES: Comparing<'static> = Comparing {
     format: Format::Csv,
     view: View::WHOLE,
-    tolerance: None,
+    sameness: None,
+};
+
+const REPORT: Comparing<'static> = Comparing {
+    format: Format::Report(Look::Json),
+    view: View::WHOLE,
+    sameness: None,
 };
 
 const BY_CELL: Merging<'static> = Merging {
     unit: Unit::Cell,
     conflicts: Conflicts::Report,
-    tolerance: None,
+    sameness: None,
 };
 
 const OUTER: Joining<'static> = joining!(Outer);
@@ -111,6 +118,32 @@ pub fn changed_row(alloc: Global) -> Result<Answer, Fault<'static>>
     let old = file!("old.csv", b"id,a\n1,x\n");
     let new = file!("new.csv", b"id,a\n1,y\n");
     diff(alloc, PLAIN, CHANGES, old, new)
+}
+
+/// Returns a report of two tables in which a row has other cells, with status 1.
+///
+/// # Errors
+///
+/// Returns the errors of `diff`.
+pub fn reported_row(alloc: Global) -> Result<Answer, Fault<'static>>
+    ensures { IfOk result (λ answer. answer.status ≡ 1) }
+{
+    let old = file!("old.csv", b"id,a\n1,x\n");
+    let new = file!("new.csv", b"id,a\n1,y\n");
+    diff(alloc, PLAIN, REPORT, old, new)
+}
+
+/// Returns a report of two tables that are the same, with status 0.
+///
+/// # Errors
+///
+/// Returns the errors of `diff`.
+pub fn reported_same(alloc: Global) -> Result<Answer, Fault<'static>>
+    ensures { IfOk result (λ answer. answer.status ≡ 0) }
+{
+    let old = file!("old.csv", b"id,a\n1,x\n");
+    let new = file!("new.csv", b"id,a\n1,x\n");
+    diff(alloc, PLAIN, REPORT, old, new)
 }
 
 /// Returns the changes between two tables that are the same: a header alone, with status 0.
@@ -184,7 +217,7 @@ pub fn misfit(alloc: Global) -> Result<Answer, Fault<'static>>
 {
     let old = file!("old.csv", b"id,a\n1,x\n");
     let changes = file!("changes.csv", b"change,id,a\n-,2,y\n");
-    apply(alloc, PLAIN, old, changes)
+    apply(alloc, PLAIN, Direction::Forward, old, changes)
 }
 
 /// Returns the answer to changes of a row that has other cells by now: a report, with status 1.
@@ -197,7 +230,7 @@ pub fn stale_change(alloc: Global) -> Result<Answer, Fault<'static>>
 {
     let old = file!("old.csv", b"id,a\n1,x\n");
     let changes = file!("changes.csv", b"change,id,a\n-,1,z\n+,1,y\n");
-    apply(alloc, PLAIN, old, changes)
+    apply(alloc, PLAIN, Direction::Forward, old, changes)
 }
 
 /// Returns a table with changes made to it: the row that comes, in the place of the one that goes.
@@ -213,7 +246,23 @@ pub fn applied(alloc: Global) -> Result<Answer, Fault<'static>>
 {
     let old = file!("old.csv", b"id,a\n1,x\n");
     let changes = file!("changes.csv", b"change,id,a\n-,1,x\n+,1,y\n");
-    apply(alloc, PLAIN, old, changes)
+    apply(alloc, PLAIN, Direction::Forward, old, changes)
+}
+
+/// Returns a table with the same changes taken back: the row that went, in the place of the one that came.
+///
+/// # Errors
+///
+/// Returns the errors of `apply`.
+pub fn taken_back(alloc: Global) -> Result<Answer, Fault<'static>>
+    ensures { IfOk result (IsTableInStyle
+        ((codes "id" ∷ codes "a" ∷ []) ∷ (codes "1" ∷ codes "x" ∷ []) ∷ [])
+        (codes "id,a\n1,x\n")
+        (239 ∷ 187 ∷ 191 ∷ codes "\"id\",\"a\"\r\n\"1\",\"x\"")) }
+{
+    let new = file!("new.csv", b"id,a\n1,y\n");
+    let changes = file!("changes.csv", b"change,id,a\n-,1,x\n+,1,y\n");
+    apply(alloc, PLAIN, Direction::Backward, new, changes)
 }
 
 /// Returns a list of keys with one taken away and one added.
@@ -229,7 +278,7 @@ pub fn changed_ids(alloc: Global) -> Result<Answer, Fault<'static>>
 {
     let old = file!("old.csv", b"id\n1\n2\n");
     let changes = file!("changes.csv", b"change,id\n-,2\n+,3\n");
-    apply(alloc, PLAIN, old, changes)
+    apply(alloc, PLAIN, Direction::Forward, old, changes)
 }
 
 /// Returns a table without the column that the header of the changes says to go: no row that is left has a cell in it.
@@ -245,7 +294,7 @@ pub fn dropped_column(alloc: Global) -> Result<Answer, Fault<'static>>
 {
     let old = file!("old.csv", b"id,a\n1,x\n2,\n");
     let changes = file!("changes.csv", b"change,id,-a\n-,1,x\n");
-    apply(alloc, PLAIN, old, changes)
+    apply(alloc, PLAIN, Direction::Forward, old, changes)
 }
 
 /// Returns the answer to changes that would drop a column in which a row that is left has a cell: a report, with status 1.
@@ -258,7 +307,7 @@ pub fn lost_cell(alloc: Global) -> Result<Answer, Fault<'static>>
 {
     let old = file!("old.csv", b"id,a\n1,x\n2,y\n");
     let changes = file!("changes.csv", b"change,id,-a\n-,1,x\n");
-    apply(alloc, PLAIN, old, changes)
+    apply(alloc, PLAIN, Direction::Forward, old, changes)
 }
 
 /// Returns two versions of a table merged over their base: the row that one of them changed, and the one that the other added.

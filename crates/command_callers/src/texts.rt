@@ -2,13 +2,17 @@
 //! written, and that knows the cells which it writes.
 ghost use Rattle.std.specs.Prelude.{◌≡◌, ◌++◌, ◌∷◌, [], ℕ, List, Option, None, IfOk, IfSome, MatchOption};
 ghost use Rattle.std.specs.Prelude.{codes, map};
+ghost use Rattle.csv.specs.Reading.{strip_bom};
 ghost use Rattle.csv.specs.Records.{fields_of};
 ghost use Rattle.keyed_text.specs.Streams.{HasRead};
-ghost use Rattle.keyed_text.specs.Texts.{AreRows, ReadsAs, rows_text, styled_text};
+ghost use Rattle.keyed_text.specs.Texts.{AreRows, ReadsAs, finished, rows_text, styled_text};
+ghost use Rattle.keyed_text.specs.declared.spelling.RowSpelling.{RowSpelling};
+ghost use Rattle.command_callers.specs.Answered.{spelled_rows};
 
 use csv::ByteRecord;
 use keyed_text::{
     CellQuotes, LineEnd, Marks, RowReader, RowWriter, Style, law_reads_back, law_reads_once,
+    law_spelled_back,
 };
 use std::alloc::{AllocError, AllocFailed, Global};
 use std::io::Read;
@@ -154,4 +158,30 @@ pub fn reads_in_each(style: Style)
         (codes "id" ∷ codes "name" ∷ []) ((codes "2" ∷ codes "a;b" ∷ []) ∷ []) }
 {
     law_reads_back();
+}
+
+/// The file of a header and a row reads back as them however each of them is spelled, where their text begins with no byte order mark.
+pub fn reads_in_each_spelling(style: Style)
+    ensures { (header : RowSpelling) (row : RowSpelling)
+        → strip_bom (spelled_rows style header row) ≡ spelled_rows style header row
+        → AreRows 59 None (finished style (spelled_rows style header row))
+        ((codes "id" ∷ codes "name" ∷ []) ∷ (codes "2" ∷ codes "a;b" ∷ []) ∷ []) }
+{
+    law_spelled_back();
+}
+
+/// Returns the text of cells that are known when the program is written: one that needs quotes, one that is to have them, and one with
+/// neither.
+///
+/// # Errors
+///
+/// Returns `AllocError` if a request for memory was refused.
+pub fn known_cells(alloc: Global) -> Result<Vec<u8>, AllocError>
+    ensures { IfOk result (λ text. text.items ≡ codes "\"a;\"\"b\"\"\"\"2\"c") }
+{
+    let mut text = Vec::new(alloc);
+    SEMICOLONS.put_cell(&mut text, false, b"a;\"b\"")?;
+    SEMICOLONS.put_cell(&mut text, true, b"2")?;
+    SEMICOLONS.put_cell(&mut text, false, b"c")?;
+    Ok(text)
 }

@@ -14,8 +14,8 @@ use Rattle.eob_joins.specs.declared.versions.Verdict.TheVariants.{Ours, Theirs}
 use Rattle.eob_joins.specs.Versions.{is_conflict, merged_place, verdict, verdict_of}
 use Rattle.eob_joins.proofs.TableLemmas.{by_test}
 use Rattle.eob_joins.proofs.VersionLemmas.{merged_places}
-use Rattle.eob_joins.specs.Cells.{AreMergedCells, CellsClashLaw, CellsKept, GivesByCell, KeepsCells, StuckByCellLaw, can_by_cell, cell_clashes, cells_clash, same_length, vec_eq}
-use Rattle.eob_joins.specs.Settled.{Became, BecameBy, IsMergeWith, is_stuck}
+use Rattle.eob_joins.specs.Cells.{AreMergedCells, CellsClashLaw, CellsKept, GivesByCell, KeepsCells, UnresolvedByCellLaw, can_by_cell, cell_clashes, cells_clash, same_length, vec_eq}
+use Rattle.eob_joins.specs.Settled.{Became, BecameBy, IsMergeWith, is_unresolved}
 
 ours_means : (s t u : Bool) → verdict_of s t u ≡ Ours → (s ≡ false) × (t ≡ true)
 ours_means true true u e = absurd (cc)
@@ -144,7 +144,7 @@ module _ {C : Type 0} (eq : C → C → Bool) where
         absurd (true≢false (sym (and_both (same_length b.items p.items q.items) (not (cells_clash eq b.items p.items q.items)) h).1 ∙ ap not clash)))
         (λ f. f)
 
-    -- what became of a row that is not stuck
+    -- what became of a row that is not unresolved
     keeps_by : (s t u c : Bool) (m : Option (Vec C)) → pointwise eq b.items p.items ≡ s → pointwise eq b.items q.items ≡ t → pointwise eq p.items q.items ≡ u
         → can_by_cell eq (Some b) (Some p) (Some q) ≡ c → (is_conflict (verdict_of s t u) && not c) ≡ false
         → BecameBy (is_conflict (verdict_of s t u)) (GivesByCell eq (Some b) (Some p) (Some q)) (if s then Some q else Some p) m
@@ -157,7 +157,7 @@ module _ {C : Type 0} (eq : C → C → Bool) where
     keeps_by false false false false (Some w) e f g d n h = absurd (true≢false n)
     keeps_by false false false true (Some w) e f g d n h = (w, refl, as_merged o b.items p.items q.items w.items (settled_free d) h)
 
-    keeps : (m : Option (Vec C)) → is_stuck (vec_eq eq) (can_by_cell eq) (Some b) (Some p) (Some q) ≡ false → Became (vec_eq eq) (GivesByCell eq) (Some b) (Some p) (Some q) m
+    keeps : (m : Option (Vec C)) → is_unresolved (vec_eq eq) (can_by_cell eq) (Some b) (Some p) (Some q) ≡ false → Became (vec_eq eq) (GivesByCell eq) (Some b) (Some p) (Some q) m
         → (w : Vec C) × (m ≡ Some w) × CellsKept eq b.items p.items q.items w.items
     keeps m n h =
         keeps_by (pointwise eq b.items p.items) (pointwise eq b.items q.items) (pointwise eq p.items q.items) (can_by_cell eq (Some b) (Some p) (Some q)) m refl refl refl refl n h
@@ -165,7 +165,7 @@ module _ {C : Type 0} (eq : C → C → Bool) where
   pub keeps_law : IsEquivalence eq → {K M : Type 0} (cmp : K → K → Ordering) (base ours theirs : List (K × Vec C)) (m : Merged K (Vec C) M)
       → IsMergeWith cmp (vec_eq eq) (can_by_cell eq) (GivesByCell eq) base ours theirs m → KeepsCells cmp eq base ours theirs m
   keeps_law o cmp base ours theirs (Whole rs) h = λ k b p q at_b at_p at_q.
-      let P : Option (Vec C) → Option (Vec C) → Option (Vec C) → Type 0 = λ l m n. (is_stuck (vec_eq eq) (can_by_cell eq) l m n ≡ false) × Became (vec_eq eq) (GivesByCell eq) l m n (value_under cmp rs.items k) in
+      let P : Option (Vec C) → Option (Vec C) → Option (Vec C) → Type 0 = λ l m n. (is_unresolved (vec_eq eq) (can_by_cell eq) l m n ≡ false) × Became (vec_eq eq) (GivesByCell eq) l m n (value_under cmp rs.items k) in
       let said : P (value_under cmp base k) (value_under cmp ours k) (value_under cmp theirs k) = (h.2 k, h.1 k) in
       let at_base = subst (λ l. P l (value_under cmp ours k) (value_under cmp theirs k)) at_b said in
       let at_ours = subst (λ l. P (Some b) l (value_under cmp theirs k)) at_p at_base in
@@ -185,8 +185,8 @@ module _ {C : Type 0} (eq : C → C → Bool) where
       (λ u. absurd (true≢false (sym h ∙ free_by _ _ _ (inr (inr (at_cell p.items q.items u i))))))
       (λ u. rw (s, t, u) refl)))
 
-  stuck_cells : (b p q : Vec C) → same_length b.items p.items q.items ≡ true → is_stuck (vec_eq eq) (can_by_cell eq) (Some b) (Some p) (Some q) ≡ cells_clash eq b.items p.items q.items
-  stuck_cells b p q l =
+  unresolved_cells : (b p q : Vec C) → same_length b.items p.items q.items ≡ true → is_unresolved (vec_eq eq) (can_by_cell eq) (Some b) (Some p) (Some q) ≡ cells_clash eq b.items p.items q.items
+  unresolved_cells b p q l =
       by_test (cells_clash eq b.items p.items q.items)
       (λ t.
       let at = clash_to b.items p.items q.items t in
@@ -206,17 +206,17 @@ module _ {C : Type 0} (eq : C → C → Bool) where
   not_conflict_3 true = refl
   not_conflict_3 false = refl
 
-  one : (m : Option (Vec C)) → (is_stuck (vec_eq eq) (can_by_cell eq) None m None ≡ false) × (is_stuck (vec_eq eq) (can_by_cell eq) None None m ≡ false)
+  one : (m : Option (Vec C)) → (is_unresolved (vec_eq eq) (can_by_cell eq) None m None ≡ false) × (is_unresolved (vec_eq eq) (can_by_cell eq) None None m ≡ false)
   one None = (refl, refl)
   one (Some w) = (refl, refl)
 
-  gone : (m : Option (Vec C)) → is_stuck (vec_eq eq) (can_by_cell eq) m None None ≡ false
+  gone : (m : Option (Vec C)) → is_unresolved (vec_eq eq) (can_by_cell eq) m None None ≡ false
   gone None = refl
   gone (Some w) = refl
 
-  pub stuck_law : StuckByCellLaw eq
-  stuck_law = record {
-    cells = stuck_cells;
+  pub unresolved_law : UnresolvedByCellLaw eq
+  unresolved_law = record {
+    cells = unresolved_cells;
     theirs_removed = λ b p. not_conflict (vec_eq eq b p);
     ours_removed = λ b q. not_conflict_2 (vec_eq eq b q);
     both_added = λ p q. not_conflict_3 (vec_eq eq p q);

@@ -1,4 +1,5 @@
--- A table as the list of its groups: that it rises, what it has under a key, and what the loop of a group join makes of two tables.
+-- A table as the list of its groups: that it strictly increases, what it has under a key, and what the loop of a group join makes of two
+-- tables.
 use Rattle.std.proofs.Common.{◌≡◌, ◌∙◌, ◌⊎◌, ℕ, ◌+◌, ◌<◌, suc, Bool, true, false, List, [], ◌∷◌, ◌++◌, length, get_or, map, filter, All, Contains, Option, Some, None, option_map, append_assoc, arith, inl, inr, refl, sym, ap, ap₂, true≢false, subst}
 use Rattle.std.specs.Prelude.{⊤, IsTrue, ◌↔◌, ◌≤◌, ◌&&◌, not}
 use Rattle.std.specs.Cmp.{IsTotalOrder, alike_right}
@@ -165,7 +166,7 @@ module _ {K : Type 0} (cmp : K → K → Ordering) where
   shown_after f P [] h = tt
   shown_after f P (x ∷ xs) h = (h.0, shown_after f (λ k. cmp x.0 k ≡ Less) xs h.1)
 
-  -- a list rises where it does with its values read in another way
+  -- a list strictly increases where it does with its values read in another way
   pub rises_raw : {V W : Type 0} (f : V → W) (xs : List (K × V)) → Rising cmp (map (λ x. (x.0, f x.1)) xs) → Rising cmp xs
   rises_raw f xs h = rising cmp (λ k. ⊤) xs (raw_after f (λ k. ⊤) xs (up cmp (map (λ x. (x.0, f x.1)) xs) h))
 

@@ -43,7 +43,7 @@ module _ {K : Type 0} (cmp : K → K → Ordering) where
   up_append P (x ∷ xs) ys g h b =
       (g.0, up_append (λ k. cmp x.0 k ≡ Less) xs ys g.1 (All-head (λ y. Up cmp (λ k. cmp y.0 k ≡ Less) ys) x xs b) (All-tail (λ y. Up cmp (λ k. cmp y.0 k ≡ Less) ys) x xs b))
 
-  -- a list whose keys are all greater than j rises from j on
+  -- a list whose keys are all greater than j strictly increases from j on
   pub up_from : {V : Type 0} (j : K) (ys : List (K × V)) → Up cmp (λ k. ⊤) ys → All (λ y. cmp j y.0 ≡ Less) ys → Up cmp (λ k. cmp j k ≡ Less) ys
   up_from j [] h a = tt
   up_from j (y ∷ ys) h a = (All-head (λ x. cmp j x.0 ≡ Less) y ys a, h.1)

@@ -26,7 +26,7 @@ module _ {I K A B M : Type 0} (finds : M → K → Option B) (firsts : I → Opt
             (rest.2 ∙ ap (λ r. map (with_found (finds r.now)) rest.0) step.1),
       )
 
-  -- behind each run stands one of the source
+  -- after each run stands one of the source
   pub lookup_runs : (w : LookupJoin I M) (s : I) → w.lefts ≡ s → EachRunFrom (lookup_steps finds firsts) w (λ p. SomeRun firsts s (IsLookupRun (finds w.right.now) p))
   lookup_runs w s e p _ from =
       let h = subst (Parts p.items p.whole) from (parts p.items p.whole p.from (took p)) in

@@ -34,7 +34,7 @@ module _ {K V : Type 0} (cmp : K → K → Ordering) (o : IsTotalOrder cmp) (eq 
       (λ t. rw (absent_alike cmp o k x.0 t xs g, absent_alike cmp o k y.0 (sym (ap is_eq alike) ∙ t) ys h) refl)
       (λ f. rw (← alike, f) at e)
 
-  -- rising lists that have alike values under each key are alike pair by pair
+  -- lists with strictly increasing keys that have alike values under each key are alike pair by pair
   pub alike_values : (P Q : K → Type 0) (xs ys : List (K × V)) → Up cmp P xs → Up cmp Q ys → ((k : K) → Alike xs ys k)
       → AllZip (λ x y. (cmp x.0 y.0 ≡ Equal) × (eq x.1 y.1 ≡ true)) xs ys
   alike_values P Q [] [] g h e = tt

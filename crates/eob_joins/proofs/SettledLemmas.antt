@@ -16,7 +16,7 @@ use Rattle.eob_joins.specs.Tables.{Tabulates, kept}
 use Rattle.eob_joins.specs.Versions.{IsVersionJoin}
 use Rattle.eob_joins.proofs.TableLemmas.{by_test, kept_law, retabled}
 use Rattle.eob_joins.proofs.VersionLemmas.{versions_law}
-use Rattle.eob_joins.specs.Settled.{Became, BecameOf, BecameUnless, KeptAs, Outcome, is_stuck, stuck_row, stuck, stuck_place, with_row}
+use Rattle.eob_joins.specs.Settled.{Became, BecameOf, BecameUnless, KeptAs, Outcome, is_unresolved, unresolved_row, unresolved, unresolved_place, with_row}
 
 with_row-append : {K W : Type 0} (k : K) (m : Option W) (ts us : List (K × W)) → (with_row k m ts ++ us) ≡ with_row k m (ts ++ us)
 with_row-append k None ts us = refl
@@ -33,23 +33,23 @@ kept_as-push R (y ∷ ys) ts z m h r =
 module _ {K V : Type 0} (eq : V → V → Bool) (can : Option V → Option V → Option V → Bool)
     (gives : Option V → Option V → Option V → V → Type 0) (zs : List (K × EitherOrBoth V (EitherOrBoth V V))) (ts : List (K × V))
     (cs : List (K × EitherOrBoth V (EitherOrBoth V V))) (key : K) (v : EitherOrBoth V (EitherOrBoth V V))
-    (k : KeptAs (BecameUnless eq can gives) zs ts) (f : cs ≡ kept (stuck eq can) zs) where
+    (k : KeptAs (BecameUnless eq can gives) zs ts) (f : cs ≡ kept (unresolved eq can) zs) where
   pub step_ok : (r : Result (Option V) (EitherOrBoth V (EitherOrBoth V V))) (m : Option V) → Outcome eq can gives v r → r ≡ Ok m
-      → KeptAs (BecameUnless eq can gives) (zs ++ (key, v) ∷ []) (ts ++ with_row key m []) × (cs ≡ kept (stuck eq can) (zs ++ (key, v) ∷ []))
+      → KeptAs (BecameUnless eq can gives) (zs ++ (key, v) ∷ []) (ts ++ with_row key m []) × (cs ≡ kept (unresolved eq can) (zs ++ (key, v) ∷ []))
   step_ok r m o e =
-      let h : (stuck_row eq can v ≡ false) × BecameOf eq gives v m = subst (Outcome eq can gives v) e o in (
+      let h : (unresolved_row eq can v ≡ false) × BecameOf eq gives v m = subst (Outcome eq can gives v) e o in (
         kept_as-push (BecameUnless eq can gives) zs ts (key, v) m k (λ _. h.1),
-        f ∙ sym (filter_map-push_none (λ z. option_map (λ w. (z.0, w)) (stuck eq can z.1)) zs (key, v) (ap (λ t. option_map (λ w. (key, w)) (if t then Some v else None)) h.0)),
+        f ∙ sym (filter_map-push_none (λ z. option_map (λ w. (z.0, w)) (unresolved eq can z.1)) zs (key, v) (ap (λ t. option_map (λ w. (key, w)) (if t then Some v else None)) h.0)),
       )
 
   pub step_err : (r : Result (Option V) (EitherOrBoth V (EitherOrBoth V V))) (same : EitherOrBoth V (EitherOrBoth V V)) → Outcome eq can gives v r → r ≡ Err same
-      → KeptAs (BecameUnless eq can gives) (zs ++ (key, v) ∷ []) ts × (cs ++ (key, same) ∷ [] ≡ kept (stuck eq can) (zs ++ (key, v) ∷ []))
+      → KeptAs (BecameUnless eq can gives) (zs ++ (key, v) ∷ []) ts × (cs ++ (key, same) ∷ [] ≡ kept (unresolved eq can) (zs ++ (key, v) ∷ []))
   step_err r same o e =
-      let h : (stuck_row eq can v ≡ true) × (same ≡ v) = subst (Outcome eq can gives v) e o in (
+      let h : (unresolved_row eq can v ≡ true) × (same ≡ v) = subst (Outcome eq can gives v) e o in (
         subst (KeptAs (BecameUnless eq can gives) (zs ++ (key, v) ∷ [])) (append-nil ts)
             (kept_as-push (BecameUnless eq can gives) zs ts (key, v) None k (λ n. absurd (true≢false (sym h.0 ∙ n)))),
-        ap (λ l. l ++ (key, same) ∷ []) f ∙ ap (λ w. kept (stuck eq can) zs ++ (key, w) ∷ []) h.1
-            ∙ sym (filter_map-push_some (λ z. option_map (λ w. (z.0, w)) (stuck eq can z.1)) zs (key, v) (key, v) (ap (λ t. option_map (λ w. (key, w)) (if t then Some v else None)) h.0)),
+        ap (λ l. l ++ (key, same) ∷ []) f ∙ ap (λ w. kept (unresolved eq can) zs ++ (key, w) ∷ []) h.1
+            ∙ sym (filter_map-push_some (λ z. option_map (λ w. (z.0, w)) (unresolved eq can z.1)) zs (key, v) (key, v) (ap (λ t. option_map (λ w. (key, w)) (if t then Some v else None)) h.0)),
       )
 
 -- R of a value that is there and of what became of it
@@ -57,34 +57,34 @@ abbrev pub At : {V W : Type 0} → (V → Option W → Type 0) → Option V → 
 At R None m = m ≡ None
 At R (Some v) m = R v m
 
-stuck_is : {V : Type 0} (eq : V → V → Bool) (can : Option V → Option V → Option V → Bool) (m n l : Option V)
-    → option_and_then (stuck eq can) (from_places m (from_places n l)) ≡ stuck_place eq can m n l
-stuck_is eq can None None None = refl
-stuck_is eq can None None (Some t) = refl
-stuck_is eq can None (Some o) None = refl
-stuck_is eq can None (Some o) (Some t) = refl
-stuck_is eq can (Some b) None None = refl
-stuck_is eq can (Some b) None (Some t) = refl
-stuck_is eq can (Some b) (Some o) None = refl
-stuck_is eq can (Some b) (Some o) (Some t) = refl
+unresolved_is : {V : Type 0} (eq : V → V → Bool) (can : Option V → Option V → Option V → Bool) (m n l : Option V)
+    → option_and_then (unresolved eq can) (from_places m (from_places n l)) ≡ unresolved_place eq can m n l
+unresolved_is eq can None None None = refl
+unresolved_is eq can None None (Some t) = refl
+unresolved_is eq can None (Some o) None = refl
+unresolved_is eq can None (Some o) (Some t) = refl
+unresolved_is eq can (Some b) None None = refl
+unresolved_is eq can (Some b) None (Some t) = refl
+unresolved_is eq can (Some b) (Some o) None = refl
+unresolved_is eq can (Some b) (Some o) (Some t) = refl
 
 none_if : {V : Type 0} (t : Bool) (v : V) → (if t then Some v else None) ≡ None → t ≡ false
 none_if true v e = absurd (cc)
 none_if false v e = refl
 
-not_stuck : {V : Type 0} (eq : V → V → Bool) (can : Option V → Option V → Option V → Bool) (m n l : Option V)
-    → stuck_place eq can m n l ≡ None → is_stuck eq can m n l ≡ false
-not_stuck eq can None None None e = refl
-not_stuck eq can None None (Some t) e = refl
-not_stuck eq can None (Some o) None e = refl
-not_stuck eq can None (Some o) (Some t) e = none_if _ _ e
-not_stuck eq can (Some b) None None e = refl
-not_stuck eq can (Some b) None (Some t) e = none_if _ _ e
-not_stuck eq can (Some b) (Some o) None e = none_if _ _ e
-not_stuck eq can (Some b) (Some o) (Some t) e = none_if _ _ e
+not_unresolved : {V : Type 0} (eq : V → V → Bool) (can : Option V → Option V → Option V → Bool) (m n l : Option V)
+    → unresolved_place eq can m n l ≡ None → is_unresolved eq can m n l ≡ false
+not_unresolved eq can None None None e = refl
+not_unresolved eq can None None (Some t) e = refl
+not_unresolved eq can None (Some o) None e = refl
+not_unresolved eq can None (Some o) (Some t) e = none_if _ _ e
+not_unresolved eq can (Some b) None None e = refl
+not_unresolved eq can (Some b) None (Some t) e = none_if _ _ e
+not_unresolved eq can (Some b) (Some o) None e = none_if _ _ e
+not_unresolved eq can (Some b) (Some o) (Some t) e = none_if _ _ e
 
 became : {V : Type 0} (eq : V → V → Bool) (can : Option V → Option V → Option V → Bool) (gives : Option V → Option V → Option V → V → Type 0)
-    (m n l r : Option V) → At (BecameUnless eq can gives) (from_places m (from_places n l)) r → is_stuck eq can m n l ≡ false → Became eq gives m n l r
+    (m n l r : Option V) → At (BecameUnless eq can gives) (from_places m (from_places n l)) r → is_unresolved eq can m n l ≡ false → Became eq gives m n l r
 became eq can gives None None None r h e = h
 became eq can gives None None (Some t) r h e = h e
 became eq can gives None (Some o) None r h e = h e
@@ -142,37 +142,37 @@ module _ {K : Type 0} (cmp : K → K → Ordering) where
     triple k = from_places (value_under cmp b k) (from_places (value_under cmp p k) (value_under cmp q k))
 
     module _ (zs : List (K × EitherOrBoth V (EitherOrBoth V V))) (j : IsVersionJoin cmp b p q zs) where
-      pub stuck_table : Tabulates cmp (kept (stuck eq can) zs) (λ k. stuck_place eq can (value_under cmp b k) (value_under cmp p k) (value_under cmp q k))
-      stuck_table =
-          retabled cmp (kept (stuck eq can) zs) _ _ (λ k. stuck_is eq can (value_under cmp b k) (value_under cmp p k) (value_under cmp q k))
-          (kept_law cmp o (EitherOrBoth V (EitherOrBoth V V)) (EitherOrBoth V (EitherOrBoth V V)) (stuck eq can) triple zs (versions_law cmp V b p q zs j))
+      pub unresolved_table : Tabulates cmp (kept (unresolved eq can) zs) (λ k. unresolved_place eq can (value_under cmp b k) (value_under cmp p k) (value_under cmp q k))
+      unresolved_table =
+          retabled cmp (kept (unresolved eq can) zs) _ _ (λ k. unresolved_is eq can (value_under cmp b k) (value_under cmp p k) (value_under cmp q k))
+          (kept_law cmp o (EitherOrBoth V (EitherOrBoth V V)) (EitherOrBoth V (EitherOrBoth V V)) (unresolved eq can) triple zs (versions_law cmp V b p q zs j))
 
-      pub none_stuck : kept (stuck eq can) zs ≡ [] → (k : K) → is_stuck eq can (value_under cmp b k) (value_under cmp p k) (value_under cmp q k) ≡ false
-      none_stuck none k =
-          not_stuck eq can (value_under cmp b k) (value_under cmp p k) (value_under cmp q k)
-          (sym (stuck_table.values k) ∙ ap (λ l. value_under cmp l k) none)
+      pub none_unresolved : kept (unresolved eq can) zs ≡ [] → (k : K) → is_unresolved eq can (value_under cmp b k) (value_under cmp p k) (value_under cmp q k) ≡ false
+      none_unresolved none k =
+          not_unresolved eq can (value_under cmp b k) (value_under cmp p k) (value_under cmp q k)
+          (sym (unresolved_table.values k) ∙ ap (λ l. value_under cmp l k) none)
 
       pub whole_rises : (rs : List (K × V)) → KeptAs (BecameUnless eq can gives) zs rs → Rising cmp rs
       whole_rises rs s = rising cmp (λ k. ⊤) rs (kept_as_up o (BecameUnless eq can gives) (λ k. ⊤) zs rs (λ j k t l. tt) (up cmp zs (versions_law cmp V b p q zs j).rises) s)
 
-      pub whole_values : (rs : List (K × V)) → KeptAs (BecameUnless eq can gives) zs rs → kept (stuck eq can) zs ≡ []
+      pub whole_values : (rs : List (K × V)) → KeptAs (BecameUnless eq can gives) zs rs → kept (unresolved eq can) zs ≡ []
           → (k : K) → Became eq gives (value_under cmp b k) (value_under cmp p k) (value_under cmp q k) (value_under cmp rs k)
       whole_values rs s none k =
           let law = versions_law cmp V b p q zs j in
           became eq can gives (value_under cmp b k) (value_under cmp p k) (value_under cmp q k) (value_under cmp rs k)
           (subst (λ m. At (BecameUnless eq can gives) m (value_under cmp rs k)) (law.values k) (kept_as_value o (BecameUnless eq can gives) (λ k. ⊤) zs rs (up cmp zs law.rises) s k))
-          (none_stuck none k)
+          (none_unresolved none k)
 
-      -- the merged table, where no row is stuck
-      pub whole_law : (rs : List (K × V)) (cs : List (K × EitherOrBoth V (EitherOrBoth V V))) → KeptAs (BecameUnless eq can gives) zs rs → cs ≡ kept (stuck eq can) zs → (length cs == 0) ≡ true
+      -- the merged table, where no row is unresolved
+      pub whole_law : (rs : List (K × V)) (cs : List (K × EitherOrBoth V (EitherOrBoth V V))) → KeptAs (BecameUnless eq can gives) zs rs → cs ≡ kept (unresolved eq can) zs → (length cs == 0) ≡ true
           → Rising cmp rs
           × ((k : K) → Became eq gives (value_under cmp b k) (value_under cmp p k) (value_under cmp q k) (value_under cmp rs k))
-          × ((k : K) → is_stuck eq can (value_under cmp b k) (value_under cmp p k) (value_under cmp q k) ≡ false)
+          × ((k : K) → is_unresolved eq can (value_under cmp b k) (value_under cmp p k) (value_under cmp q k) ≡ false)
       whole_law rs cs s f n =
-          let none : kept (stuck eq can) zs ≡ [] = sym f ∙ no_items cs n in
-          (whole_rises rs s, whole_values rs s none, none_stuck none)
+          let none : kept (unresolved eq can) zs ≡ [] = sym f ∙ no_items cs n in
+          (whole_rises rs s, whole_values rs s none, none_unresolved none)
 
-      -- the stuck rows
-      pub stuck_law : (cs : List (K × EitherOrBoth V (EitherOrBoth V V))) → cs ≡ kept (stuck eq can) zs
-          → Tabulates cmp cs (λ k. stuck_place eq can (value_under cmp b k) (value_under cmp p k) (value_under cmp q k))
-      stuck_law cs f = subst (λ l. Tabulates cmp l (λ k. stuck_place eq can (value_under cmp b k) (value_under cmp p k) (value_under cmp q k))) (sym f) stuck_table
+      -- the unresolved rows
+      pub unresolved_law : (cs : List (K × EitherOrBoth V (EitherOrBoth V V))) → cs ≡ kept (unresolved eq can) zs
+          → Tabulates cmp cs (λ k. unresolved_place eq can (value_under cmp b k) (value_under cmp p k) (value_under cmp q k))
+      unresolved_law cs f = subst (λ l. Tabulates cmp l (λ k. unresolved_place eq can (value_under cmp b k) (value_under cmp p k) (value_under cmp q k))) (sym f) unresolved_table

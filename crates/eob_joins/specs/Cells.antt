@@ -13,7 +13,7 @@ use Rattle.eob_joins.specs.declared.versions.Merged.{Merged}
 use Rattle.eob_joins.specs.declared.versions.Merged.TheVariants.{Whole, Conflicts}
 use Rattle.eob_joins.specs.declared.versions.Verdict.TheVariants.{Ours, Theirs}
 use Rattle.eob_joins.specs.Versions.{is_conflict, merged_place, verdict}
-use Rattle.eob_joins.specs.Settled.{is_stuck}
+use Rattle.eob_joins.specs.Settled.{is_unresolved}
 
 -- whether both sides changed one cell, and not alike
 abbrev pub cell_clashes : {C : Type 0} → (C → C → Bool) → C → C → C → Bool
@@ -78,17 +78,17 @@ pub record CellsKept {C : Type 0} (eq : C → C → Bool) (b p q rs : List C) : 
       → slice_get rs i ≡ slice_get q i
   pub merged : (i : ℕ) → option_eq eq (slice_get rs i) (merged_place eq (slice_get b i) (slice_get p i) (slice_get q i)) ≡ true
 
--- a row that all three versions have at the same length is stuck exactly where a cell is in conflict; one that a side removed, where the
--- other changed it; one that both sides added, where they are not alike; and no other row is
-pub record StuckByCellLaw {C : Type 0} (eq : C → C → Bool) : Type 0 where
+-- a row that all three versions have at the same length is unresolved exactly where a cell is in conflict; one that a side removed,
+-- where the other changed it; one that both sides added, where they are not alike; and no other row is
+pub record UnresolvedByCellLaw {C : Type 0} (eq : C → C → Bool) : Type 0 where
   pub cells : (b p q : Vec C) → same_length b.items p.items q.items ≡ true
-      → is_stuck (vec_eq eq) (can_by_cell eq) (Some b) (Some p) (Some q) ≡ cells_clash eq b.items p.items q.items
-  pub theirs_removed : (b p : Vec C) → is_stuck (vec_eq eq) (can_by_cell eq) (Some b) (Some p) None ≡ not (vec_eq eq b p)
-  pub ours_removed : (b q : Vec C) → is_stuck (vec_eq eq) (can_by_cell eq) (Some b) None (Some q) ≡ not (vec_eq eq b q)
-  pub both_added : (p q : Vec C) → is_stuck (vec_eq eq) (can_by_cell eq) None (Some p) (Some q) ≡ not (vec_eq eq p q)
-  pub one_added : (m : Option (Vec C)) → (is_stuck (vec_eq eq) (can_by_cell eq) None m None ≡ false)
-      × (is_stuck (vec_eq eq) (can_by_cell eq) None None m ≡ false)
-  pub both_removed : (m : Option (Vec C)) → is_stuck (vec_eq eq) (can_by_cell eq) m None None ≡ false
+      → is_unresolved (vec_eq eq) (can_by_cell eq) (Some b) (Some p) (Some q) ≡ cells_clash eq b.items p.items q.items
+  pub theirs_removed : (b p : Vec C) → is_unresolved (vec_eq eq) (can_by_cell eq) (Some b) (Some p) None ≡ not (vec_eq eq b p)
+  pub ours_removed : (b q : Vec C) → is_unresolved (vec_eq eq) (can_by_cell eq) (Some b) None (Some q) ≡ not (vec_eq eq b q)
+  pub both_added : (p q : Vec C) → is_unresolved (vec_eq eq) (can_by_cell eq) None (Some p) (Some q) ≡ not (vec_eq eq p q)
+  pub one_added : (m : Option (Vec C)) → (is_unresolved (vec_eq eq) (can_by_cell eq) None m None ≡ false)
+      × (is_unresolved (vec_eq eq) (can_by_cell eq) None None m ≡ false)
+  pub both_removed : (m : Option (Vec C)) → is_unresolved (vec_eq eq) (can_by_cell eq) m None None ≡ false
 
 -- the same of each row of a merged table that all three versions have
 abbrev pub KeepsCells : {K C M : Type 0} → (K → K → Ordering) → (C → C → Bool) → List (K × Vec C) → List (K × Vec C)

@@ -26,7 +26,7 @@ abbrev pub IsLookupRun : {W S K A B : Type 0} {steps : W → Option (K × A × O
 IsLookupRun found p a = (p.len ≡ a.len) × (p.whole ≡ true → a.whole ≡ true)
     × (map shown_lookup p.items ≡ map (with_found found) a.items)
 
--- z is the walk over what x was made into, beside the map m: it ends where that does, and behind each run of it stands one of that
+-- z is the walk over what x was made into, beside the map m: it ends where that does, and after each run of it stands one of that
 abbrev pub LooksUpRuns : {X I K A B M : Type 0} → (M → K → Option B) → (X → I → Type 0) → (I → Count)
     → (I → Option (K × A) → I → Type 0) → X → M → LookupJoin I M → Type 0
 LooksUpRuns {I = I} finds gives left firsts x m z = (s : I) × gives x s × (z.lefts ≡ s)

@@ -25,14 +25,14 @@ Settles can gives v (Ok w) = (test_of can v ≡ true) × ValueOf gives v w
 Settles can gives v (Err same) = (test_of can v ≡ false) × (same ≡ v)
 
 -- whether a row is in conflict and not settled
-abbrev pub is_stuck : {V : Type 0} → (V → V → Bool) → (Option V → Option V → Option V → Bool)
+abbrev pub is_unresolved : {V : Type 0} → (V → V → Bool) → (Option V → Option V → Option V → Bool)
     → Option V → Option V → Option V → Bool
-is_stuck eq can base ours theirs = is_conflict (verdict eq base ours theirs) && not (can base ours theirs)
+is_unresolved eq can base ours theirs = is_conflict (verdict eq base ours theirs) && not (can base ours theirs)
 
 -- the three values of such a row
-abbrev pub stuck_place : {V : Type 0} → (V → V → Bool) → (Option V → Option V → Option V → Bool)
+abbrev pub unresolved_place : {V : Type 0} → (V → V → Bool) → (Option V → Option V → Option V → Bool)
     → Option V → Option V → Option V → Option (EitherOrBoth V (EitherOrBoth V V))
-stuck_place eq can base ours theirs = if is_stuck eq can base ours theirs then from_places base
+unresolved_place eq can base ours theirs = if is_unresolved eq can base ours theirs then from_places base
     (from_places ours theirs) else None
 
 -- by whether a row is in conflict: a value that the rule gives, or what is merged
@@ -40,36 +40,36 @@ abbrev pub BecameBy : {V : Type 0} → Bool → (V → Type 0) → Option V → 
 BecameBy true P merged m = MatchOption m ⊥ P
 BecameBy false P merged m = m ≡ merged
 
--- what became of three places that are not stuck
+-- what became of three places that are not unresolved
 abbrev pub Became : {V : Type 0} → (V → V → Bool) → (Option V → Option V → Option V → V → Type 0)
     → Option V → Option V → Option V → Option V → Type 0
 Became eq gives base ours theirs m = BecameBy (is_conflict (verdict eq base ours theirs))
     (gives base ours theirs) (merged_place eq base ours theirs) m
 
 -- the same of a row
-abbrev pub stuck_row : {V : Type 0} → (V → V → Bool) → (Option V → Option V → Option V → Bool)
+abbrev pub unresolved_row : {V : Type 0} → (V → V → Bool) → (Option V → Option V → Option V → Bool)
     → EitherOrBoth V (EitherOrBoth V V) → Bool
-stuck_row eq can v = is_stuck eq can (left_place v) (item_left (right_place v)) (item_right (right_place v))
+unresolved_row eq can v = is_unresolved eq can (left_place v) (item_left (right_place v)) (item_right (right_place v))
 
-abbrev pub stuck : {V : Type 0} → (V → V → Bool) → (Option V → Option V → Option V → Bool)
+abbrev pub unresolved : {V : Type 0} → (V → V → Bool) → (Option V → Option V → Option V → Bool)
     → EitherOrBoth V (EitherOrBoth V V) → Option (EitherOrBoth V (EitherOrBoth V V))
-stuck eq can v = if stuck_row eq can v then Some v else None
+unresolved eq can v = if unresolved_row eq can v then Some v else None
 
 abbrev pub BecameOf : {V : Type 0} → (V → V → Bool) → (Option V → Option V → Option V → V → Type 0)
     → EitherOrBoth V (EitherOrBoth V V) → Option V → Type 0
 BecameOf eq gives v m = Became eq gives (left_place v) (item_left (right_place v)) (item_right (right_place v)) m
 
--- the same where the row is not stuck
+-- the same where the row is not unresolved
 abbrev pub BecameUnless : {V : Type 0} → (V → V → Bool) → (Option V → Option V → Option V → Bool)
     → (Option V → Option V → Option V → V → Type 0) → EitherOrBoth V (EitherOrBoth V V) → Option V → Type 0
-BecameUnless eq can gives v m = stuck_row eq can v ≡ false → BecameOf eq gives v m
+BecameUnless eq can gives v m = unresolved_row eq can v ≡ false → BecameOf eq gives v m
 
--- what came of a row: its value, if it has one, or the row itself, if it is stuck
+-- what came of a row: its value, if it has one, or the row itself, if it is unresolved
 abbrev pub Outcome : {V : Type 0} → (V → V → Bool) → (Option V → Option V → Option V → Bool)
     → (Option V → Option V → Option V → V → Type 0) → EitherOrBoth V (EitherOrBoth V V)
     → Result (Option V) (EitherOrBoth V (EitherOrBoth V V)) → Type 0
-Outcome eq can gives v (Ok m) = (stuck_row eq can v ≡ false) × BecameOf eq gives v m
-Outcome eq can gives v (Err same) = (stuck_row eq can v ≡ true) × (same ≡ v)
+Outcome eq can gives v (Ok m) = (unresolved_row eq can v ≡ false) × BecameOf eq gives v m
+Outcome eq can gives v (Err same) = (unresolved_row eq can v ≡ true) × (same ≡ v)
 
 -- a row before others, where there is a value
 abbrev pub with_row : {K W : Type 0} → K → Option W → List (K × W) → List (K × W)
@@ -83,15 +83,15 @@ KeptAs {K} {V} {W} R (z ∷ zs) rs = (m : Option W) × R z.1 m × ((ts : List (K
     × (rs ≡ with_row z.0 m ts))
 
 module _ {K : Type 0} (cmp : K → K → Ordering) where
-  -- the merged table, in which each key has what became of its three values, none of which is stuck; or the rows that are stuck, of
-  -- which there is one at least
+  -- the merged table, in which each key has what became of its three values, none of which is unresolved; or the rows that are unresolved,
+  -- of which there is one at least
   abbrev pub IsMergeWith : {V M : Type 0} → (V → V → Bool) → (Option V → Option V → Option V → Bool)
       → (Option V → Option V → Option V → V → Type 0) → List (K × V) → List (K × V) → List (K × V)
       → Merged K V M → Type 0
   IsMergeWith eq can gives b p q (Whole rs) = Rising cmp rs.items
       × ((k : K) → Became eq gives (value_under cmp b k) (value_under cmp p k) (value_under cmp q k)
       (value_under cmp rs.items k))
-      × ((k : K) → is_stuck eq can (value_under cmp b k) (value_under cmp p k) (value_under cmp q k) ≡ false)
-  IsMergeWith eq can gives b p q (Conflicts cs) = Tabulates cmp cs.items (λ k. stuck_place eq can
+      × ((k : K) → is_unresolved eq can (value_under cmp b k) (value_under cmp p k) (value_under cmp q k) ≡ false)
+  IsMergeWith eq can gives b p q (Conflicts cs) = Tabulates cmp cs.items (λ k. unresolved_place eq can
       (value_under cmp b k) (value_under cmp p k) (value_under cmp q k))
       × (0 < length cs.items)

@@ -1,7 +1,7 @@
 //! A merge of three versions of a table whose rows are lists of cells, cell by cell.
 ghost use Rattle.std.specs.Prelude.{◌≡◌, IfOk};
 ghost use Rattle.eob_lists.specs.Join.{Rising};
-ghost use Rattle.eob_joins.specs.Cells.{GivesByCell, KeepsCells, MergedRow, StuckByCellLaw, can_by_cell};
+ghost use Rattle.eob_joins.specs.Cells.{GivesByCell, KeepsCells, MergedRow, UnresolvedByCellLaw, can_by_cell};
 ghost use Rattle.eob_joins.specs.Cells.{same_length};
 ghost use Rattle.eob_joins.specs.Settled.{IsMergeWith, Settles};
 
@@ -103,6 +103,6 @@ pub fn merge_by_cell<K: Ord + Drop, C: Eq + Drop>(
 
 /// Which rows a merge by cell leaves in conflict. A row that all three versions have at one length, exactly where a cell of it is; one
 /// that a side removed, where the other changed it; one that both sides added, where they are not alike; and no other row.
-pub fn law_stuck_by_cell<C: Eq>()
-    ensures { StuckByCellLaw C.eq }
+pub fn law_unresolved_by_cell<C: Eq>()
+    ensures { UnresolvedByCellLaw C.eq }
 {}

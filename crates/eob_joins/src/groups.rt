@@ -135,7 +135,7 @@ pub fn is_ordered<K: Ord, V>(list: &[(K, V)]) -> bool
     list.is_sorted_by(|pair, next| !next.0.cmp(&pair.0).is_lt())
 }
 
-/// A list whose keys rise is ordered.
+/// A list whose keys strictly increase is ordered.
 ///
 /// Call it before [`group_join`] or [`group_by_key`] of such a list, as of the entries of an ordered map.
 ///

@@ -12,7 +12,7 @@ ghost use Rattle.eob_joins.specs.Tables.{AlikeRowsLaw, IsKeptOfJoin, KeptLaw, Ke
 ghost use Rattle.eob_joins.specs.Tables.{SameTableLaw};
 
 /// What a function keeps of the rows of a join has under each key what the function keeps of what the two lists have there, and its keys
-/// rise: so the rows are a table (`IsKeptByKey`), and may be joined again.
+/// strictly increase: so the rows are a table (`IsKeptByKey`), and may be joined again.
 ///
 /// A join of a caller's own, `outer_join_lazily(left, right).filter_map(f).collect(alloc)`, stands in a function that says
 /// `IsKeptOfJoin` of its rows. Who calls that function calls this law with the rows that it got, and knows them by look-ups.
@@ -34,8 +34,8 @@ pub fn law_kept_join<K: Ord, A, B, W>(rows: &[(K, W)])
     ensures rises { Rising K.cmp rows.now }
 {}
 
-/// What a function keeps of the rows of any table whose keys rise has under each key what the function keeps of what the table has
-/// there.
+/// What a function keeps of the rows of any table whose keys strictly increase has under each key what the function keeps of what the table
+/// has there.
 ///
 /// Call it before a table is filtered or mapped row by row, where the answer is to be known by look-ups.
 ///
@@ -51,8 +51,8 @@ pub fn law_kept<K: Ord, V, W>()
     ensures { KeptLaw K.cmp V W }
 {}
 
-/// Where keys that count as equal are equal, a function of keys has one table: two lists whose keys rise and which have the same
-/// under each key are equal. Of other keys, such as texts and vectors, [`law_same_rows`] says it.
+/// Where keys that count as equal are equal, a function of keys has one table: two lists whose keys strictly increase and which have the
+/// same under each key are equal. Of other keys, such as texts and vectors, [`law_same_rows`] says it.
 ///
 /// Call it where two tables that were made in two ways are to be equal, as lists.
 ///
@@ -70,8 +70,8 @@ pub fn law_same_table<K: Ord, V>()
     ensures { SameTableLaw K.cmp V }
 {}
 
-/// A function of keys has one table, as far as keys count as equal: two lists whose keys rise and which have the same under each key
-/// have, pair by pair, keys that count as equal and the same values.
+/// A function of keys has one table, as far as keys count as equal: two lists whose keys strictly increase and which have the same under
+/// each key have, pair by pair, keys that count as equal and the same values.
 ///
 /// Equal texts and equal vectors need not be one value to the checker, since each has room of its own: of such keys this law speaks, and
 /// [`law_same_table`] doesn't. Call it where two tables are to be the same, as far as that can be seen.
@@ -89,8 +89,8 @@ pub fn law_same_rows<K: Ord, V>()
     ensures { SameRowsLaw K.cmp V }
 {}
 
-/// Two lists whose keys rise, and whose values under each key count as equal, count as equal pair by pair: their keys, and their
-/// values.
+/// Two lists whose keys strictly increase, and whose values under each key count as equal, count as equal pair by pair: their keys, and
+/// their values.
 ///
 /// Call it in place of [`law_same_rows`] where values are texts or vectors too, as in a table that was patched.
 ///
@@ -203,7 +203,7 @@ pub fn law_join_copy<K: Ord, V: Eq>()
 {}
 
 /// Three lists joined, the first with the join of the two others: each key has exactly what the three lists have there, and the keys
-/// rise.
+/// strictly increase.
 ///
 /// Call it before the joins are made, where the whole table is wanted. A caller that wants the look-ups alone needs no law for them.
 ///
@@ -224,7 +224,7 @@ pub fn law_right_nested_join<K: Ord, A, B, C>()
 {}
 
 /// Three lists joined, the join of the first two with the third: each key has exactly what the three lists have there, and the keys
-/// rise.
+/// strictly increase.
 ///
 /// Call it before the joins are made, where the whole table is wanted.
 ///

@@ -138,7 +138,7 @@ fn in_layer<K: Drop, V: Drop>(layer: usize, entry: (K, V)) -> (K, Layered<V>)
     (key, Layered { layer, value })
 }
 
-/// Returns the entries of an ordered map as a list, whose keys rise.
+/// Returns the entries of an ordered map as a list, whose keys strictly increase.
 pub(crate) fn entries<K: Ord + Drop, V: Drop, M: Allocator>(
     alloc: M,
     map: BTreeMap<K, V, M>,

@@ -1,120 +1,65 @@
-//! A slice whose keys are ordered as its parts, each key once with the pairs that have it, and the full outer join of two such slices:
-//! by reference, with no memory.
-ghost use Rattle.std.specs.Prelude.{◌≡◌, ◌≤◌, IfSome, length, ⊤};
-ghost use Rattle.std.specs.Iterator.{IsFinite, UpTo, YieldsFirstBy, item_count};
-ghost use Rattle.std.specs.Iterator.Runs.{EachRunFrom};
-ghost use Rattle.std.specs.Iterator.SizeHint.{IsWithinCount};
-ghost use Rattle.std.specs.List.{prefix_len};
-ghost use Rattle.std.specs.Map.Iter.{deref_pair};
-ghost use Rattle.std.specs.Ordering.{is_eq};
-ghost use Rattle.eob_lists.specs.OuterJoin.{ShowsJoin, join_can, join_remaining, join_steps};
-ghost use Rattle.eob_joins.specs.Groups.{Ordered};
-ghost use Rattle.eob_joins.specs.Parts.{AreParts, ShowsParts, parts_left, parts_of};
+//! Joins of tables that are cut into parts: the parts are joined apart, and one after the other they are the join of the whole.
+//!
+//! `law_cut_join` says it of two parts; here it is said of any number of them, of joins and of what is kept of joins. A merge of three
+//! versions whose parts are whole is the merge of the wholes.
+ghost use Rattle.eob_joins.specs.Parts.{CutJoinsLaw, CutKeptLaw, CutMadeLaw};
 
-use eob_lists::join::{OuterJoin, outer_join_lazily};
-use std::iter::FusedIterator;
-
-/// An iterator over the keys of a slice of pairs, each key once with the part of the slice that has it. Made by [`groups_of`].
-#[must_use = "iterators are lazy and do nothing unless consumed"]
-#[derive(Debug, Drop)]
-pub struct GroupRefs<'a, K, V> {
-    rest: &'a [(K, V)],
-}
-
-impl<'a, K: Ord, V> Iterator for GroupRefs<'a, K, V> {
-    type Item = (&'a K, &'a [(K, V)]);
-
-    ghost next_gives = { YieldsFirstBy deref_pair (parts_left K.cmp) };
-
-    ghost remaining = { item_count (parts_left K.cmp) };
-
-    fn next(&mut self) -> Option<(&'a K, &'a [(K, V)])> {
-        match self.rest.split_first() {
-            Some((first, others)) => {
-                let (_, rest) = others.split_at(run_length(&first.0, others));
-                let (part, _) = self.rest.split_at(self.rest.len() - rest.len());
-                self.rest = rest;
-                Some((&first.0, part))
-            }
-            None => None,
-        }
-    }
-
-    // One part at least where a pair is left, and no more parts than pairs.
-    fn size_hint(&self) -> (usize, Option<usize>)
-        ensures lower { IsWithinCount result.0 (item_count (parts_left K.cmp) self.now) }
-        ensures upper { IfSome result.1 (UpTo (item_count (parts_left K.cmp) self.now)) }
-    {
-        (self.rest.len().min(1), Some(self.rest.len()))
-    }
-}
-
-impl<'a, K: Ord, V> FusedIterator for GroupRefs<'a, K, V> {}
-
-/// Returns an iterator over the groups of a slice whose keys are ordered: each key once, in order, with the part of the slice that has
-/// it. Takes no memory. The caller must prove that the keys are ordered, which [`is_ordered`](crate::is_ordered) tests.
+/// Two tables that are cut into as many parts: where each key of a part of either table is less than each key of a later part of either
+/// (`AreCut`), and each list is the join of the parts at its place, these lists, one after the other, are the join of the two tables.
+///
+/// Parts of which this holds are made by boundaries: a row is in the part whose number is how many boundaries are not above its key. Call
+/// the law before the parts are put together.
 ///
 /// # Examples
 ///
 /// ```
-/// let list = [(1, 'a'), (1, 'b'), (3, 'c')];
-/// assert!(rt; is_ordered(&list));
-/// let mut groups = groups_of(&list);
-/// assert!(rt; groups.next() == Some((&1, &list[..2])));
-/// assert!(rt; groups.next() == Some((&3, &list[2..])));
-/// assert!(rt; groups.next().is_none());
+/// law_cut_joins::<u32, char, char>();
+/// let (low_left, low_right) = (vec![in alloc; (1, 'a')]?, vec![in alloc; (2, 'x')]?);
+/// let (high_left, high_right) = (vec![in alloc; (3, 'b')]?, vec![in alloc; (3, 'y')]?);
+/// assert!(rt; is_rising(&low_left) && is_rising(&low_right));
+/// assert!(rt; is_rising(&high_left) && is_rising(&high_right));
+/// let mut rows = outer_join(alloc, low_left, low_right)?;
+/// rows.extend(outer_join(alloc, high_left, high_right)?)?;
+/// assert!(rt; rows.len() == 3);
 /// ```
-pub fn groups_of<K: Ord, V>(list: &[(K, V)]) -> GroupRefs<'_, K, V>
-    requires { Ordered K.cmp list.now }
-    ensures rest { parts_left K.cmp result ≡ parts_of K.cmp list.now }
-    ensures parts { AreParts K.cmp list.now (parts_of K.cmp list.now) }
-    ensures runs { EachRunFrom (YieldsFirstBy deref_pair (parts_left K.cmp)) result
-        (λ p. ShowsParts K.cmp list.now p) }
-{
-    GroupRefs { rest: list }
-}
+pub fn law_cut_joins<K: Ord, A, B>()
+    ensures { CutJoinsLaw K.cmp A B }
+{}
 
-/// Returns an iterator over the full outer join of two slices whose keys are ordered and may repeat: each key of either
-/// slice once, in order, with the part of the left slice that has it as left place and that of the right slice as right place. Takes
-/// no memory. The caller must prove that the keys are ordered, which [`is_ordered`](crate::is_ordered) tests.
+/// The same of what a function keeps of the rows of a join: an inner, left, right, semi or anti join, changes, and a table with changes
+/// made to it are such (`IsKeptOfJoin`).
 ///
 /// # Examples
 ///
 /// ```
-/// let left = [(1, 'a'), (1, 'b'), (3, 'c')];
-/// let right = [(1, 'x'), (2, 'y')];
-/// assert!(rt; is_ordered(&left) && is_ordered(&right));
-/// let mut rows = group_join_slices(&left, &right);
-/// assert!(rt; rows.next() == Some((&1, Both(&left[..2], &right[..1]))));
-/// assert!(rt; rows.next() == Some((&2, Right(&right[1..]))));
-/// assert!(rt; rows.next() == Some((&3, Left(&left[2..]))));
-/// assert!(rt; rows.next().is_none());
+/// law_cut_kept::<u32, char, char, (char, char)>();
+/// let (low_left, low_right) = (vec![in alloc; (1, 'a')]?, vec![in alloc; (2, 'x')]?);
+/// let (high_left, high_right) = (vec![in alloc; (3, 'b')]?, vec![in alloc; (3, 'y')]?);
+/// assert!(rt; is_rising(&low_left) && is_rising(&low_right));
+/// assert!(rt; is_rising(&high_left) && is_rising(&high_right));
+/// let mut rows = inner_join(alloc, low_left, low_right)?;
+/// rows.extend(inner_join(alloc, high_left, high_right)?)?;
+/// assert_eq!(rt; rows, vec![in alloc; (3, ('b', 'y'))]?);
 /// ```
-pub fn group_join_slices<'a, K: Ord, A, B>(
-    left: &'a [(K, A)],
-    right: &'a [(K, B)],
-) -> OuterJoin<GroupRefs<'a, K, A>, GroupRefs<'a, K, B>>
-    requires left { Ordered K.cmp left.now }
-    requires right { Ordered K.cmp right.now }
-    ensures left { AreParts K.cmp left.now (parts_of K.cmp left.now) }
-    ensures right { AreParts K.cmp right.now (parts_of K.cmp right.now) }
-    ensures can { join_can (λ _. ⊤) (λ _. ⊤) result }
-    ensures finite { IsFinite
-        (join_remaining (item_count (parts_left K.cmp)) (item_count (parts_left K.cmp)) result) }
-    ensures runs { EachRunFrom
-        (join_steps (λ j k. K.cmp j.now k.now)
-        (YieldsFirstBy deref_pair (parts_left K.cmp)) (YieldsFirstBy deref_pair (parts_left K.cmp)))
-        result (λ p. ShowsJoin K.cmp (parts_of K.cmp left.now) (parts_of K.cmp right.now) p) }
-{
-    outer_join_lazily(groups_of(left), groups_of(right))
-}
+pub fn law_cut_kept<K: Ord, A, B, W>()
+    ensures { CutKeptLaw K.cmp A B W }
+{}
 
-// How many pairs at the front have the key.
-fn run_length<K: Ord, V>(key: &K, list: &[(K, V)]) -> usize
-    ensures count { result ≡ prefix_len (λ x. is_eq (K.cmp key.now x.0)) list.now }
-    ensures bound { result ≤ length list.now }
-{
-    list.iter()
-        .take_while(|pair| key.cmp(&pair.0).is_eq())
-        .count()
-}
+/// The same of three tables, and of what a function makes of what they have under each key: `merge_versions` is such, by `merged_place`. The
+/// function makes nothing of nothing.
+///
+/// Where all parts of a merge are whole, they are, one after the other, the merge of the wholes. Call the law where they are put together.
+///
+/// # Examples
+///
+/// ```
+/// law_cut_made::<u32, char, char, char, char>();
+/// let (base, ours) = (vec![in alloc; (1, 'a')]?, vec![in alloc; (1, 'b')]?);
+/// let theirs = vec![in alloc; (1, 'a')]?;
+/// assert!(rt; is_rising(&base) && is_rising(&ours) && is_rising(&theirs));
+/// let whole = Merged::Whole(vec![in alloc; (1, 'b')]?);
+/// assert_eq!(rt; merge_versions(alloc, base, ours, theirs)?, whole);
+/// ```
+pub fn law_cut_made<K: Ord, A, B, C, W>()
+    ensures { CutMadeLaw K.cmp A B C W }
+{}

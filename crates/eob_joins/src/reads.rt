@@ -1,5 +1,5 @@
-//! What is read off the join of two lists whose keys rise: inner, left, right, semi and anti join. Each is one line over the lazy full
-//! outer join, and says by look-ups what it returns.
+//! What is read off the join of two lists whose keys strictly increase: inner, left, right, semi and anti join. Each is one line over the
+//! lazy full outer join, and says by look-ups what it returns.
 ghost use Rattle.std.specs.Prelude.{◌≡◌, IfOk, option_map};
 ghost use Rattle.eob_lists.specs.Join.{Rising};
 ghost use Rattle.eob_joins.specs.Tables.{IsAntiJoin, IsInnerJoin, IsKeptOfJoin, IsLeftJoin, IsRightJoin};

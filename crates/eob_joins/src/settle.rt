@@ -3,7 +3,7 @@ ghost use Rattle.std.specs.Prelude.{◌≡◌, ◌==◌, Bool, IfOk, Option, len
 ghost use Rattle.eob_lists.specs.Join.{Rising};
 ghost use Rattle.eob_joins.specs.Tables.{kept};
 ghost use Rattle.eob_joins.specs.Settled.{BecameUnless, IsMergeWith, KeptAs, Outcome, Settles};
-ghost use Rattle.eob_joins.specs.Settled.{stuck};
+ghost use Rattle.eob_joins.specs.Settled.{unresolved};
 
 use crate::versions::{Merged, Versions, is_in_conflict, join_versions, merged_value};
 use std::alloc::{AllocError, Allocator};
@@ -78,7 +78,7 @@ fn are_none<T>(rows: &[T]) -> bool
 
 type Rows<K, V, M> = Vec<(K, V), M>;
 
-// The rows that are not stuck, each with what became of it, and those that are.
+// The rows that are not unresolved, each with what became of it, and those that are.
 fn settled_rows<K: Drop, V: Eq + Drop, S: Settle<V>, M: Allocator + Copy>(
     alloc: M,
     rows: Rows<K, Versions<V>, M>,
@@ -86,7 +86,7 @@ fn settled_rows<K: Drop, V: Eq + Drop, S: Settle<V>, M: Allocator + Copy>(
 ) -> Result<(Rows<K, V, M>, Rows<K, Versions<V>, M>), AllocError>
     ensures whole { IfOk result (λ r. KeptAs (BecameUnless V.eq (S.can settle.now) (S.gives settle.now))
         rows.items r.0.items) }
-    ensures found { IfOk result (λ r. r.1.items ≡ kept (stuck V.eq (S.can settle.now)) rows.items) }
+    ensures found { IfOk result (λ r. r.1.items ≡ kept (unresolved V.eq (S.can settle.now)) rows.items) }
 {
     let mut whole = Vec::new(alloc);
     let mut found = Vec::new(alloc);

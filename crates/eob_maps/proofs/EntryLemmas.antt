@@ -1,4 +1,4 @@
--- A list whose keys rise, inserted pair by pair: the entries are the list.
+-- A list whose keys strictly increase, inserted pair by pair: the entries are the list.
 use Rattle.std.proofs.Common.{◌≡◌, ◌∙◌, List, [], ◌∷◌, ◌++◌, Option, append_assoc, append-nil, refl, sym, ap, ap₂, subst}
 use Rattle.std.specs.Prelude.{⊤}
 use Rattle.std.specs.BTreeMap.{insert_entry}

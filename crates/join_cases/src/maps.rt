@@ -9,7 +9,7 @@ use indexmap::IndexMap;
 use std::alloc::Global;
 use std::collections::{BTreeMap, HashMap};
 
-/// What a call on maps returns. Of a call by whose maps it differs, the name of the map stands behind it.
+/// What a call on maps returns. Of a call by whose maps it differs, the name of the map stands after it.
 pub fn returned(alloc: Global, call: &str, tables: &str) -> Result<String, Wrong> {
     if call == "overlay_maps" {
         return layered(alloc, tables);

@@ -2,7 +2,7 @@
 
 use crate::form::files_of;
 use crate::help::example_of;
-use crate::numbers::{put_numbers, tolerance_of};
+use crate::numbers::{put_numbers, sameness_of};
 use crate::terminal::{Terminal, width_of, width_option};
 use crate::view::{all_columns, colours_of, columns_shown, picked_of, put_ignore};
 use crate::{
@@ -138,7 +138,7 @@ pub fn git_asked<'a>(
 
 // How git is told of the other two, whose options are those that they take.
 fn setup_asked<'a>(alloc: Global, matches: &ArgMatches<'a>) -> Result<GitSetup<'a>, ParseError> {
-    let merging = merge_of_path("-", merging_by(matches)?);
+    let merging = merge_of_path("-", merging_by(alloc, matches)?);
     settings_in_order(alloc, matches, merging)?;
     comparing_by(alloc, matches, Format::Csv)?;
     let merge = options_of(alloc, matches)?;
@@ -167,7 +167,9 @@ fn options_of(alloc: Global, matches: &ArgMatches<'_>) -> Result<Vec<String>, Al
     for (name, _) in &FLAGS {
         put_flag(alloc, &mut words, matches, name)?;
     }
-    put_flag(alloc, &mut words, matches, "numbers")?;
+    for name in ["numbers", "ignore-case", "trim"] {
+        put_flag(alloc, &mut words, matches, name)?;
+    }
     put_text(alloc, &mut words, matches, "tolerance")?;
     Ok(words)
 }
@@ -232,7 +234,7 @@ fn comparing_by<'a>(
             columns: picked_of(alloc, matches)?,
             ..View::WHOLE
         },
-        tolerance: tolerance_of(matches)?,
+        sameness: sameness_of(alloc, matches)?,
     })
 }
 
@@ -277,7 +279,7 @@ fn versions_asked<'a>(
 fn merge_asked<'a>(alloc: Global, matches: &ArgMatches<'a>) -> Result<Asked<'a>, ParseError> {
     let ours = file_of(matches, "OURS");
     let path = matches.get_str("PATH");
-    let how = merging_by(matches)?;
+    let how = merging_by(alloc, matches)?;
     let named = merge_of_path(path.unwrap_or(ours), how);
     Ok(Asked::GitMerge {
         settings: settings_in_order(alloc, matches, named)?,
@@ -292,9 +294,9 @@ fn merge_asked<'a>(alloc: Global, matches: &ArgMatches<'a>) -> Result<Asked<'a>,
 }
 
 // How versions are merged: as git merges texts, and perhaps with numbers by value.
-fn merging_by<'a>(matches: &ArgMatches<'a>) -> Result<Merging<'a>, ParseError> {
+fn merging_by<'a>(alloc: Global, matches: &ArgMatches<'a>) -> Result<Merging<'a>, ParseError> {
     Ok(Merging {
-        tolerance: tolerance_of(matches)?,
+        sameness: sameness_of(alloc, matches)?,
         ..Merging::AS_GIT
     })
 }

@@ -8,8 +8,11 @@ pub fn group_of(option: &str) -> Option<&'static str> {
         | "keep-order"
         | "sorted"
         | "rename"
+        | "reverse"
         | "numbers"
         | "tolerance"
+        | "ignore-case"
+        | "trim"
         | "kind"
         | "by-cell"
         | "cells" => Some("Which rows are the same, and which come out"),

@@ -24,8 +24,8 @@ use keyed_columns::key_names;
 use keyed_cut::Cut;
 use keyed_faults::Reason;
 use keyed_requests::{
-    Asked, Colours, Command, Comparing, Format, Heading, JoinNames, Joining, Kind, Look, Request,
-    RowFormat, RowsShown, Settings, SortedChanges, SortedRequest, Wanted,
+    Asked, Colours, Command, Comparing, Direction, Format, Heading, JoinNames, Joining, Kind, Look,
+    Picked, Request, RowFormat, RowsShown, Settings, SortedChanges, SortedRequest, Wanted,
 };
 use merging::{merging_of, put_merging};
 use more::{lookup_of, overlay_of};
@@ -258,10 +258,16 @@ fn sorted_of(request: Request<'_>, wanted: Wanted) -> Result<SortedRequest<'_>, 
 fn sorted_changes(how: Comparing<'_>, wanted: Wanted) -> Result<SortedChanges<'_>, ParseError> {
     let json = SortedChanges::Json {
         columns: how.view.columns,
-        tolerance: how.tolerance,
+        sameness: how.sameness,
     };
     match (how.format, wanted) {
-        (Format::Csv, _) => Ok(SortedChanges::Csv),
+        (Format::Csv, _) => match how.view.columns {
+            Picked::All => Ok(SortedChanges::Csv),
+            Picked::Only(_) | Picked::AllBut(_) => Err(ParseError::Value {
+                option: "ignore",
+                wrong: "not with --format csv and --sorted: leave out --sorted",
+            }),
+        },
         (Format::Report(_), Wanted::Status) => Ok(json),
         (Format::Report(Look::Json), Wanted::Answer) => match how.view.rows {
             RowsShown::All => Ok(json),
@@ -284,12 +290,13 @@ fn request_of<'a>(
         "apply" => Request::Apply {
             old: file_of(matches, "OLD"),
             changes: file_of(matches, "CHANGES"),
+            direction: direction_of(matches),
         },
         "merge" => Request::Merge {
             base: file_of(matches, "BASE"),
             ours: file_of(matches, "OURS"),
             theirs: file_of(matches, "THEIRS"),
-            how: merging_of(matches)?,
+            how: merging_of(alloc, matches)?,
         },
         "join" => Request::Join {
             left: file_of(matches, "LEFT"),
@@ -306,6 +313,15 @@ fn request_of<'a>(
             how: comparing_of(alloc, matches, terminal)?,
         },
     })
+}
+
+// Which way changes are made.
+fn direction_of(matches: &ArgMatches<'_>) -> Direction {
+    if matches.get_flag("reverse") {
+        Direction::Backward
+    } else {
+        Direction::Forward
+    }
 }
 
 // How the rows of a join are written.
@@ -542,6 +558,7 @@ fn put_options<'a>(alloc: Global, args: &mut Vec<Arg<'a>>, name: &str) -> Result
             put(args, sorted(alloc)?)
         }
         "apply" => {
+            put(args, reverse(alloc))?;
             put(args, choice(alloc, REPORT))?;
             put_renames(alloc, args)?;
             put(args, quiet(alloc)?)
@@ -568,6 +585,14 @@ fn put_options<'a>(alloc: Global, args: &mut Vec<Arg<'a>>, name: &str) -> Result
         "overlay" => put(args, cells(alloc)?),
         _ => Ok(()),
     }
+}
+
+fn reverse<'a>(alloc: Global) -> Arg<'a> {
+    flag(
+        alloc,
+        "reverse",
+        "The changes are taken back: OLD is the table that they made",
+    )
 }
 
 fn prefix<'a>(alloc: Global) -> Arg<'a> {

@@ -1,6 +1,6 @@
 //! The options of a merge.
 
-use crate::numbers::tolerance_of;
+use crate::numbers::sameness_of;
 use crate::{OneOf, ParseError, choice, flag, one_of, put};
 use clap::{Arg, ArgMatches};
 use keyed_requests::{Conflicts, Merging, Side, Unit};
@@ -24,8 +24,8 @@ const PREFER: OneOf = OneOf {
 ///
 /// # Errors
 ///
-/// Returns a `ParseError::Value` if what is given for a tolerance is none.
-pub fn merging_of<'a>(matches: &ArgMatches<'a>) -> Result<Merging<'a>, ParseError> {
+/// Returns a `ParseError` if what is given for a tolerance is none.
+pub fn merging_of<'a>(alloc: Global, matches: &ArgMatches<'a>) -> Result<Merging<'a>, ParseError> {
     Ok(Merging {
         unit: if matches.get_flag("by-cell") {
             Unit::Cell
@@ -33,7 +33,7 @@ pub fn merging_of<'a>(matches: &ArgMatches<'a>) -> Result<Merging<'a>, ParseErro
             Unit::Row
         },
         conflicts: conflicts_of(matches),
-        tolerance: tolerance_of(matches)?,
+        sameness: sameness_of(alloc, matches)?,
     })
 }
 

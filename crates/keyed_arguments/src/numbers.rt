@@ -1,9 +1,26 @@
-//! The options by which cells that are numbers are compared by value.
+//! The options by which cells are not compared as they stand.
 
 use crate::{ParseError, flag, put, text};
 use clap::{Arg, ArgMatches};
-use keyed_numbers::Decimal;
+use keyed_columns::Tolerances;
+use keyed_requests::Sameness;
 use std::alloc::{AllocError, Global};
+
+// The options that take no text, each with its help.
+static FLAGS: [(&str, &str); 3] = [
+    (
+        "numbers",
+        "Cells that are numbers, but not keys, are compared by value: 1.0 is 1",
+    ),
+    (
+        "ignore-case",
+        "Cells, but not keys, are compared with case folded, as Unicode has it",
+    ),
+    (
+        "trim",
+        "White space around cells, but not keys, is not compared",
+    ),
+];
 
 /// Puts the options after others.
 ///
@@ -11,53 +28,63 @@ use std::alloc::{AllocError, Global};
 ///
 /// Returns `AllocError` if a request for memory was refused.
 pub fn put_numbers(alloc: Global, args: &mut Vec<Arg<'_>>) -> Result<(), AllocError> {
-    let numbers = "Cells that are numbers, but not keys, are compared by value: 1.0 is 1";
+    for (name, help) in &FLAGS {
+        put(args, flag(alloc, name, help).conflicts_with("group")?)?;
+    }
+    let tolerance = "With --numbers, two of no more than X between them are the same; 0 else";
     put(
         args,
-        flag(alloc, "numbers", numbers).conflicts_with("group")?,
-    )?;
-    let tolerance = "With --numbers, two of no more than this between them are the same; 0 else";
-    put(args, text(alloc, "tolerance", "X", tolerance))
+        text(alloc, "tolerance", "X|COLUMN=X[,COLUMN=X..]", tolerance),
+    )
 }
 
-/// How far apart numbers may be that count as the same, where cells that are numbers are compared by value.
+/// The first of the options that take no text that is given.
+pub fn first_given(matches: &ArgMatches<'_>) -> Option<&'static str> {
+    for (name, _) in &FLAGS {
+        if matches.get_flag(name) {
+            return Some(name);
+        }
+    }
+    None
+}
+
+/// How cells are compared, where it is not as they stand.
 ///
 /// # Errors
 ///
-/// Returns a `ParseError::Value` if what is given is no number of 0 or more, or is given where cells are compared as they stand.
-pub fn tolerance_of<'a>(matches: &ArgMatches<'a>) -> Result<Option<Decimal<'a>>, ParseError> {
+/// Returns a `ParseError::Names` if what is given for a tolerance is none, and a `ParseError::Value` if numbers are not compared by value.
+pub fn sameness_of<'a>(
+    alloc: Global,
+    matches: &ArgMatches<'a>,
+) -> Result<Option<Sameness<'a>>, ParseError> {
+    let tolerance = tolerance_of(matches)?;
+    if first_given(matches).is_none() {
+        return Ok(None);
+    }
+    let sameness = Some(Sameness {
+        tolerance,
+        trims: matches.get_flag("trim"),
+        folds_case: matches.get_flag("ignore-case"),
+    });
+    match Tolerances::new(alloc, sameness) {
+        Ok(_) => Ok(sameness),
+        Err(reason) => Err(ParseError::Names {
+            option: "tolerance",
+            reason,
+        }),
+    }
+}
+
+// The text of tolerances, where numbers are compared by value.
+fn tolerance_of<'a>(matches: &ArgMatches<'a>) -> Result<Option<&'a str>, ParseError> {
     let by_number = matches.get_flag("numbers");
     match matches.get_str("tolerance") {
-        Some(text) if by_number => match Decimal::parse(text.as_bytes()) {
-            Some(tolerance) if !tolerance.is_negative() => Ok(Some(tolerance)),
-            Some(_) => Err(wrong("not a number of 0 or more")),
-            None if has_long_power(text) => {
-                Err(wrong("a power of ten of more than four digits"))
-            }
-            None => Err(wrong("not a number of 0 or more")),
-        },
-        Some(_) => Err(wrong("needs --numbers")),
-        None if by_number => Ok(Some(Decimal::ZERO)),
+        Some(tolerance) if by_number => Ok(Some(tolerance)),
+        Some(_) => Err(ParseError::Value {
+            option: "tolerance",
+            wrong: "needs --numbers",
+        }),
+        None if by_number => Ok(Some("0")),
         None => Ok(None),
-    }
-}
-
-// Whether a text would be a number if its power of ten had no more than four digits.
-fn has_long_power(text: &str) -> bool {
-    match text.split_once(['e', 'E']) {
-        Some((digits, power)) => {
-            let power = power.trim_start_matches(['-', '+']);
-            Decimal::parse(digits.as_bytes()).is_some()
-                && power.len() > 4
-                && power.bytes().all(|byte| byte.is_ascii_digit())
-        }
-        None => false,
-    }
-}
-
-fn wrong(why: &'static str) -> ParseError {
-    ParseError::Value {
-        option: "tolerance",
-        wrong: why,
     }
 }

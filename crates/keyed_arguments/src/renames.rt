@@ -28,7 +28,7 @@ pub fn put_renames(alloc: Global, args: &mut Vec<Arg<'_>>) -> Result<(), AllocEr
 /// # Errors
 ///
 /// Returns `ParseError::Names` if what is given is no names of columns, and `ParseError::Value` if a column has no other name, or tables are
-/// read as they rise.
+/// read in the order of their keys.
 pub fn renames_of<'a>(
     alloc: Global,
     matches: &ArgMatches<'a>,

@@ -1,12 +1,13 @@
 //! How two tables are compared, and what a report shows of the changes.
 
-use crate::numbers::tolerance_of;
+use crate::numbers::{first_given, sameness_of};
 use crate::terminal::{Terminal, width_of, width_option};
 use crate::{ParseError, flag, put, text};
 use clap::{Arg, ArgMatches};
 use keyed_columns::key_names;
-use keyed_numbers::Decimal;
-use keyed_requests::{Colours, ColumnsShown, Comparing, Format, Look, Picked, RowsShown, View};
+use keyed_requests::{
+    Colours, ColumnsShown, Comparing, Format, Look, Picked, RowsShown, Sameness, View,
+};
 use std::alloc::{AllocError, Global};
 
 // The options that leave something out and take a text: the name of each, what stands for the text in the help, and its help.
@@ -19,7 +20,7 @@ static PARTS: [(&str, &str, &str); 3] = [
     (
         "ignore",
         "COLUMN[,COLUMN..]",
-        "The columns that are neither compared nor shown",
+        "The columns that are not compared, nor shown but in CSV",
     ),
     (
         "limit",
@@ -103,24 +104,30 @@ pub fn comparing_of<'a>(
     if matches.get_str("format") == Some("json") {
         check_each_row(view.rows)?;
     }
-    let tolerance = tolerance_of(matches)?;
+    let sameness = sameness_of(alloc, matches)?;
     Ok(Comparing {
-        format: format_of(matches, view.columns, tolerance, terminal),
+        format: format_of(matches, view.columns, sameness, terminal),
         view,
-        tolerance,
+        sameness,
     })
 }
 
-// Tells that nothing is left out of changes as CSV.
+// Tells that nothing is left out of changes as CSV, but those of rows that differ in columns alone that are ignored.
 fn check_whole(matches: &ArgMatches<'_>) -> Result<(), ParseError> {
-    if matches.get_flag("numbers") {
+    if let Some(option) = first_given(matches) {
         return Err(ParseError::Value {
-            option: "numbers",
+            option,
             wrong: "not with --format csv: the changes that apply takes are of cells as they stand",
         });
     }
+    if matches.get_str("ignore").is_some() && matches.get_flag("group") {
+        return Err(ParseError::Value {
+            option: "ignore",
+            wrong: "not with --format csv and --group: a group changes as a whole",
+        });
+    }
     for (option, _, _) in &PARTS {
-        if matches.get_str(option).is_some() {
+        if *option != "ignore" && matches.get_str(option).is_some() {
             return Err(ParseError::Value {
                 option,
                 wrong: "not with --format csv: a part of the changes is no patch that apply takes",
@@ -164,10 +171,10 @@ fn check_each_row(rows: RowsShown) -> Result<(), ParseError> {
 fn format_of(
     matches: &ArgMatches<'_>,
     picked: Picked<'_>,
-    tolerance: Option<Decimal<'_>>,
+    sameness: Option<Sameness<'_>>,
     terminal: Terminal,
 ) -> Format {
-    if matches.get_flag("quiet") && matches!(picked, Picked::All) && tolerance.is_none() {
+    if matches.get_flag("quiet") && matches!(picked, Picked::All) && sameness.is_none() {
         return Format::Csv;
     }
     match matches.get_str("format") {

@@ -8,7 +8,7 @@ use testkit::process::Sink;
 /// A command line of `keyed`.
 #[derive(Drop)]
 pub struct Command {
-    /// The words behind the name of the program.
+    /// The words after the name of the program.
     pub words: Vec<Vec<u8>>,
     /// What the variable `NO_COLOR` is set to.
     pub no_color: Option<Vec<u8>>,
@@ -26,7 +26,7 @@ enum Role {
     // The name of the program is to come.
     Program,
     Word,
-    // Behind `<`, `>` and `|`.
+    // After `<`, `>` and `|`.
     Input,
     Output,
     Reader,
@@ -36,7 +36,7 @@ const NO_COLOR: &[u8] = b"NO_COLOR=";
 
 const COLUMNS: &[u8] = b"COLUMNS=";
 
-/// What a line says that stands behind `$`.
+/// What a line says that stands after `$`.
 ///
 /// # Errors
 ///

@@ -7,7 +7,7 @@ use crate::wrong::Wrong;
 use std::alloc::Global;
 use testkit::disk::Trouble;
 
-/// Does what a line says: a directive, or a line behind `|` of what a file or the standard input holds.
+/// Does what a line says: a directive, or a line after `|` of what a file or the standard input holds.
 ///
 /// # Errors
 ///
@@ -38,7 +38,7 @@ fn put_line(alloc: Global, room: &mut Room, line: &str) -> Result<(), Wrong> {
     room.put(&meant.bytes)
 }
 
-// A line for each number of a range, with what stands before and behind the number, and how many digits this has.
+// A line for each number of a range, with what stands before and after the number, and how many digits this has.
 #[derive(Clone, Copy)]
 struct Numbered<'l> {
     first: usize,

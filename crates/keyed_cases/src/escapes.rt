@@ -1,4 +1,4 @@
-//! How bytes stand in case files and in transcripts: text as it is, and what a person would not see as an escape behind a backslash. A
+//! How bytes stand in case files and in transcripts: text as it is, and what a person would not see as an escape after a backslash. A
 //! backslash at the end of a line says that no line end follows.
 
 use crate::wrong::Wrong;
@@ -21,7 +21,7 @@ pub struct Text {
 /// Returns `Line` if an escape is none, and `Io` if a request for memory was refused.
 pub fn meant(alloc: Global, text: &str) -> Result<Text, Wrong> {
     let mut bytes = Vec::new(alloc);
-    // Whether what comes is no escape: it is the beginning, or behind a backslash that another escapes.
+    // Whether what comes is no escape: it is the beginning, or after a backslash that another escapes.
     let mut is_plain = true;
     let mut is_joined = false;
     for part in text.split('\\') {
@@ -44,7 +44,7 @@ pub fn meant(alloc: Global, text: &str) -> Result<Text, Wrong> {
     Ok(Text { bytes, is_joined })
 }
 
-// Puts what a text means that stands behind a backslash.
+// Puts what a text means that stands after a backslash.
 fn put_escaped(alloc: Global, bytes: &mut Vec<u8>, text: &str) -> Result<(), Wrong> {
     if let Some(number) = text.strip_prefix("u{") {
         return put_character(alloc, bytes, number);
@@ -63,7 +63,7 @@ fn put_escaped(alloc: Global, bytes: &mut Vec<u8>, text: &str) -> Result<(), Wro
     Ok(())
 }
 
-// Puts a character by its number, which ends with a brace, and what stands behind.
+// Puts a character by its number, which ends with a brace, and what stands after.
 fn put_character(alloc: Global, bytes: &mut Vec<u8>, text: &str) -> Result<(), Wrong> {
     if let Some((number, rest)) = text.split_once('}') {
         if let Ok(code) = u32::from_str_radix(number, 16) {
@@ -88,7 +88,7 @@ fn hex_byte(high: Option<char>, low: Option<char>) -> Result<u8, Wrong> {
     Err(Wrong::Line("\\x has two hexadecimal digits"))
 }
 
-/// Puts bytes line by line behind a sign. What a person would not see is escaped, and where no line end stands at the end, the last line
+/// Puts bytes line by line after a sign. What a person would not see is escaped, and where no line end stands at the end, the last line
 /// ends with a backslash.
 ///
 /// # Errors

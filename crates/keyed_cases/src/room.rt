@@ -9,7 +9,7 @@ use std::io;
 use testkit::disk::{Disk, Found};
 use testkit::process::{Process, Sink, World};
 
-/// What the lines behind `|` are put into.
+/// What the lines after `|` are put into.
 #[derive(Drop)]
 pub enum Block {
     /// Nothing: no directive before them takes any.
@@ -91,8 +91,8 @@ impl Room {
         }
     }
 
-    /// Runs a command, and puts what it comes to behind a transcript: what is on its output, on its standard error, each file that it made or
-    /// changed, and its status.
+    /// Runs a command, and puts what it comes to after a transcript: what is on its output, on its standard error, each file that it made
+    /// or changed, and its status.
     ///
     /// # Errors
     ///

@@ -3,11 +3,11 @@
 //! - `# ..` is for the reader. The first line is one: it says what the file shows.
 //! - `## ..` begins a part, with a new disk. What stands before the first `##` is in each part.
 //! - `$ keyed ..` is a command, split as a shell splits it: `'..'`, `".."`, and `$'..'` with escapes. Beside it may stand `NO_COLOR=1` and
-//!   `COLUMNS=80` before `keyed`, and `< NAME`, `> /dev/full` or `| true` behind, for a file that is the standard input, and an output that is
-//!   full or left.
-//!   What it writes stands behind `>`, what it says behind `!`, then each file that it made or changed, and its status.
-//! - `file NAME` puts a file on the disk, whose lines follow, each behind `|`. `\n`, `\r`, `\t`, `\0`, `\\`, `\xHH` and `\u{H}` are escapes, and
-//!   a lone backslash at the end takes the line end off. `|0..600 k###,p` is a line for each of these numbers, of three digits.
+//!   `COLUMNS=80` before `keyed`, and `< NAME`, `> /dev/full` or `| true` after, for a file that is the standard input, and an output that
+//! is   full or left.
+//!   What it writes stands after `>`, what it says after `!`, then each file that it made or changed, and its status.
+//! - `file NAME` puts a file on the disk, whose lines follow, each after `|`. `\n`, `\r`, `\t`, `\0`, `\\`, `\xHH` and `\u{H}` are escapes,
+//! and   a lone backslash at the end takes the line end off. `|0..600 k###,p` is a line for each of these numbers, of three digits.
 //! - `stdin` and `later NAME` take lines too: what the standard input holds, and what a file holds when it is opened again.
 //! - `folder NAME` makes a folder. Of what lies there, or of a file, `broken NAME` fails to be read to its end, and `locked NAME`, `full NAME`
 //!   and `kept NAME` refuse a new file, a byte and a file in the place of another. `files N` and `bytes N` are what the disk takes at most.

@@ -19,7 +19,7 @@ pub struct Word {
 enum Place {
     Between,
     Bare,
-    // Behind `$`.
+    // After `$`.
     Dollar,
     Single,
     Double,

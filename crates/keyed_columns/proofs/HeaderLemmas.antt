@@ -1,12 +1,12 @@
 -- The names of a header, one after the other.
 use Rattle.std.proofs.Common.{◌≡◌, ◌∙◌, ◌+◌, ◌-◌, ◌<◌, ◌≤◌, ℕ, List, [], ◌∷◌, ◌++◌, Bool, true, false, arith, drop, take, length, length-drop, get_or, nat_eq, refl, sym, ap, ap₂, zero, suc}
-use Rattle.std.specs.Prelude.{◌||◌, unwrap_or}
+use Rattle.std.specs.Prelude.{◌||◌, Err, IfOk, Ok, Result, unwrap_or}
 use Rattle.std.specs.Cmp.Lexicographic.{pointwise}
 use Rattle.std.specs.List.{flat_map, list_any}
 use Rattle.std.proofs.lemmas.List.{append-nil, drop_more, get_or-drop, get_or-map, length-map, take_more}
 use Rattle.std.proofs.lemmas.Grind.{flat_map-append}
 use Rattle.csv.specs.Records.{field_at}
-use Rattle.keyed_columns.specs.Going.{GoneSaid, going_behind, name_if_goes, names_going, with_going}
+use Rattle.keyed_columns.specs.Going.{GoneSaid, coming_behind, going_behind, name_if_comes, name_if_goes, names_coming, names_going, with_coming, with_going}
 use Rattle.keyed_columns.specs.Headers.{HeaderOf, NamesOf, cells_before, name_in, names_behind, names_said}
 use Rattle.keyed_columns.specs.Names.{repeats}
 use Rattle.keyed_columns.specs.Spelled.{SpelledFirst}
@@ -108,6 +108,19 @@ with-going fate.Goes name gone = refl
 with-going fate.Comes name gone = sym (append-nil gone)
 with-going fate.Stays name gone = sym (append-nil gone)
 
+-- what is kept of one more cell stands behind what is kept of those before it
+one-kept : (step : List ℕ → List (List ℕ)) (before place next : ℕ) (fields old new : List (List ℕ)) (cell : List ℕ) → before ≤ place → place < length fields
+    → next ≡ (place - before) + 1 → cell ≡ unwrap_or (field_at fields place) [] → new ≡ old ++ step cell
+    → old ≡ flat_map step (take (place - before) (drop before fields)) → new ≡ flat_map step (take next (drop before fields))
+one-kept step before place next fields old new cell le lt after is puts h =
+    let inside : place - before < length (drop before fields) = omega (arith, length-drop before fields, le, lt) in
+    let whole : before + (place - before) ≡ place = omega (arith, le) in
+    let here : cell ≡ get_or (drop before fields) (place - before) [] =
+    is ∙ field-is fields place ∙ ap (λ i. get_or fields i []) (sym whole) ∙ sym (get_or-drop before fields (place - before) []) in
+    puts ∙ ap₂ (λ a b. a ++ b) h (ap step here ∙ sym (append-nil (step (get_or (drop before fields) (place - before) []))))
+    ∙ sym (flat_map-append step (take (place - before) (drop before fields)) (get_or (drop before fields) (place - before) [] ∷ []))
+    ∙ ap (flat_map step) (sym (take_more (drop before fields) (place - before) [] inside)) ∙ ap (λ i. flat_map step (take i (drop before fields))) (sym after)
+
 pub none-gone : (before i : ℕ) (fields gone : List (List ℕ)) → i ≡ 0 → gone ≡ [] → gone ≡ flat_map (going_behind before) (take i (drop before fields))
 none-gone before i fields gone none is = rw none is
 
@@ -115,16 +128,32 @@ pub one-goes : (before place next : ℕ) (fields old put new : List (List ℕ)) 
     → next ≡ (place - before) + 1 → cell ≡ unwrap_or (field_at fields place) [] → name_if_goes f name ≡ going_behind before cell → put ≡ old → new ≡ with_going f name put
     → old ≡ flat_map (going_behind before) (take (place - before) (drop before fields)) → new ≡ flat_map (going_behind before) (take next (drop before fields))
 one-goes before place next fields old put new f name cell le lt after is goes same puts h =
-    let inside : place - before < length (drop before fields) = omega (arith, length-drop before fields, le, lt) in
-    let whole : before + (place - before) ≡ place = omega (arith, le) in
-    let here : cell ≡ get_or (drop before fields) (place - before) [] =
-    is ∙ field-is fields place ∙ ap (λ i. get_or fields i []) (sym whole) ∙ sym (get_or-drop before fields (place - before) []) in
-    puts ∙ with-going f name put ∙ ap₂ (λ a b. a ++ b) (same ∙ h) (goes ∙ ap (going_behind before) here ∙ sym (append-nil (going_behind before (get_or (drop before fields) (place - before) []))))
-    ∙ sym (flat_map-append (going_behind before) (take (place - before) (drop before fields)) (get_or (drop before fields) (place - before) [] ∷ []))
-    ∙ ap (flat_map (going_behind before)) (sym (take_more (drop before fields) (place - before) [] inside)) ∙ ap (λ i. flat_map (going_behind before) (take i (drop before fields))) (sym after)
+    one-kept (going_behind before) before place next fields old new cell le lt after is
+    (puts ∙ with-going f name put ∙ ap₂ (λ a b. a ++ b) same goes) h
 
-pub gone-read : (has_first has_header : Bool) (fields gone : List (List ℕ)) → has_first ≡ true → has_header ≡ true → gone ≡ names_going 1 fields
-    → GoneSaid has_first has_header fields gone
-gone-read false has_header fields gone e h said = absurd (cc e)
-gone-read true false fields gone e h said = absurd (cc h)
-gone-read true true fields gone e h said = said
+-- and of those that come
+with-coming : (f : Fate) (name : List ℕ) (came : List (List ℕ)) → with_coming f name came ≡ came ++ name_if_comes f name
+with-coming fate.Goes name came = sym (append-nil came)
+with-coming fate.Comes name came = refl
+with-coming fate.Stays name came = sym (append-nil came)
+
+pub none-came : (before i : ℕ) (fields came : List (List ℕ)) → i ≡ 0 → came ≡ [] → came ≡ flat_map (coming_behind before) (take i (drop before fields))
+none-came before i fields came none is = rw none is
+
+pub one-comes : (before place next : ℕ) (fields old put new : List (List ℕ)) (f : Fate) (name cell : List ℕ) → before ≤ place → place < length fields
+    → next ≡ (place - before) + 1 → cell ≡ unwrap_or (field_at fields place) [] → name_if_comes f name ≡ coming_behind before cell → put ≡ old → new ≡ with_coming f name put
+    → old ≡ flat_map (coming_behind before) (take (place - before) (drop before fields)) → new ≡ flat_map (coming_behind before) (take next (drop before fields))
+one-comes before place next fields old put new f name cell le lt after is comes same puts h =
+    one-kept (coming_behind before) before place next fields old new cell le lt after is
+    (puts ∙ with-coming f name put ∙ ap₂ (λ a b. a ++ b) same comes) h
+
+-- what follows of two facts of what is there, if it is
+pub if-both : {X E : Type 0} (r : Result X E) (P Q S : X → Type 0) → ((x : X) → P x → Q x → S x) → IfOk r P → IfOk r Q → IfOk r S
+if-both (Ok x) P Q S f p q = f x p q
+if-both (Err e) P Q S f p q = tt
+
+pub gone-read : (has_first has_header : Bool) (fields gone came : List (List ℕ)) → has_first ≡ true → has_header ≡ true → gone ≡ names_going 1 fields
+    → came ≡ names_coming 1 fields → GoneSaid has_first has_header fields gone came
+gone-read false has_header fields gone came e h goes comes = absurd (cc e)
+gone-read true false fields gone came e h goes comes = absurd (cc h)
+gone-read true true fields gone came e h goes comes = (goes, comes)

@@ -1,7 +1,7 @@
 //! What became of a column, as the header of a table of changes says it.
 ghost use Rattle.std.specs.Prelude.{◌≡◌, ◌++◌, IfOk, OnOk};
 ghost use Rattle.keyed_columns.specs.ChangedColumns.{begins_marked, marked_name};
-ghost use Rattle.keyed_columns.specs.Going.{going, name_if_goes};
+ghost use Rattle.keyed_columns.specs.Going.{coming, going, name_if_comes, name_if_goes};
 ghost use Rattle.keyed_columns.specs.Headers.{unmarked};
 
 use std::alloc::{AllocError, Global};
@@ -65,6 +65,7 @@ impl Fate {
     pub fn of_cell(cell: &[u8]) -> (Self, &[u8])
         ensures name { result.1.now ≡ unmarked cell.now }
         ensures goes { name_if_goes result.0 result.1.now ≡ going cell.now }
+        ensures comes { name_if_comes result.0 result.1.now ≡ coming cell.now }
     {
         match cell {
             [b'-', name @ ..] => (Fate::Goes, name),

@@ -4,7 +4,8 @@ ghost use Rattle.std.specs.Prelude.{unwrap_or};
 ghost use Rattle.std.specs.Cmp.Lexicographic.{pointwise};
 ghost use Rattle.std.specs.List.{list_any};
 ghost use Rattle.csv.specs.Records.{field_at, fields_of};
-ghost use Rattle.keyed_columns.specs.Going.{going_behind, name_if_goes, names_going, with_going};
+ghost use Rattle.keyed_columns.specs.Going.{coming_behind, going_behind, name_if_comes, name_if_goes};
+ghost use Rattle.keyed_columns.specs.Going.{names_coming, names_going, with_coming, with_going};
 ghost use Rattle.keyed_columns.specs.Headers.{name_in, names_behind, numbered_names};
 ghost use Rattle.keyed_columns.specs.Names.{names_in, place_in, renamed, repeats};
 
@@ -16,6 +17,7 @@ use csv::ByteRecord;
 use keyed_faults::Reason;
 use keyed_rows::Cells;
 use std::alloc::{AllocError, Global};
+use std::mem;
 
 /// The names of the columns of a table, no two of which are the same, and which of them stand in its header more than once.
 #[derive(Drop)]
@@ -27,6 +29,8 @@ pub struct Header {
     found: Names,
     /// In a table of changes, those of columns that go.
     pub gone: Cells,
+    /// And those of columns that come.
+    pub came: Cells,
     repeated: Names,
     // The line that it stands on.
     line: u64,
@@ -48,6 +52,7 @@ impl Header {
         ensures spelled_names { result.spelling.names ≡ [] }
         ensures spelled { result.spelling.spelled ≡ [] }
         ensures gone { result.gone ≡ [] }
+        ensures came { result.came ≡ [] }
     {
         Header {
             names: Cells::new(alloc),
@@ -57,6 +62,7 @@ impl Header {
             },
             found: Names::new(alloc),
             gone: Cells::new(alloc),
+            came: Cells::new(alloc),
             repeated: Names::new(alloc),
             line: 0,
         }
@@ -81,6 +87,7 @@ impl Header {
         ensures spelled { IfOk result
             (λ header. header.spelling.spelled ≡ names_behind before (fields_of row.now)) }
         ensures gone { IfOk result (λ header. header.gone ≡ names_going before (fields_of row.now)) }
+        ensures came { IfOk result (λ header. header.came ≡ names_coming before (fields_of row.now)) }
     {
         let spelled = spelled_names(alloc, row, before)?;
         let there = names_there(alloc, row, before)?;
@@ -95,6 +102,13 @@ impl Header {
             told.note_fate(fate, name)?;
         }
         told.into_header(alloc, spelled, line)
+    }
+
+    /// The header of the same changes taken back: the columns that came go, and those that went come.
+    pub fn turn(&mut self)
+        ensures { self.new ≡ record self.old { gone = self.old.came; came = self.old.gone } }
+    {
+        mem::swap(&mut self.gone, &mut self.came);
     }
 
     /// The names of columns that have no header, of which there are so many: 1, 2 and so on.
@@ -182,8 +196,9 @@ struct Told {
     found: Names,
     // Those that stand there more than once.
     repeated: Names,
-    // Those of columns that go.
+    // Those of columns that go, and of those that come.
     gone: Cells,
+    came: Cells,
 }
 
 impl Told {
@@ -191,11 +206,13 @@ impl Told {
     fn new(alloc: Global) -> Self
         ensures names { names_in result.found ≡ [] }
         ensures gone { result.gone ≡ [] }
+        ensures came { result.came ≡ [] }
     {
         Told {
             found: Names::new(alloc),
             repeated: Names::new(alloc),
             gone: Cells::new(alloc),
+            came: Cells::new(alloc),
         }
     }
 
@@ -210,6 +227,7 @@ impl Told {
         ensures names { OnOk result (list_any (pointwise nat_eq name.now) (names_in self.old.found) ≡ false
             → names_in self.new.found ≡ names_in self.old.found ++ name.now ∷ []) }
         ensures gone { self.new.gone ≡ self.old.gone }
+        ensures came { self.new.came ≡ self.old.came }
     {
         if self.found.add(alloc, name)? {
             return Ok(1);
@@ -233,9 +251,12 @@ impl Told {
     fn note_fate(&mut self, fate: Fate, name: &[u8]) -> Result<(), AllocError>
         ensures found { self.new.found ≡ self.old.found }
         ensures gone { OnOk result (self.new.gone ≡ with_going fate name.now self.old.gone) }
+        ensures came { OnOk result (self.new.came ≡ with_coming fate name.now self.old.came) }
     {
-        if let Fate::Goes = fate {
-            self.gone.push(name)?;
+        match fate {
+            Fate::Goes => self.gone.push(name)?,
+            Fate::Comes => self.came.push(name)?,
+            Fate::Stays => {}
         }
         Ok(())
     }
@@ -246,6 +267,7 @@ impl Told {
         ensures spelled_names { IfOk result (λ header. header.spelling.names ≡ header.names) }
         ensures spelled { IfOk result (λ header. header.spelling.spelled ≡ spelled) }
         ensures gone { IfOk result (λ header. header.gone ≡ self.gone) }
+        ensures came { IfOk result (λ header. header.came ≡ self.came) }
     {
         Ok(Header {
             names: self.found.to_cells(alloc)?,
@@ -255,6 +277,7 @@ impl Told {
             },
             found: self.found,
             gone: self.gone,
+            came: self.came,
             repeated: self.repeated,
             line,
         })
@@ -320,6 +343,7 @@ fn renamed_of(alloc: Global, key: &KeyNames) -> Result<Cells, AllocError> {
 fn fate_of(before: usize, cell: &[u8]) -> (Fate, &[u8])
     ensures name { result.1.now ≡ name_in before cell.now }
     ensures goes { name_if_goes result.0 result.1.now ≡ going_behind before cell.now }
+    ensures comes { name_if_comes result.0 result.1.now ≡ coming_behind before cell.now }
 {
     if before == 0 {
         (Fate::Stays, cell)

@@ -20,7 +20,7 @@ use keyed_text::{Marks, RowReader, Strict};
 use std::alloc::{AllocError, Global};
 
 // How such a text is parted.
-const COMMAS: Marks = Marks {
+pub(crate) const COMMAS: Marks = Marks {
     delimiter: b',',
     comment: None,
 };
@@ -110,7 +110,10 @@ fn no_name(alloc: Global) -> Result<KeyNames, AllocError>
 }
 
 // Reads a record, or says that there is none.
-fn read_key(rows: &mut RowReader<Strict<&[u8]>>, row: &mut ByteRecord) -> Result<bool, Reason>
+pub(crate) fn read_key(
+    rows: &mut RowReader<Strict<&[u8]>>,
+    row: &mut ByteRecord,
+) -> Result<bool, Reason>
     ensures { IfOk result (λ found. GivesRow text_left rows.old rows.new found (fields_of row.new)) }
 {
     let outcome = rows.read_row(row);
@@ -170,9 +173,9 @@ impl NewNames {
 
 // The name of a column in the first table, and its name in the others where that is another, as far as its cell is read.
 #[derive(Drop)]
-struct TwoNames {
-    first: Vec<u8>,
-    other: Option<Vec<u8>>,
+pub(crate) struct TwoNames {
+    pub(crate) first: Vec<u8>,
+    pub(crate) other: Option<Vec<u8>>,
     // Whether an `=` has come that is one of a name if another comes next.
     waits: bool,
 }
@@ -262,7 +265,7 @@ impl TwoNames {
 }
 
 // The names that a cell gives, with one `=` between them. Two are one of a name.
-fn names_of_cell(alloc: Global, cell: &[u8]) -> Result<TwoNames, Reason>
+pub(crate) fn names_of_cell(alloc: Global, cell: &[u8]) -> Result<TwoNames, Reason>
     ensures { IfOk result (λ names. GivesNames cell.now (names.first.items, other_in names)) }
 {
     let mut names = TwoNames::new(alloc);

@@ -16,6 +16,7 @@ mod names;
 mod new_columns;
 mod placed;
 mod spelled;
+mod tolerances;
 
 pub use column_changes::{ColumnChanges, LoneColumns};
 pub use columns::{
@@ -31,3 +32,4 @@ pub use laws::{
 };
 pub use new_columns::{changed_columns, marked_names, merged_columns};
 pub use placed::PlacedCells;
+pub use tolerances::Tolerances;

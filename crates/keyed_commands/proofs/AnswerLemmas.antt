@@ -19,7 +19,7 @@ use Rattle.eob_lists.specs.JoinLaws.{deref_joined}
 use Rattle.eob_lists.specs.OuterJoin.{ShowsPlaces}
 use Rattle.eob_lists.proofs.JoinLemmas.{own_head}
 use Rattle.eob_joins.specs.Changes.{changed}
-use Rattle.eob_joins.specs.Settled.{is_stuck, stuck_place}
+use Rattle.eob_joins.specs.Settled.{is_unresolved, unresolved_place}
 use Rattle.eob_joins.specs.Tables.{IsKeptOfJoin, Tabulates}
 use Rattle.eob_joins.specs.Versions.{clash_place, is_conflict, verdict}
 use Rattle.eob_joins.proofs.TableLemmas.{by_test, kept_join, same_table}
@@ -31,7 +31,7 @@ use Rattle.keyed_requests.specs.declared.request.Form.{Form}
 use Rattle.keyed_columns.specs.declared.columns.Columns.{Columns}
 use Rattle.keyed_tables.specs.RowsByCell.{GivesRow, can_by_row}
 use Rattle.keyed_commands.specs.declared.answer.Answer.{Answer}
-use Rattle.keyed_commands.specs.Answers.{AllFit, AnswersMerge, AnswersMerged, AnswersMergedByCell, HasConflict, HasNoConflict, HasNoneStuck, HasStuck}
+use Rattle.keyed_commands.specs.Answers.{AllFit, AnswersMerge, AnswersMerged, AnswersMergedByCell, HasConflict, HasNoConflict, HasNoneUnresolved, HasUnresolved}
 use Rattle.keyed_commands.specs.Answers.{Stops, TableRows, fits_place, key_cmp, rows_eq}
 
 some_same : {X : Type 0} {x y : X} → Some x ≡ Some y → x ≡ y
@@ -160,11 +160,11 @@ module _ {K V : Type 0} (cmp : K → K → Ordering) (o : IsTotalOrder cmp) (eq 
       let e : clash_place eq (b z.0) (p z.0) (q z.0) ≡ Some z.1 = sym (h.values z.0) ∙ own_head cmp o z zs in
       let c : None ≡ Some z.1 = rw (n z.0) at e in absurd (cc)
 
-  pub some_stuck : (cs : List (K × EitherOrBoth V (EitherOrBoth V V))) → Tabulates cmp cs (λ k. stuck_place eq can (b k) (p k) (q k)) → 0 < length cs
-      → ((k : K) → is_stuck eq can (b k) (p k) (q k) ≡ false) → ⊥
-  some_stuck [] h l n = absurd (omega (arith, l))
-  some_stuck (z ∷ zs) h l n =
-      let e : stuck_place eq can (b z.0) (p z.0) (q z.0) ≡ Some z.1 = sym (h.values z.0) ∙ own_head cmp o z zs in
+  pub some_unresolved : (cs : List (K × EitherOrBoth V (EitherOrBoth V V))) → Tabulates cmp cs (λ k. unresolved_place eq can (b k) (p k) (q k)) → 0 < length cs
+      → ((k : K) → is_unresolved eq can (b k) (p k) (q k) ≡ false) → ⊥
+  some_unresolved [] h l n = absurd (omega (arith, l))
+  some_unresolved (z ∷ zs) h l n =
+      let e : unresolved_place eq can (b z.0) (p z.0) (q z.0) ≡ Some z.1 = sym (h.values z.0) ∙ own_head cmp o z zs in
       let c : None ≡ Some z.1 = rw (n z.0) at e in absurd (cc)
 
 -- what a merge gives is the merged table where no key is in conflict, and else no table
@@ -180,13 +180,13 @@ module _ (form : Form) (columns : Columns) (noted : Option (List (List (List ℕ
   merged_clash (Whole rows) answer h x a = absurd (true≢false (sym x.1 ∙ h.1 x.0))
   merged_clash (Conflicts rows) answer h x a = a
 
-  pub settled_whole : (m : Merged (List (List ℕ)) (List (List (List ℕ))) M) (answer : Answer) → IsMergeWith key_cmp rows_eq can_by_row GivesRow b p q m → HasNoneStuck b p q
+  pub settled_whole : (m : Merged (List (List ℕ)) (List (List (List ℕ))) M) (answer : Answer) → IsMergeWith key_cmp rows_eq can_by_row GivesRow b p q m → HasNoneUnresolved b p q
       → AnswersMerge form columns noted by_cells m answer → AnswersMergedByCell form columns noted by_cells b p q answer
   settled_whole (Whole rows) answer h n a = (rows.items, h.0, h.1, a)
   settled_whole (Conflicts rows) answer h n a =
-      absurd (some_stuck key_cmp key_total rows_eq can_by_row (value_under key_cmp b) (value_under key_cmp p) (value_under key_cmp q) rows.items h.0 h.1 n)
+      absurd (some_unresolved key_cmp key_total rows_eq can_by_row (value_under key_cmp b) (value_under key_cmp p) (value_under key_cmp q) rows.items h.0 h.1 n)
 
-  pub settled_stuck : (m : Merged (List (List ℕ)) (List (List (List ℕ))) M) (answer : Answer) → IsMergeWith key_cmp rows_eq can_by_row GivesRow b p q m → HasStuck b p q
+  pub settled_unresolved : (m : Merged (List (List ℕ)) (List (List (List ℕ))) M) (answer : Answer) → IsMergeWith key_cmp rows_eq can_by_row GivesRow b p q m → HasUnresolved b p q
       → AnswersMerge form columns noted by_cells m answer → Stops answer
-  settled_stuck (Whole rows) answer h x a = absurd (true≢false (sym x.1 ∙ h.2 x.0))
-  settled_stuck (Conflicts rows) answer h x a = a
+  settled_unresolved (Whole rows) answer h x a = absurd (true≢false (sym x.1 ∙ h.2 x.0))
+  settled_unresolved (Conflicts rows) answer h x a = a

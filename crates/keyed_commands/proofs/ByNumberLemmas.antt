@@ -1,13 +1,15 @@
--- Rows that are compared by value.
+-- Rows whose cells are compared as their columns are.
 use Rattle.std.proofs.Common.{◌≡◌, ◌++◌, ◌&&◌, ◌⊎◌, ⊎_elim, inl, inr, ℕ, Bool, Bor, List, [], ◌∷◌, append_assoc, length, zip, Option, None, Some, option_map, arith, ap, refl}
 use Rattle.std.specs.Cmp.Lexicographic.{pointwise}
 use Rattle.std.specs.Iterator.{YieldsFirstRef}
 use Rattle.std.specs.Iterator.Adapters.{zip_first, zip_second, zip_steps}
 use Rattle.std.specs.List.{list_all}
+use Rattle.std.specs.Slice.Iter.{iter_rest, iter_steps}
 use Rattle.std.specs.declared.iter.Zip.{Zip}
+use Rattle.std.specs.declared.slice.Iter.{Iter}
 use Rattle.eob_both.proofs.SideLemmas.{filter_map-push_none, filter_map-push_some}
 use Rattle.eob_joins.specs.Tables.{kept}
-use Rattle.keyed_numbers.specs.declared.decimal.Decimal.{Decimal}
+use Rattle.keyed_numbers.specs.declared.alike.Alike.{Alike}
 use Rattle.keyed_commands.specs.ByNumber.{settled_cell, settled_cells}
 
 -- lists of one length are compared pair by pair
@@ -24,43 +26,63 @@ behind merged cell None = refl
 behind merged cell (Some r) = ap Some (append_assoc merged (cell ∷ []) r)
 
 -- one cell more
-pub settled-more : (tolerance : Decimal) (merged : List (List ℕ)) (cell : List ℕ) (z : List ℕ × (List ℕ × List ℕ)) (zs : List (List ℕ × (List ℕ × List ℕ)))
-    → settled_cell tolerance z.0 z.1.0 z.1.1 ≡ Some cell
-    → option_map (λ r. (merged ++ cell ∷ []) ++ r) (settled_cells tolerance zs) ≡ option_map (λ r. merged ++ r) (settled_cells tolerance (z ∷ zs))
-settled-more tolerance merged cell z zs e = rw e (behind merged cell (settled_cells tolerance zs))
+pub settled-more : (merged : List (List ℕ)) (cell : List ℕ) (z : Alike × (List ℕ × (List ℕ × List ℕ))) (zs : List (Alike × (List ℕ × (List ℕ × List ℕ))))
+    → settled_cell z.0 z.1.0 z.1.1.0 z.1.1.1 ≡ Some cell
+    → option_map (λ r. (merged ++ cell ∷ []) ++ r) (settled_cells zs) ≡ option_map (λ r. merged ++ r) (settled_cells (z ∷ zs))
+settled-more merged cell z zs e = rw e (behind merged cell (settled_cells zs))
 
 -- and one that is not settled
-pub settled-none : (tolerance : Decimal) (merged : List (List ℕ)) (z : List ℕ × (List ℕ × List ℕ)) (zs : List (List ℕ × (List ℕ × List ℕ)))
-    → settled_cell tolerance z.0 z.1.0 z.1.1 ≡ None → option_map (λ r. merged ++ r) (settled_cells tolerance (z ∷ zs)) ≡ None
-settled-none tolerance merged z zs e = rw e refl
+pub settled-none : (merged : List (List ℕ)) (z : Alike × (List ℕ × (List ℕ × List ℕ))) (zs : List (Alike × (List ℕ × (List ℕ × List ℕ))))
+    → settled_cell z.0 z.1.0 z.1.1.0 z.1.1.1 ≡ None → option_map (λ r. merged ++ r) (settled_cells (z ∷ zs)) ≡ None
+settled-none merged z zs e = rw e refl
 
--- the cells of three rows that are still to come
+-- the cells of three rows that are still to come, each with how its column is compared
 abbrev Three : Type 0
 Three = Zip (List (List ℕ)) (Zip (List (List ℕ)) (List (List ℕ)))
 
-abbrev pub still : Three → List (List ℕ × (List ℕ × List ℕ))
-still s = zip (zip_first s) (zip (zip_first (zip_second s)) (zip_second (zip_second s)))
+abbrev Four : Type 0
+Four = Zip (Iter Alike) Three
 
-abbrev Steps : Three → Option (Bor (List ℕ) × (Bor (List ℕ) × Bor (List ℕ))) → Three → Type 0
-Steps = zip_steps (YieldsFirstRef (λ cells. cells)) (zip_steps (YieldsFirstRef (λ cells. cells)) (YieldsFirstRef (λ cells. cells)))
+abbrev three_left : Three → List (List ℕ × (List ℕ × List ℕ))
+three_left s = zip (zip_first s) (zip (zip_first (zip_second s)) (zip_second (zip_second s)))
+
+abbrev pub still : Four → List (Alike × (List ℕ × (List ℕ × List ℕ)))
+still s = zip (iter_rest (zip_first s)) (three_left (zip_second s))
+
+abbrev Steps3 : Three → Option (Bor (List ℕ) × (Bor (List ℕ) × Bor (List ℕ))) → Three → Type 0
+Steps3 = zip_steps (YieldsFirstRef (λ cells. cells)) (zip_steps (YieldsFirstRef (λ cells. cells)) (YieldsFirstRef (λ cells. cells)))
+
+abbrev Steps : Four → Option (Bor Alike × (Bor (List ℕ) × (Bor (List ℕ) × Bor (List ℕ)))) → Four → Type 0
+Steps = zip_steps iter_steps Steps3
 
 zip_none : {A B : Type 0} (a : List A) (b : List B) → (a ≡ []) ⊎ (b ≡ []) → zip a b ≡ []
 zip_none [] b e = refl
 zip_none (x ∷ xs) [] e = refl
 zip_none (x ∷ xs) (y ∷ ys) e = ⊎_elim (λ g. absurd (cc)) (λ g. absurd (cc)) e
 
--- three cells are taken, or one of the rows has ended
-pub cells-then : (s t : Three) (p : Bor (List ℕ) × (Bor (List ℕ) × Bor (List ℕ))) → Steps s (Some p) t
-    → still s ≡ (p.0.now, (p.1.0.now, p.1.1.now)) ∷ still t
-cells-then s t p h = rw (h.0, h.1.0, h.1.1) refl
+nil_of_len : {A : Type 0} (xs : List A) → length xs ≡ 0 → xs ≡ []
+nil_of_len [] e = refl
+nil_of_len (x ∷ xs) e = absurd (omega arith)
 
-pub none-left : (s t : Three) (r : Option (Bor (List ℕ) × (Bor (List ℕ) × Bor (List ℕ)))) → r ≡ None → Steps s r t → still s ≡ []
-none-left s t (Some p) e h = absurd (cc)
-none-left s t None e h =
+-- three cells are taken, or one of the rows has ended
+pub cells-then : (s t : Four) (p : Bor Alike × (Bor (List ℕ) × (Bor (List ℕ) × Bor (List ℕ)))) → Steps s (Some p) t
+    → still s ≡ (p.0.now, (p.1.0.now, (p.1.1.0.now, p.1.1.1.now))) ∷ still t
+cells-then s t p h = rw (h.0, h.1.0, h.1.1.0, h.1.1.1) refl
+
+three-none : (s t : Three) → Steps3 s None t → three_left s ≡ []
+three-none s t h =
     ⊎_elim
     (λ g. zip_none (zip_first s) (zip (zip_first (zip_second s)) (zip_second (zip_second s))) (inl g.1.0))
     (λ g. zip_none (zip_first s) (zip (zip_first (zip_second s)) (zip_second (zip_second s))) (inr
     (zip_none (zip_first (zip_second s)) (zip_second (zip_second s)) (⊎_elim (λ k. inl k.1.0) (λ k. inr k.1.0) g.1))))
+    h
+
+pub none-left : (s t : Four) (r : Option (Bor Alike × (Bor (List ℕ) × (Bor (List ℕ) × Bor (List ℕ))))) → r ≡ None → Steps s r t → still s ≡ []
+none-left s t (Some p) e h = absurd (cc)
+none-left s t None e h =
+    ⊎_elim
+    (λ g. zip_none (iter_rest (zip_first s)) (three_left (zip_second s)) (inl (nil_of_len _ g.1.0)))
+    (λ g. zip_none (iter_rest (zip_first s)) (three_left (zip_second s)) (inr (three-none (zip_second s) g.0 g.1)))
     h
 
 -- one more key, of which something stands or not

@@ -17,6 +17,7 @@ use Rattle.keyed_columns.specs.Names.{repeats}
 use Rattle.keyed_columns.specs.CellsUnder.{cell_under, row_under}
 use Rattle.keyed_columns.specs.Placed.{names_headed, names_placed, placed}
 use Rattle.keyed_columns.specs.declared.columns.Columns.{Columns}
+use Rattle.keyed_requests.specs.declared.request.Direction.TheVariants.{Forward}
 use Rattle.keyed_columns.specs.declared.content.Content.TheVariants.{Rows}
 use Rattle.keyed_columns.proofs.LawLemmas.{distinct-once, writes-names}
 use Rattle.keyed_files.specs.Gone.{GoneBy}
@@ -101,7 +102,7 @@ module _ (settings : Settings) (old_form new_form : Form) (old_text new_text : L
     (parts : PartsCells (delimiter_of settings.form)) (begins : BeginsComments (delimiter_of settings.form) (comment_of settings.form))
     (plain : settings.keeps_order ≡ false) (once_old : NamesOnce old_form old_text) (once_new : NamesOnce new_form new_text)
     (diffs : DiffsTexts settings old_form new_form old_text new_text difference)
-    (applies : AppliesTexts settings old_form settings.form old_text difference.bytes.items answer) where
+    (applies : AppliesTexts settings Forward old_form settings.form old_text difference.bytes.items answer) where
   abbrev all : List (List ℕ)
   all = all_of settings old_form new_form old_text new_text difference has parts begins plain diffs
 
@@ -214,9 +215,9 @@ module _ (settings : Settings) (old_form new_form : Form) (old_text new_text : L
       spells = spells ∙ names_are_written;
       says = new_says;
       answers = made_is;
-      reads = λ some unmarked. says-only diffs.next_header diffs.columned.others (or_header diffs.next_header diffs.names) (all ∷ diffs.names ∷ applies.gone ∷ []) applies.columns
+      reads = λ some unmarked each. says-only diffs.next_header diffs.columned.others (or_header diffs.next_header diffs.names) (all ∷ diffs.names ∷ applies.gone ∷ []) applies.columns
           (header-within diffs.next_header diffs.names) writes_names written_once made_in new_form settings.groups answer.bytes.items new_text diffs.next_header diffs.new
-          has parts begins spells new_says made_is.2 some unmarked;
+          has parts begins spells new_says made_is.2 some unmarked each;
     }
 
   -- where no key is set and no column has another name

@@ -29,7 +29,7 @@ abbrev pub flat : {K V : Type 0} → List (K × List V) → List (K × V)
 flat gs = flat_map (λ g. map (λ v. (g.0, v)) g.1) gs
 
 module _ {K : Type 0} (cmp : K → K → Ordering) (o : IsTotalOrder cmp) where
-  -- the rows of rising groups are in the order of their keys
+  -- the rows of groups whose keys strictly increase are in the order of their keys
   later : (j k : K) → cmp j k ≡ Less → is_lt (cmp k j) ≡ false
   later j k l = ap is_lt (o.antisymm k j ∙ ap ordering_reverse l)
 

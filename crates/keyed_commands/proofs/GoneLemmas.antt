@@ -6,12 +6,14 @@ use Rattle.csv.specs.Reading.{Reached, strip_bom}
 use Rattle.csv.specs.declared.parser.Config.{Config}
 use Rattle.csv.specs.declared.parser.State.{State}
 use Rattle.csv.specs.declared.parser.State.TheVariants as st
-use Rattle.keyed_requests.specs.FormBytes.{comment_of, delimiter_of}
-use Rattle.keyed_requests.specs.declared.request.Form.{Form}
-use Rattle.keyed_columns.specs.Spelled.{SpelledBy, SpelledOf}
-use Rattle.keyed_columns.specs.declared.content.Content.{Content}
-use Rattle.keyed_files.specs.Gone.{GoneBy, GoneOf, IsGoneHeader, KnowsGone}
+use Rattle.keyed_files.specs.Gone.{CameBy, CameOf, GoneBy, GoneOf, IsGoneHeader, IsTurned, KnowsGone, LeaveOf}
 use Rattle.keyed_files.specs.Reading.{HasGiven, HasGivenIn, IsHeader, IsOpen, last_record}
+use Rattle.keyed_columns.specs.Spelled.{SpelledBy, SpelledOf}
+use Rattle.keyed_requests.specs.FormBytes.{comment_of, delimiter_of}
+use Rattle.keyed_requests.specs.declared.request.Direction.{Direction}
+use Rattle.keyed_requests.specs.declared.request.Direction.TheVariants.{Backward, Forward}
+use Rattle.keyed_requests.specs.declared.request.Form.{Form}
+use Rattle.keyed_columns.specs.declared.content.Content.{Content}
 use Rattle.keyed_files.specs.declared.source.Next.{Next}
 use Rattle.keyed_files.specs.declared.source.Next.TheVariants as next
 use Rattle.keyed_files.specs.declared.source.Source.{Source}
@@ -42,18 +44,48 @@ module _ {R : Type 0} (rem : R → Option (List ℕ)) (d : ℕ) (c : Option ℕ)
 
 module _ {R : Type 0} (rem : R → Option (List ℕ)) (form : Form) (text : List ℕ) (source : Source R) (records : List (List (List ℕ)))
     (are : AreRows (delimiter_of form) (comment_of form) text records) where
-  gone_if : (has_header : Bool) (first : List (List (List ℕ))) → IsGoneHeader form text source.header.gone has_header first
+  gone_if : (has_header : Bool) (first : List (List (List ℕ))) → IsGoneHeader form text source.header.gone source.header.came has_header first
       → HasGiven (delimiter_of form) (comment_of form) rem text first source → GoneBy has_header records source.header.gone
   gone_if true [] head given =
       let none : records ≡ [] = rows-once (delimiter_of form) (comment_of form) text records [] are head.0 in
-      subst (λ r. GoneBy true r source.header.gone) (sym none) head.1
+      subst (λ r. GoneBy true r source.header.gone) (sym none) head.1.0
   gone_if true (fields ∷ more) head given =
       let at = given_first rem (delimiter_of form) (comment_of form) text source fields more records are source.next given in
-      subst (λ r. GoneBy true r source.header.gone) (sym at.1) head
+      subst (λ r. GoneBy true r source.header.gone) (sym at.1) head.0
   gone_if false first head given = tt
 
   pub gone-of : KnowsGone form rem text source → GoneOf form text source.header.gone
   gone-of known = (records, are, gone_if form.has_header known.first known.header known.given)
+
+  came_if : (has_header : Bool) (first : List (List (List ℕ))) → IsGoneHeader form text source.header.gone source.header.came has_header first
+      → HasGiven (delimiter_of form) (comment_of form) rem text first source → CameBy has_header records source.header.came
+  came_if true [] head given =
+      let none : records ≡ [] = rows-once (delimiter_of form) (comment_of form) text records [] are head.0 in
+      subst (λ r. CameBy true r source.header.came) (sym none) head.1.1
+  came_if true (fields ∷ more) head given =
+      let at = given_first rem (delimiter_of form) (comment_of form) text source fields more records are source.next given in
+      subst (λ r. CameBy true r source.header.came) (sym at.1) head.1
+  came_if false first head given = tt
+
+  came_of : KnowsGone form rem text source → CameOf form text source.header.came
+  came_of known = (records, are, came_if form.has_header known.first known.header known.given)
+
+  -- the columns that go in a direction are those that the header of changes says
+  pub leave-of : (direction : Direction) (new : Source R) → IsTurned direction source new → KnowsGone form rem text source → LeaveOf direction form text new.header.gone
+  leave-of Forward new same known = subst (λ s. GoneOf form text s.header.gone) (sym same) (gone-of known)
+  leave-of Backward new turned known = subst (λ s. CameOf form text s.header.gone) (sym turned) (came_of known)
+
+-- a source of changes is open in each direction
+pub open-turned : {R : Type 0} (rem : R → Option (List ℕ)) (direction : Direction) (form : Form) (kind : Content) (text : List ℕ) (names : List (List ℕ)) (old new : Source R)
+    → IsTurned direction old new → IsOpen form kind rem text names old → IsOpen form kind rem text names new
+open-turned rem Forward form kind text names old new same begun = subst (IsOpen form kind rem text names) (sym same) begun
+open-turned rem Backward form kind text names old new turned begun = subst (IsOpen form kind rem text names) (sym turned)
+    (record { content = begun.content; first = begun.first; header = begun.header; given = begun.given; named = begun.named; spelled = begun.spelled })
+
+-- and has the same names
+pub names-turned : {R : Type 0} (direction : Direction) (old new : Source R) → IsTurned direction old new → old.header.names ≡ new.header.names
+names-turned Forward old new same = ap (λ s. s.header.names) (sym same)
+names-turned Backward old new turned = ap (λ s. s.header.names) (sym turned)
 
 -- the names as a header spells them, of a source that is open
 module _ {R : Type 0} (rem : R → Option (List ℕ)) (form : Form) (kind : Content) (text : List ℕ) (names : List (List ℕ)) (source : Source R) (records : List (List (List ℕ)))

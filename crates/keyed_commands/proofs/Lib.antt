@@ -17,9 +17,12 @@ pub mod OnceLemmas
 pub mod OneSideLemmas
 pub mod OverlayLemmas
 pub mod ReadLemmas
+pub mod ReportLemmas
+pub mod RequestLemmas
 pub mod SignedLemmas
 pub mod SortedLemmas
 pub mod SpelledLemmas
 pub mod TableBackLemmas
 pub mod TextAnswerLemmas
 pub mod TextLawLemmas
+pub mod TurnedLemmas

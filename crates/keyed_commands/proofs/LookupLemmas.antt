@@ -33,7 +33,7 @@ use Rattle.keyed_commands.specs.declared.commands.lookup.Found.{Found}
 use Rattle.keyed_commands.proofs.ReadLemmas.{both-known}
 
 module _ {R : Type 0} (rem : R → Option (List ℕ)) (places : Places) where
-  -- rows that are read behind none, and more behind these
+  -- rows that are read after none, and more after these
   behind_none : (rows : List ReadRow) (records : List (List (List ℕ))) → ReadBehind places [] rows records → map parts_of rows ≡ map (picked places) records
   behind_none rows records h = ap (map parts_of) h.rows ∙ h.parts
 
@@ -74,7 +74,7 @@ module _ {R : Type 0} (rem : R → Option (List ℕ)) (form : Form) (kind : Look
       let part = h pending w in
       (part.0, part.1, one_part form (pending ++ lookup_rows columns kind find part.0) [] old new (Appends-kept old out new (quoted_text form (pending ++ lookup_rows columns kind find part.0)) part.2 kept))
 
-  -- another part, and then what is left behind it
+  -- another part, and then what is left after it
   pub part_and : (source next : Source R) (written after : Written) (old out new : Option (List ℕ)) → WritesPart rem form kind columns find places false source next written old out
       → Wrote form [] after → WritesRest rem form kind columns find places next after out new → WritesRest rem form kind columns find places source written old new
   part_and source next written after old out new h none g = λ pending w.
@@ -111,7 +111,7 @@ pub parts_held : (rows : List (List (List ℕ) × List (List ℕ))) → map part
 parts_held [] = refl
 parts_held (row ∷ rows) = ap (λ l. row ∷ l) (parts_held rows)
 
--- a row is read behind those of a part
+-- a row is read after those of a part
 module _ {R : Type 0} (rem : R → Option (List ℕ)) (places : Places) (source now next : Source R) where
   pub part_row : (rows after : List (List (List ℕ) × List (List ℕ))) (row : ReadRow) → ReadsOn rem places source now [] (as_rows rows) → GivesRecord rem now next true
       → IsPicked places (last_record next) row → after ≡ rows ++ ((row.key, row.cells) ∷ []) → ReadsOn rem places source next [] (as_rows after)

@@ -8,7 +8,7 @@ use Rattle.keyed_requests.specs.AnswerForm.{in_style}
 use Rattle.keyed_requests.specs.declared.request.Form.{Form}
 use Rattle.keyed_requests.specs.declared.request.Settings.{Settings}
 use Rattle.keyed_requests.specs.declared.merging.Unit.TheVariants as unit
-use Rattle.keyed_commands.specs.Answers.{AnswersMerged, HasNoConflict, IsTableText, Stops, clashes_at, rows_eq}
+use Rattle.keyed_commands.specs.Answers.{AnswersMerged, HasNoConflict, IsTableFile, Stops, clashes_at, rows_eq}
 use Rattle.keyed_commands.specs.Lost.{loses}
 use Rattle.keyed_commands.specs.MergedTexts.{AnswersByRow, MergesTexts}
 use Rattle.keyed_commands.specs.declared.answer.Answer.{Answer}
@@ -57,12 +57,12 @@ module _ (settings : Settings) (base_form ours_form theirs_form : Form) (base_te
   told : AnswersMerged made_in merges.columns merges.merged.keys merges.merged.by_cells merges.base merges.ours merges.theirs answer
   told = by_row.whole free
 
-  text : IsTableText made_in merges.columns merges.merged.keys merges.merged.by_cells told.0 answer.bytes.items
+  text : IsTableFile made_in merges.columns merges.merged.keys merges.merged.by_cells told.0 answer.bytes.items
   text = by_test (loses merges.columns told.0)
       (λ t. absurd (not_stopped (subst (λ b. MatchBool b (Stops answer) ((answer.status ≡ 0) × (answer.outcome ≡ Made)
-      × IsTableText made_in merges.columns merges.merged.keys merges.merged.by_cells told.0 answer.bytes.items)) t told.2)))
+      × IsTableFile made_in merges.columns merges.merged.keys merges.merged.by_cells told.0 answer.bytes.items)) t told.2)))
       (λ f. (subst (λ b. MatchBool b (Stops answer) ((answer.status ≡ 0) × (answer.outcome ≡ Made)
-      × IsTableText made_in merges.columns merges.merged.keys merges.merged.by_cells told.0 answer.bytes.items)) f told.2).2)
+      × IsTableFile made_in merges.columns merges.merged.keys merges.merged.by_cells told.0 answer.bytes.items)) f told.2).2)
 
 pub one-side-law : OneSideLaw
 one-side-law settings base_form ours_form theirs_form base_text ours_text theirs_text answer merges made =

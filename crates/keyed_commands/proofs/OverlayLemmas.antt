@@ -37,7 +37,7 @@ on_none layer.Rows (Some rows) = refl
 on_none layer.Cells None = refl
 on_none layer.Cells (Some rows) = refl
 
--- the keys of no rows rise
+-- the keys of no rows strictly increase
 pub none_rises : Rising key_cmp {V = List (List (List ℕ))} []
 none_rises = rising key_cmp (λ k. ⊤) [] tt
 
@@ -110,7 +110,7 @@ module _ {R : Type 0} (rem : R → Option (List ℕ)) where
       subst (λ m. IfSome m (λ t. IsOpen f Rows (watched_left rem) t header new)) em
       (subst (λ f. IfSome m2 (λ t. IsOpen f Rows (watched_left rem) t header new)) ef (known_renamed key f2 header old new m2 renamed known))
 
-  -- one more stream is opened behind others, and no more
+  -- one more stream is opened after others, and no more
   pub layers_then : {A : Type 0} (form : Form) (key : Option A) (stream : Stream R) (left streams : List (Stream R)) (source : Opened (Watched R)) (more : List (Opened (Watched R)))
       → left ≡ stream ∷ streams → IsLayer rem form key stream source → AreLayers rem {A = A} form None streams more → AreLayers rem form key left (source ∷ more)
   layers_then form key stream left streams source more is one rest = subst (λ l. AreLayers rem form key l (source ∷ more)) (sym is) (one, rest)

@@ -2,6 +2,7 @@
 use Rattle.std.proofs.Common.{◌≡◌, ◌∙◌, ◌++◌, ℕ, Bool, true, false, List, [], Option, None, Some, ap, subst, sym}
 use Rattle.std.specs.Prelude.{◌↔◌, ◌||◌, IfSome}
 use Rattle.keyed_requests.specs.declared.request.Settings.{Settings}
+use Rattle.keyed_columns.specs.ChangedColumns.{marked_names}
 use Rattle.keyed_columns.specs.Keys.{AreChangeColumns}
 use Rattle.keyed_columns.specs.Names.{compared, has_lone}
 use Rattle.keyed_columns.specs.declared.column_changes.ColumnChanges.{ColumnChanges}
@@ -15,14 +16,17 @@ use Rattle.keyed_files.specs.declared.opened.Two.{Two}
 use Rattle.keyed_files.specs.declared.source.Source.{Source}
 use Rattle.keyed_rows.specs.declared.row.ReadRow.{ReadRow}
 use Rattle.keyed_commands.specs.Answers.{IsDiffStatus, IsDiffText, TableRows, status_of}
-use Rattle.keyed_commands.specs.TablesRead.{AreNames, DiffsSources, DiffsStreams, DiffsTexts, Gathers, IsStatusBetween, IsUnordered, ReadsTable, SaysTable}
+use Rattle.keyed_commands.specs.TablesRead.{AreNames, DiffsSources, DiffsStreams, DiffsTexts, Gathers, IsStatusBetween, IsUnordered, ReadsTable, SaysTable, headers_differ}
 use Rattle.keyed_tables.specs.Arranged.{noted}
+use Rattle.keyed_requests.specs.declared.request.Picked.{Picked}
+use Rattle.keyed_requests.specs.declared.request.Picked.TheVariants as picked
+use Rattle.keyed_commands.specs.Beside.{AnswersBeside, DiffsBesideSources, DiffsBesideStreams, DiffsBesideTexts, DiffsSourcesBy, DiffsStreamsBy}
 use Rattle.keyed_commands.specs.FileOrder.{begun_keys, noted_with}
 use Rattle.keyed_commands.specs.declared.answer.Answer.{Answer}
 use Rattle.keyed_commands.specs.declared.job.Job.{Job}
 use Rattle.keyed_commands.proofs.NotedLemmas.{notes-known}
 
--- rows that are read behind none are those of the table
+-- rows that are read after none are those of the table
 pub table-gathered : {R : Type 0} (rem : R → Option (List ℕ)) (groups : Bool) (columns : Columns) (source : Source R) (old rows : List ReadRow) (table : TableRows)
     → old ≡ [] → ReadsRows rem columns source old rows → Gathers groups rows table → ReadsTable rem groups columns source table
 table-gathered rem groups columns source old rows table none reads gathered = λ form kind text header begun.
@@ -83,3 +87,50 @@ module _ {R : Type 0} (rem : R → Option (List ℕ)) (settings : Settings) (old
         marks = read.marks;
         status = read.status;
       })
+
+  -- and where columns are ignored
+  beside-streams : (ignored : List ℕ) → IsOpened rem settings.form Rows old versions.first → IsOpened rem settings.form Rows new versions.next
+      → IsNamedAnew settings versions.first.source.value named.first.source.value → named.next ≡ versions.next
+      → job.form ≡ settings.form → job.groups ≡ settings.groups → (settings.keeps_order ≡ false → IsUnordered job) → noted job.order ≡ begun_keys settings.keeps_order
+      → AreChangeColumns settings.key named.first.source.value.header.names named.next.source.value.header.names job.columns.now
+      → DiffsBesideSources rem job ignored named answer → DiffsBesideStreams rem settings ignored old new answer
+  beside-streams ignored first next renamed same form groups unordered begins columned read =
+      both-known {T = λ t u. DiffsBesideTexts settings ignored (form_of settings.form old) (form_of settings.form new) t u answer} _ _ first next (λ t u opened beside.
+      let begun = open-anew rem settings (form_of settings.form old) Rows t _ _ named.first.source.value renamed opened in
+      let next_begun = subst (λ two. IsOpen (form_of settings.form new) Rows rem u two.source.value.header.names two.source.value) (sym same) beside in record {
+        columns = job.columns.now;
+        header = versions.first.source.value.header.names;
+        names = named.first.source.value.header.names;
+        next_header = named.next.source.value.header.names;
+        named = (renamed.0.header.names, are-names settings.key _ renamed.0 renamed.1, are-names settings.renames renamed.0 _ renamed.2);
+        columned = columned;
+        old = read.old;
+        new = read.new;
+        old_says = subst (λ g. SaysTable (form_of settings.form old) Rows g t versions.first.source.value.header.names named.first.source.value.header.names job.columns.now read.old)
+            groups (read.old_read _ _ t _ begun);
+        new_says = subst (λ g. SaysTable (form_of settings.form new) Rows g u named.next.source.value.header.names named.next.source.value.header.names job.columns.now read.new)
+            groups (read.new_read _ _ u _ next_begun);
+        ordered = notes-known rem Rows job.columns.now job.columns.now named.first.source.value named.next.source.value noted_with settings.keeps_order (noted job.order) read.beside.keys
+            (form_of settings.form old) (form_of settings.form new) t u _ _ begins read.notes begun next_begun;
+        beside = record {
+          compared = read.beside.compared;
+          are = read.beside.are;
+          keys = read.beside.keys;
+          by_cells = read.beside.by_cells;
+          changes = subst (λ f. AnswersBeside f job.columns.now read.beside.keys read.beside.by_cells read.beside.compared
+              (marked_names named.first.source.value.header.names named.next.source.value.header.names)
+              (headers_differ named.first.source.value.header.names named.next.source.value.header.names) read.old read.new answer) form read.beside.changes;
+          order = λ by_key. read.beside.order (unordered by_key);
+        };
+      })
+
+  -- by the columns that are picked
+  pub picked-streams : (by : Picked) → IsOpened rem settings.form Rows old versions.first → IsOpened rem settings.form Rows new versions.next
+      → IsNamedAnew settings versions.first.source.value named.first.source.value → named.next ≡ versions.next
+      → job.form ≡ settings.form → job.groups ≡ settings.groups → (settings.keeps_order ≡ false → IsUnordered job) → noted job.order ≡ begun_keys settings.keeps_order
+      → AreChangeColumns settings.key named.first.source.value.header.names named.next.source.value.header.names job.columns.now
+      → DiffsSourcesBy rem by job named answer → DiffsStreamsBy rem by settings old new answer
+  picked-streams picked.All first next renamed same form groups unordered begins columned read = diff-streams first next renamed same form groups unordered begins columned read
+  picked-streams (picked.Only names) first next renamed same form groups unordered begins columned read = diff-streams first next renamed same form groups unordered begins columned read
+  picked-streams (picked.AllBut names) first next renamed same form groups unordered begins columned read =
+      beside-streams names.now first next renamed same form groups unordered begins columned read

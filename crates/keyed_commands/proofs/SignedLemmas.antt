@@ -112,7 +112,7 @@ changes-read rem columns places source gone new_gone come new_come before after 
       read.notes,
     )
 
--- rows of changes that are read behind none, by key
+-- rows of changes that are read after none, by key
 pub changes-paired : {R : Type 0} (rem : R → Option (List ℕ)) (groups : Bool) (columns : Columns) (source : Source R) (gone new_gone come new_come : List ReadRow) (changes : TableChanges)
     (before after : Option Keys) → gone ≡ [] → come ≡ [] → PartsChanges rem columns source gone new_gone come new_come before after → PairsRows groups new_gone new_come changes
     → ReadsChanges rem groups columns source changes

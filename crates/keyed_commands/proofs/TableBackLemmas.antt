@@ -1,5 +1,5 @@
 -- The text of a table, read as a table again.
-use Rattle.std.proofs.Common.{◌≡◌, ◌≢◌, ◌∙◌, ◌+◌, ℕ, Bool, true, false, List, [], ◌∷◌, ◌++◌, All, None, Option, Some, arith, eqb-true, get_or, length, map, nat_eq, ne_eqb, refl, sym, ap, ap₂, subst, true≢false}
+use Rattle.std.proofs.Common.{◌≡◌, ◌≢◌, ◌∙◌, ◌+◌, ℕ, Bool, true, false, List, [], ◌∷◌, ◌++◌, All, None, Option, Some, arith, eqb-true, get_or, inl, inr, length, map, nat_eq, ne_eqb, refl, sym, ap, ap₂, subst, true≢false}
 use Rattle.std.specs.Prelude.{◌==◌, ◌&&◌, ◌||◌, not, option_map, if◌then◌else◌}
 use Rattle.std.specs.Cmp.Lexicographic.{bytes_decides, pointwise}
 use Rattle.std.proofs.lemmas.List.{get_or-map, map-append}
@@ -20,13 +20,17 @@ use Rattle.keyed_columns.specs.declared.content.Content.TheVariants.{Rows}
 use Rattle.keyed_columns.proofs.LawLemmas.{writes-names}
 use Rattle.keyed_files.specs.Reading.{behind_header, parts_of}
 use Rattle.keyed_files.specs.Rows.{heading, names_row, rows_under, table_rows}
-use Rattle.keyed_files.specs.Writing.{file_text, quoted, text_of}
+use Rattle.keyed_files.specs.SpelledFiles.{IsFileIn, IsUnmarked, SpelledRows}
+use Rattle.keyed_files.specs.Writing.{quoted, quoted_first, text_of}
 use Rattle.keyed_tables.specs.Gathered.{HoldsRows}
 use Rattle.keyed_text.specs.Laws.{HasCells}
 use Rattle.keyed_text.specs.Texts.{AreRows, BeginsComments, PartsCells, finished}
 use Rattle.keyed_text.specs.declared.style.Style.{Style}
+use Rattle.keyed_text.specs.Spelling.{rows_spelled, text_as}
+use Rattle.keyed_text.specs.declared.style.LineEnd.{LineEnd}
+use Rattle.keyed_text.proofs.SpellingLemmas.{spelled-back}
 use Rattle.keyed_text.proofs.TextLemmas.{file-back, rows-once}
-use Rattle.keyed_commands.specs.Answers.{IsTableText, TableRows, key_cmp}
+use Rattle.keyed_commands.specs.Answers.{IsTableFile, TableRows, key_cmp}
 use Rattle.keyed_commands.specs.TablesRead.{SaysTable}
 use Rattle.keyed_commands.specs.TextLaws.{SaysOnly, table_text_rows}
 use Rattle.keyed_commands.proofs.AnswerLemmas.{key_exact, key_total}
@@ -131,8 +135,9 @@ module _ (names key written : List (List ℕ)) (headers : List (List (List ℕ))
   -- what is written of a table that a text says is read as this table
   module _ (form from : Form) (groups : Bool) (text from_text : List ℕ) (header : List (List ℕ)) (table : TableRows) (has : writes_heading form ≡ true)
       (parts : PartsCells (delimiter_of form)) (begins_comments : BeginsComments (delimiter_of form) (comment_of form))
-      (spells : names_headed columns ≡ names_placed columns) (says : SaysTable from Rows groups from_text header names columns table) (is : IsTableText form columns None true table text) (some : written ≢ [])
-      (unmarked : is_marked (text_of form (table_text_rows form columns table)) ≡ false) where
+      (spells : names_headed columns ≡ names_placed columns) (says : SaysTable from Rows groups from_text header names columns table) (is : IsTableFile form columns None true table text) (some : written ≢ [])
+      (unmarked : is_marked (text_of form (table_text_rows form columns table)) ≡ false)
+      (each : IsUnmarked form (table_text_rows form columns table)) where
     header_is : placed order columns.key columns.rest ≡ written
     header_is = (writes-names key written headers columns writes once).0
 
@@ -150,19 +155,51 @@ module _ (names key written : List (List ℕ)) (headers : List (List (List ℕ))
     abbrev style : Style
     style = form.writing.style
 
-    text_is : text ≡ finished style (text_of form (written ∷ table_rows order table))
-    text_is =
-        let all = table_text_rows form columns table in
-        is.2 ∙ ap (λ shown. file_text form (heading form None columns ++ table_rows order shown)) (is.1.3 ∙ is.1.2)
-        ∙ ap (λ b. finished style (if b then quoted (delimiter_of form) (text_of form all) else text_of form all)) unmarked
-        ∙ ap (λ rows. finished style (text_of form rows)) rows_are
+    abbrev all : List (List (List ℕ))
+    all = written ∷ table_rows order table
 
-    are_rows : AreRows (delimiter_of form) (comment_of form) text (written ∷ table_rows order table)
-    are_rows =
-        subst (λ t. AreRows (delimiter_of form) (comment_of form) t (written ∷ table_rows order table)) (sym text_is)
-        (file-back style (delimiter_of form) (comment_of form) parts begins_comments written (table_rows order table)
-        (All-cons HasCells written (table_rows order table) some (table_full order table order_some))
-        (plain_text (text_of form (written ∷ table_rows order table)) (ap (λ rows. is_marked (text_of form rows)) (sym rows_are) ∙ unmarked)))
+    file_is : IsFileIn form all text
+    file_is =
+        subst (λ rows. IsFileIn form rows text)
+        (ap (λ shown. heading form None columns ++ table_rows order shown) (is.1.3 ∙ is.1.2) ∙ rows_are) is.2
+
+    have_cells : All HasCells all
+    have_cells = All-cons HasCells written (table_rows order table) some (table_full order table order_some)
+
+    abbrev AreAll : List ℕ → Type 0
+    AreAll bytes = AreRows (delimiter_of form) (comment_of form) bytes all
+
+    none_marked : is_marked (text_of form all) ≡ false
+    none_marked = ap (λ rows. is_marked (text_of form rows)) (sym rows_are) ∙ unmarked
+
+    -- where the rows are written in the style of the form
+    plain_rows : text ≡ finished style (quoted_first (delimiter_of form) (text_of form all)) → AreAll text
+    plain_rows e =
+        let bare : text ≡ finished style (text_of form all) =
+        e ∙ ap (λ b. finished style (if b then quoted (delimiter_of form) (text_of form all) else text_of form all)) none_marked in
+        subst AreAll (sym bare)
+        (file-back style (delimiter_of form) (comment_of form) parts begins_comments written (table_rows order table) have_cells (plain_text (text_of form all) none_marked))
+
+    -- and where each has a spelling of its own
+    abbrev text_spelled : SpelledRows → List LineEnd → List ℕ
+    text_spelled spelled after = text_as style (delimiter_of form) (comment_of form) spelled after
+
+    each_rows : (spelled : SpelledRows) (after : List LineEnd) → rows_spelled spelled ≡ all
+        → text ≡ finished style (quoted_first (delimiter_of form) (text_spelled spelled after)) → AreAll text
+    each_rows [] after e t = absurd (cc e)
+    each_rows (row ∷ rows) after e t =
+        let bytes = text_spelled (row ∷ rows) after in
+        let plainly : is_marked bytes ≡ false = each (row ∷ rows) after (e ∙ sym rows_are) in
+        let bare : text ≡ finished style bytes = t ∙ ap (λ b. finished style (if b then quoted (delimiter_of form) bytes else bytes)) plainly in
+        let back = spelled-back (delimiter_of form) (comment_of form) parts begins_comments style row rows after
+        (subst (All HasCells) (sym e) have_cells) (plain_text bytes plainly) in
+        subst AreAll (sym bare) (subst (λ rs. AreRows (delimiter_of form) (comment_of form) (finished style bytes) rs) e back)
+
+    are_rows : AreAll text
+    are_rows = elim file_is [
+      | inl e ↦ plain_rows e
+      | inr e ↦ each_rows e.0 e.1 e.2 e.3
+    ]
 
     pub says-only : SaysOnly form groups text written columns table
     says-only other h =

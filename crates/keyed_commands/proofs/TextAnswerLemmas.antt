@@ -1,30 +1,32 @@
 -- From what `apply` and `merge` answer of sources to what they answer of texts.
-use Rattle.std.proofs.Common.{◌≡◌, ℕ, false, List, Option, None, Some, refl, subst, sym}
+use Rattle.std.proofs.Common.{◌≡◌, ℕ, false, List, Option, None, Some, refl, subst}
 use Rattle.std.specs.Prelude.{IfSome}
 use Rattle.keyed_requests.specs.AnswerForm.{in_style}
 use Rattle.keyed_requests.specs.declared.merging.Unit.{Unit}
 use Rattle.keyed_requests.specs.declared.request.Form.{Form}
 use Rattle.keyed_requests.specs.declared.request.Settings.{Settings}
+use Rattle.keyed_files.specs.Gone.{IsGoneRead, IsTurned}
 use Rattle.keyed_columns.specs.Keys.{AreChangedColumnsBy, AreMergedColumnsBy}
 use Rattle.keyed_columns.specs.Spelled.{IsSpelledAs}
 use Rattle.keyed_columns.specs.declared.columns.Columns.{Columns}
 use Rattle.keyed_columns.specs.declared.content.Content.TheVariants.{Changes, Rows}
-use Rattle.keyed_files.specs.Gone.{GoneOf, IsGoneRead}
 use Rattle.keyed_files.specs.Opening.{IsNamedAnew, IsOpened, form_of, text_of_stream}
 use Rattle.keyed_files.specs.Reading.{IsOpen}
 use Rattle.keyed_files.proofs.TableLemmas.{open-anew}
 use Rattle.keyed_files.specs.declared.opened.Opened.{Opened}
 use Rattle.keyed_files.specs.declared.opened.Stream.{Stream}
 use Rattle.keyed_files.specs.declared.opened.Two.{Two}
+use Rattle.keyed_requests.specs.declared.request.Direction.{Direction}
 use Rattle.keyed_commands.specs.AppliedTexts.{AnswersApplied, AppliesSources, AppliesStreams, AppliesTexts}
 use Rattle.keyed_tables.specs.Arranged.{noted}
 use Rattle.keyed_commands.specs.ChangesRead.{SaysChanges}
 use Rattle.keyed_commands.specs.FileOrder.{begun_keys, noted_with, placed_with}
 use Rattle.keyed_commands.specs.MergedTexts.{AnswersBy, MergesSources, MergesStreams, MergesTexts}
 use Rattle.keyed_commands.specs.TablesRead.{IsUnordered, ReadsTable, SaysTable}
+use Rattle.keyed_commands.specs.Turned.{changes_in}
 use Rattle.keyed_commands.specs.declared.answer.Answer.{Answer}
 use Rattle.keyed_commands.specs.declared.job.Job.{Job}
-use Rattle.keyed_commands.proofs.GoneLemmas.{both-of, gone-of, spelled-of}
+use Rattle.keyed_commands.proofs.GoneLemmas.{both-of, leave-of, names-turned, open-turned, spelled-of}
 use Rattle.keyed_commands.proofs.NotedLemmas.{notes-known}
 use Rattle.keyed_commands.proofs.ReadLemmas.{are-names, both-known}
 
@@ -62,19 +64,21 @@ says rem settings job form text header named table groups read begun =
     subst (λ g. SaysTable form Rows g text header named.source.value.header.names job.columns.now table) groups (read form Rows text header begun)
 
 -- two streams of a table and of changes, of their texts
-module _ {R : Type 0} (rem : R → Option (List ℕ)) (settings : Settings) (old changes : Stream R) (inputs named : Two R) (job : Job Columns) (answer : Answer) where
+module _ {R : Type 0} (rem : R → Option (List ℕ)) (settings : Settings) (direction : Direction) (old changes : Stream R) (inputs named : Two R) (job : Job Columns) (answer : Answer) where
   pub apply-streams : IsOpened rem settings.form Rows old inputs.first → IsOpened rem settings.form Changes changes inputs.next
-      → IsGoneRead rem settings.form Changes changes inputs.next → IsNamedAnew settings inputs.first.source.value named.first.source.value → named.next ≡ inputs.next
+      → IsGoneRead rem settings.form Changes changes inputs.next → IsNamedAnew settings inputs.first.source.value named.first.source.value → IsTurned direction inputs.next.source.value named.next.source.value
       → job.form ≡ settings.form → job.groups ≡ settings.groups → (settings.keeps_order ≡ false → IsUnordered job) → noted job.order ≡ begun_keys settings.keeps_order
       → AreChangedColumnsBy settings.key named.first.source.value.header.names named.next.source.value.header.names named.next.source.value.header.gone job.columns.now
       → IsSpelledAs named.first.source.value.header.spelling.names named.first.source.value.header.spelling.spelled job.columns.now
-      → AppliesSources rem job named answer → AppliesStreams rem settings old changes answer
-  apply-streams first next goes renamed same form groups unordered begins columned spells read =
-      both-known {T = λ t u. AppliesTexts settings (form_of settings.form old) (form_of settings.form changes) t u answer} _ _ first
+      → AppliesSources rem job direction named answer → AppliesStreams rem settings direction old changes answer
+  apply-streams first next goes renamed turned form groups unordered begins columned spells read =
+      both-known {T = λ t u. AppliesTexts settings direction (form_of settings.form old) (form_of settings.form changes) t u answer} _ _ first
       (both-of _ _ (text_of_stream rem settings.form changes) next (goes refl)) (λ t u opened beside.
       let begun = open-anew rem settings (form_of settings.form old) Rows t inputs.first.source.value.header.names inputs.first.source.value named.first.source.value renamed opened in
       let old_says = says rem settings job (form_of settings.form old) t inputs.first.source.value.header.names named.first read.old groups read.old_read begun in
-      let next_begun = subst (λ two. IsOpen (form_of settings.form changes) Changes rem u two.source.value.header.names two.source.value) (sym same) beside.0 in
+      let next_begun = subst (λ names. IsOpen (form_of settings.form changes) Changes rem u names named.next.source.value)
+      (names-turned direction inputs.next.source.value named.next.source.value turned)
+      (open-turned rem direction (form_of settings.form changes) Changes u _ inputs.next.source.value named.next.source.value turned beside.0) in
       let changes_read = read.changes_read (form_of settings.form changes) u named.next.source.value.header.names next_begun in record {
         columns = job.columns.now;
         header = inputs.first.source.value.header.names;
@@ -92,15 +96,14 @@ module _ {R : Type 0} (rem : R → Option (List ℕ)) (settings : Settings) (old
         spells = subst (λ names. IsSpelledAs names named.first.source.value.header.spelling.spelled job.columns.now) begun.named spells;
         changes_say = subst (λ g. SaysChanges (form_of settings.form changes) g u named.next.source.value.header.names named.next.source.value.header.names job.columns.now read.changes)
             groups changes_read;
-        gone_said = subst (λ two. GoneOf (form_of settings.form changes) u two.source.value.header.gone) (sym same)
-            (gone-of rem (form_of settings.form changes) u inputs.next.source.value changes_read.1.0 changes_read.1.1 beside.1);
+        gone_said = leave-of rem (form_of settings.form changes) u inputs.next.source.value changes_read.1.0 changes_read.1.1 direction named.next.source.value turned beside.1;
         ordered = notes-known rem Changes job.columns.now job.columns.now named.first.source.value named.next.source.value noted_with settings.keeps_order (noted job.order) read.applied.keys
             (form_of settings.form old) (form_of settings.form changes) t u _ _ begins read.notes begun next_begun;
         applied = record {
           style = read.applied.style;
           keys = read.applied.keys;
           by_cells = read.applied.by_cells;
-          applied = subst (λ f. AnswersApplied (in_style read.applied.style f) job.columns.now read.applied.keys read.applied.by_cells read.old read.changes answer) form read.applied.applied;
+          applied = subst (λ f. AnswersApplied (in_style read.applied.style f) job.columns.now read.applied.keys read.applied.by_cells read.old (changes_in direction read.changes) answer) form read.applied.applied;
           order = λ by_key. read.applied.order (unordered by_key);
         };
       })

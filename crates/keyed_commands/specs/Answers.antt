@@ -10,7 +10,7 @@ use Rattle.either_or_both.specs.Join.{Rising, value_under}
 use Rattle.eob_joins.specs.Changes.{applied, changed}
 use Rattle.eob_joins.specs.declared.versions.Merged.{Merged}
 use Rattle.eob_joins.specs.declared.versions.Merged.TheVariants.{Whole, Conflicts}
-use Rattle.eob_joins.specs.Settled.{Became, is_stuck}
+use Rattle.eob_joins.specs.Settled.{Became, is_unresolved}
 use Rattle.eob_joins.specs.Tables.{IsKeptOfJoin, Tabulates}
 use Rattle.eob_joins.specs.Versions.{is_conflict, merged_place, verdict}
 use Rattle.keyed_tables.specs.RowsByCell.{GivesRow, can_by_row}
@@ -20,6 +20,7 @@ use Rattle.keyed_columns.specs.Names.{has_lone}
 use Rattle.keyed_columns.specs.declared.column_changes.ColumnChanges.{ColumnChanges}
 use Rattle.keyed_columns.specs.declared.columns.Columns.{Columns}
 use Rattle.keyed_files.specs.Rows.{heading, table_rows}
+use Rattle.keyed_files.specs.SpelledFiles.{IsFileIn}
 use Rattle.keyed_files.specs.Writing.{file_text, text_of}
 use Rattle.keyed_commands.specs.declared.answer.Answer.{Answer}
 use Rattle.keyed_commands.specs.declared.answer.Outcome.TheVariants.{Made, Stopped}
@@ -82,10 +83,15 @@ module _ (form : Form) (columns : Columns) (noted : Option (List (List (List ℕ
   IsTableText rows text = (shown : TableRows) × ComesOut noted by_cells AlikeRows rows shown
       × (text ≡ file_text form (heading form None columns ++ table_rows columns.order.items shown))
 
+  -- the same with each row in the style of the form or in a spelling of its own
+  abbrev pub IsTableFile : TableRows → List ℕ → Type 0
+  IsTableFile rows text = (shown : TableRows) × ComesOut noted by_cells AlikeRows rows shown
+      × IsFileIn form (heading form None columns ++ table_rows columns.order.items shown) text
+
   -- an answer to a command that makes a table: its text, unless a cell would be lost
   abbrev pub AnswersTable : TableRows → Answer → Type 0
   AnswersTable rows answer = MatchBool (loses columns rows) (Stops answer)
-      ((answer.status ≡ 0) × (answer.outcome ≡ Made) × IsTableText rows answer.bytes.items)
+      ((answer.status ≡ 0) × (answer.outcome ≡ Made) × IsTableFile rows answer.bytes.items)
 
   -- the same of the table with changes made to it
   abbrev pub AnswersPatched : TableRows → TableChanges → Answer → Type 0
@@ -119,11 +125,11 @@ abbrev pub HasNoConflict : TableRows → TableRows → TableRows → Type 0
 HasNoConflict base ours theirs = (k : List (List ℕ)) → clashes_at base ours theirs k ≡ false
 
 -- the same where rows are merged by cell: no rule settles the key
-abbrev pub sticks_at : TableRows → TableRows → TableRows → List (List ℕ) → Bool
-sticks_at base ours theirs k = is_stuck rows_eq can_by_row (value_under key_cmp base k) (value_under key_cmp ours k) (value_under key_cmp theirs k)
+abbrev pub unresolved_at : TableRows → TableRows → TableRows → List (List ℕ) → Bool
+unresolved_at base ours theirs k = is_unresolved rows_eq can_by_row (value_under key_cmp base k) (value_under key_cmp ours k) (value_under key_cmp theirs k)
 
-abbrev pub HasStuck : TableRows → TableRows → TableRows → Type 0
-HasStuck base ours theirs = (k : List (List ℕ)) × (sticks_at base ours theirs k ≡ true)
+abbrev pub HasUnresolved : TableRows → TableRows → TableRows → Type 0
+HasUnresolved base ours theirs = (k : List (List ℕ)) × (unresolved_at base ours theirs k ≡ true)
 
-abbrev pub HasNoneStuck : TableRows → TableRows → TableRows → Type 0
-HasNoneStuck base ours theirs = (k : List (List ℕ)) → sticks_at base ours theirs k ≡ false
+abbrev pub HasNoneUnresolved : TableRows → TableRows → TableRows → Type 0
+HasNoneUnresolved base ours theirs = (k : List (List ℕ)) → unresolved_at base ours theirs k ≡ false

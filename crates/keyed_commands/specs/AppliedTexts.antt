@@ -4,19 +4,21 @@ use Rattle.keyed_text.specs.declared.style.Style.{Style}
 use Rattle.keyed_requests.specs.AnswerForm.{in_style}
 use Rattle.keyed_requests.specs.declared.request.Form.{Form}
 use Rattle.keyed_requests.specs.declared.request.Settings.{Settings}
+use Rattle.keyed_files.specs.Gone.{LeaveOf}
 use Rattle.keyed_columns.specs.Keys.{AreChangedColumnsBy}
 use Rattle.keyed_columns.specs.Spelled.{IsSpelledAs, SpelledOf}
 use Rattle.keyed_columns.specs.declared.columns.Columns.{Columns}
 use Rattle.keyed_columns.specs.declared.content.Content.TheVariants.{Changes, Rows}
-use Rattle.keyed_files.specs.Gone.{GoneOf}
 use Rattle.keyed_files.specs.Opening.{form_of, text_of_stream}
 use Rattle.keyed_files.specs.declared.opened.Stream.{Stream}
 use Rattle.keyed_files.specs.declared.opened.Two.{Two}
+use Rattle.keyed_requests.specs.declared.request.Direction.{Direction}
 use Rattle.keyed_tables.specs.Arranged.{noted}
 use Rattle.keyed_commands.specs.Answers.{AllFit, AnswersPatched, Stops, TableChanges, TableRows, key_cmp}
 use Rattle.keyed_commands.specs.ChangesRead.{ReadsChanges, SaysChanges}
 use Rattle.keyed_commands.specs.FileOrder.{AreKeysOfBoth, NotesBoth, noted_with}
 use Rattle.keyed_commands.specs.TablesRead.{AreNamesBy, IsUnordered, ReadsTable, SaysTable}
+use Rattle.keyed_commands.specs.Turned.{changes_in}
 use Rattle.keyed_commands.specs.declared.answer.Answer.{Answer}
 use Rattle.keyed_commands.specs.declared.job.Job.{Job}
 use Rattle.keyed_commands.specs.declared.styles.Watched.{Watched}
@@ -40,8 +42,9 @@ pub record AppliedIn (form : Form) (columns : Columns) (unordered : Type 0) (old
   pub order : unordered → (keys ≡ None) × (by_cells ≡ true)
 
 -- what `apply` answers of two texts: the first says a table and the second one changes, under the columns of the table that they make, of
--- which those go that the header of changes says, and whose heading is spelled as the header of the first text is
-pub record AppliesTexts (settings : Settings) (old_form changes_form : Form) (old_text changes_text : List ℕ) (answer : Answer) : Type 0 where
+-- which those go that the header of changes says, and whose heading is spelled as the header of the first text is; backward, each change is
+-- turned about, and the columns go that came
+pub record AppliesTexts (settings : Settings) (direction : Direction) (old_form changes_form : Form) (old_text changes_text : List ℕ) (answer : Answer) : Type 0 where
   pub columns : Columns
   pub header : List (List ℕ)
   pub names : List (List ℕ)
@@ -53,27 +56,27 @@ pub record AppliesTexts (settings : Settings) (old_form changes_form : Form) (ol
   pub changes : TableChanges
   pub old_says : SaysTable old_form Rows settings.groups old_text header names columns old
   pub changes_say : SaysChanges changes_form settings.groups changes_text changes_header changes_header columns changes
-  pub gone_said : GoneOf changes_form changes_text gone
+  pub gone_said : LeaveOf direction changes_form changes_text gone
   pub spelled : List (List ℕ)
   pub spelled_said : SpelledOf old_form Rows old_text spelled
   pub spells : IsSpelledAs header spelled columns
   pub headed : old_form.has_header ≡ settings.form.has_header
-  pub applied : AppliedIn settings.form columns (settings.keeps_order ≡ false) old changes answer
+  pub applied : AppliedIn settings.form columns (settings.keeps_order ≡ false) old (changes_in direction changes) answer
   pub ordered : AreKeysOfBoth old_form changes_form Changes old_text changes_text names changes_header columns columns noted_with settings.keeps_order applied.keys
 
 module _ {R : Type 0} (remaining : R → Option (List ℕ)) where
   -- the same of a source of a table and one of changes
-  pub record AppliesSources (job : Job Columns) (inputs : Two R) (answer : Answer) : Type 0 where
+  pub record AppliesSources (job : Job Columns) (direction : Direction) (inputs : Two R) (answer : Answer) : Type 0 where
     pub old : TableRows
     pub changes : TableChanges
     pub old_read : ReadsTable remaining job.groups job.columns.now inputs.first.source.value old
     pub changes_read : ReadsChanges remaining job.groups job.columns.now inputs.next.source.value changes
-    pub applied : AppliedIn job.form job.columns.now (IsUnordered job) old changes answer
+    pub applied : AppliedIn job.form job.columns.now (IsUnordered job) old (changes_in direction changes) answer
     pub notes : NotesBoth remaining Changes job.columns.now job.columns.now inputs.first.source.value inputs.next.source.value noted_with (noted job.order)
         applied.keys
 
   -- and of two streams whose texts are known
-  abbrev pub AppliesStreams : Settings → Stream R → Stream R → Answer → Type 0
-  AppliesStreams settings old changes answer = IfSome (text_of_stream remaining settings.form old) (λ old_text.
+  abbrev pub AppliesStreams : Settings → Direction → Stream R → Stream R → Answer → Type 0
+  AppliesStreams settings direction old changes answer = IfSome (text_of_stream remaining settings.form old) (λ old_text.
       IfSome (text_of_stream remaining settings.form changes) (λ changes_text.
-      AppliesTexts settings (form_of settings.form old) (form_of settings.form changes) old_text changes_text answer))
+      AppliesTexts settings direction (form_of settings.form old) (form_of settings.form changes) old_text changes_text answer))

@@ -1,5 +1,6 @@
--- Rows whose cells are compared by value where they are numbers, by a tolerance: which of them changed, and which in conflict are settled.
-use Rattle.std.specs.Prelude.{ℕ, ◌||◌, Bool, false, not, List, [], ◌∷◌, Option, Some, None, filter, nat_eq, option_map, zip, if◌then◌else◌}
+-- Rows whose cells are not compared as they stand, but as their columns are: which of them changed, and which in conflict are settled.
+use Rattle.std.specs.Prelude.{ℕ, ◌||◌, ◌&&◌, ◌==◌, Bool, false, not, List, [], ◌∷◌, Option, Some, None, filter, length, nat_eq, option_map, zip, if◌then◌else◌}
+use Rattle.std.specs.List.{list_all}
 use Rattle.std.specs.Cmp.Lexicographic.{pointwise}
 use Rattle.std.specs.Option.{option_and_then, option_eq}
 use Rattle.eob_both.specs.Places.{item_left, item_right}
@@ -11,21 +12,36 @@ use Rattle.eob_joins.specs.Tables.{kept}
 use Rattle.keyed_requests.specs.declared.merging.Unit.{Unit}
 use Rattle.keyed_requests.specs.declared.merging.Unit.TheVariants as unit
 use Rattle.keyed_numbers.specs.Decimals.{same_cell}
-use Rattle.keyed_numbers.specs.declared.decimal.Decimal.{Decimal}
+use Rattle.keyed_numbers.specs.declared.alike.Alike.{Alike}
 use Rattle.keyed_tables.specs.RowsByCell.{one_row}
 use Rattle.keyed_tables.specs.declared.marked.Marked.{Marked}
-use Rattle.keyed_tables.specs.declared.marked.Marked.TheVariants.{Settled, Stuck}
+use Rattle.keyed_tables.specs.declared.marked.Marked.TheVariants.{Settled, Unresolved}
 
 -- what stands of a key in conflict: its rows where it is settled, if it has any, and else its versions
 abbrev pub mark_of : EitherOrBoth (List (List (List ℕ))) (EitherOrBoth (List (List (List ℕ))) (List (List (List ℕ))))
     → Option (Option (List (List (List ℕ)))) → Option (Marked (List (List (List ℕ))))
-mark_of versions None = Some (Stuck versions)
+mark_of versions None = Some (Unresolved versions)
 mark_of versions (Some rows) = option_map Settled rows
 
-module _ (tolerance : Decimal) where
-  -- two rows are the same: they have as many cells, and each is the same as the other one at its place
+-- the cell of three versions, if it is settled, as its column is compared: theirs where ours is the base to the byte, ours where theirs is
+-- the same as ours or as the base, and theirs where ours is the same as the base
+abbrev pub settled_cell : Alike → List ℕ → List ℕ → List ℕ → Option (List ℕ)
+settled_cell alike base ours theirs =
+    if pointwise nat_eq base ours then Some theirs
+    else if same_cell alike ours theirs || same_cell alike base theirs then Some ours
+    else if same_cell alike base ours then Some theirs else None
+
+-- the cells of three versions of a row, each with how its column is compared, if each of them is settled
+abbrev pub settled_cells : List (Alike × (List ℕ × (List ℕ × List ℕ))) → Option (List (List ℕ))
+settled_cells [] = Some []
+settled_cells (z ∷ zs) = option_and_then (λ cell. option_map (λ row. cell ∷ row) (settled_cells zs)) (settled_cell z.0 z.1.0 z.1.1.0 z.1.1.1)
+
+-- how the cells of each column are compared
+module _ (alikes : List Alike) where
+  -- two rows are the same: they have as many cells as there are columns, and each is the same as the other one in its column
   abbrev pub same_row : List (List ℕ) → List (List ℕ) → Bool
-  same_row row other = pointwise (same_cell (Some tolerance)) row other
+  same_row row other = (length row == length other) && ((length alikes == length row)
+      && list_all (λ column. same_cell column.0 column.1.0 column.1.1) (zip alikes (zip row other)))
 
   -- two groups have the same rows, one after another
   abbrev pub same_rows : List (List (List ℕ)) → List (List (List ℕ)) → Bool
@@ -46,22 +62,9 @@ module _ (tolerance : Decimal) where
       → List (K × EitherOrBoth (List (List (List ℕ))) (List (List (List ℕ))))
   changed_by_number changes = filter (λ change. not (is_same_change change.1)) changes
 
-  -- the cell of three versions, if it is settled: theirs where ours is the base to the byte, ours where theirs is the same as ours or as
-  -- the base, and theirs where ours is the same as the base
-  abbrev pub settled_cell : List ℕ → List ℕ → List ℕ → Option (List ℕ)
-  settled_cell base ours theirs =
-      if pointwise nat_eq base ours then Some theirs
-      else if same_cell (Some tolerance) ours theirs || same_cell (Some tolerance) base theirs then Some ours
-      else if same_cell (Some tolerance) base ours then Some theirs else None
-
-  -- the cells of three versions of a row, if each of them is settled
-  abbrev pub settled_cells : List (List ℕ × (List ℕ × List ℕ)) → Option (List (List ℕ))
-  settled_cells [] = Some []
-  settled_cells (z ∷ zs) = option_and_then (λ cell. option_map (λ row. cell ∷ row) (settled_cells zs)) (settled_cell z.0 z.1.0 z.1.1)
-
-  -- the row of three that are there and have as many cells, if each cell is settled
+  -- the row of three that are there and have as many cells as there are columns, if each cell is settled
   abbrev pub settled_row : Option (List (List ℕ)) → Option (List (List ℕ)) → Option (List (List ℕ)) → Option (List (List ℕ))
-  settled_row (Some b) (Some p) (Some q) = if same_length b p q then settled_cells (zip b (zip p q)) else None
+  settled_row (Some b) (Some p) (Some q) = if same_length b p q && (length alikes == length b) then settled_cells (zip alikes (zip b (zip p q))) else None
   settled_row (Some b) (Some p) None = None
   settled_row (Some b) None q = None
   settled_row None p q = None
@@ -84,7 +87,7 @@ module _ (tolerance : Decimal) where
   -- what stands of a key that is in conflict or not
   abbrev pub settled_mark : Unit → Marked (List (List (List ℕ))) → Option (Marked (List (List (List ℕ))))
   settled_mark by (Settled rows) = Some (Settled rows)
-  settled_mark by (Stuck versions) = mark_of versions
+  settled_mark by (Unresolved versions) = mark_of versions
       (settled by (left_place versions) (item_left (right_place versions)) (item_right (right_place versions)))
 
   -- the merged rows in their order, each as what stands of it

@@ -7,7 +7,7 @@ use Rattle.either_or_both.specs.Prelude.{left_place, right_place}
 use Rattle.eob_both.specs.declared.either_or_both.EitherOrBoth.{EitherOrBoth}
 use Rattle.keyed_tables.specs.Arranged.{AreArranged}
 use Rattle.keyed_tables.specs.declared.marked.Marked.{Marked}
-use Rattle.keyed_tables.specs.declared.marked.Marked.TheVariants.{Settled, Stuck}
+use Rattle.keyed_tables.specs.declared.marked.Marked.TheVariants.{Settled, Unresolved}
 
 -- the same rows in another order
 abbrev pub AlikeRows : List (List (List ℕ)) → List (List (List ℕ)) → Type 0
@@ -27,9 +27,9 @@ AlikePlaces P Q v w = AlikePlace P (left_place v) (left_place w) × AlikePlace Q
 -- the same of what a merge makes of a key
 abbrev pub AlikeMarked : Marked (List (List (List ℕ))) → Marked (List (List (List ℕ))) → Type 0
 AlikeMarked (Settled rows) (Settled others) = AlikeRows rows others
-AlikeMarked (Settled rows) (Stuck others) = ⊥
-AlikeMarked (Stuck rows) (Settled others) = ⊥
-AlikeMarked (Stuck rows) (Stuck others) = AlikePlaces AlikeRows (AlikePlaces AlikeRows AlikeRows) rows others
+AlikeMarked (Settled rows) (Unresolved others) = ⊥
+AlikeMarked (Unresolved rows) (Settled others) = ⊥
+AlikeMarked (Unresolved rows) (Unresolved others) = AlikePlaces AlikeRows (AlikePlaces AlikeRows AlikeRows) rows others
 
 -- place by place the same key, and values that are alike
 abbrev pub AlikeByKey : {K V : Type 0} → (V → V → Type 0) → List (K × V) → List (K × V) → Type 0

@@ -12,6 +12,7 @@ use Rattle.keyed_text.specs.Texts.{BeginsComments, PartsCells, ReadsAs}
 use Rattle.keyed_commands.specs.declared.answer.Answer.{Answer}
 use Rattle.keyed_commands.specs.Answers.{AllFit, AnswersPatched, AnswersTable, ChangesComeOut, IsDiffText, TableChanges, TableRows, key_cmp, rows_eq}
 use Rattle.keyed_commands.specs.ChangeRows.{changes_rows}
+use Rattle.keyed_commands.specs.Turned.{turned}
 
 -- the changes between two tables fit the old one
 abbrev pub ChangesFitLaw : Type 0
@@ -37,3 +38,12 @@ DiffReadsLaw = (form : Form) (columns : Columns) (noted : Option (List (List (Li
     × ReadsAs (delimiter_of form) (comment_of form) text (change_name ∷ marked) (changes_rows columns.order.items shown)
     × ((names : List (List ℕ)) (found : List (List (List ℕ))) → ReadsAs (delimiter_of form) (comment_of form) text names found
     → (names ≡ change_name ∷ marked) × (found ≡ changes_rows columns.order.items shown))
+
+-- changes turned about fit the table that the changes made
+abbrev pub TakenBackFitsLaw : Type 0
+TakenBackFitsLaw = (old rows : TableRows) (changes : TableChanges) → IsKeptOfJoin key_cmp applied old changes rows → AllFit key_cmp rows (turned changes)
+
+-- and made to it they give the table back that the changes were made to, where they fitted it
+abbrev pub TakenBackLaw : Type 0
+TakenBackLaw = (old rows back : TableRows) (changes : TableChanges) → Rising key_cmp old → AllFit key_cmp old changes
+    → IsKeptOfJoin key_cmp applied old changes rows → IsKeptOfJoin key_cmp applied rows (turned changes) back → back ≡ old

@@ -17,6 +17,10 @@ pub mod OneSide
 pub mod OverlayAnswers
 pub mod PartAnswers
 pub mod Preferred
+pub mod Reported
+pub mod Requested
 pub mod SortedParts
 pub mod TablesRead
 pub mod TextLaws
+pub mod Turned
+pub mod Beside

@@ -17,7 +17,7 @@ use Rattle.keyed_files.specs.declared.opened.Opened.{Opened}
 use Rattle.keyed_files.specs.declared.opened.Stream.{Stream}
 use Rattle.keyed_files.specs.declared.opened.Two.{Two}
 use Rattle.keyed_tables.specs.Arranged.{noted}
-use Rattle.keyed_commands.specs.Answers.{AnswersMerged, AnswersMergedByCell, HasConflict, HasNoConflict, HasNoneStuck, HasStuck, Stops, TableRows}
+use Rattle.keyed_commands.specs.Answers.{AnswersMerged, AnswersMergedByCell, HasConflict, HasNoConflict, HasNoneUnresolved, HasUnresolved, Stops, TableRows}
 use Rattle.keyed_commands.specs.FileOrder.{AreKeysOfBoth, NotesBoth, placed_with}
 use Rattle.keyed_commands.specs.TablesRead.{AreNamesBy, IsUnordered, ReadsTable, SaysTable}
 use Rattle.keyed_commands.specs.declared.answer.Answer.{Answer}
@@ -25,7 +25,7 @@ use Rattle.keyed_commands.specs.declared.job.Job.{Job}
 
 -- a merge is reported: numbers are compared as they are written, and rows in conflict are not put between marks
 pub record IsReported (how : Merging) : Type 0 where
-  pub as_written : how.tolerance ≡ None
+  pub as_written : how.sameness ≡ None
   pub reports : how.conflicts ≡ Report
 
 module _ (form : Form) (columns : Columns) (keys : Option (List (List (List ℕ)))) (by_cells : Bool) (base ours theirs : TableRows) (answer : Answer) where
@@ -36,8 +36,8 @@ module _ (form : Form) (columns : Columns) (keys : Option (List (List (List ℕ)
 
   -- the same where rows are merged by cell
   pub record AnswersByCell : Type 0 where
-    pub whole : HasNoneStuck base ours theirs → AnswersMergedByCell form columns keys by_cells base ours theirs answer
-    pub conflict : HasStuck base ours theirs → Stops answer
+    pub whole : HasNoneUnresolved base ours theirs → AnswersMergedByCell form columns keys by_cells base ours theirs answer
+    pub conflict : HasUnresolved base ours theirs → Stops answer
 
   abbrev pub AnswersBy : Unit → Type 0
   AnswersBy unit.Row = AnswersByRow

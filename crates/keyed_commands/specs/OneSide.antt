@@ -5,7 +5,7 @@ use Rattle.keyed_requests.specs.AnswerForm.{in_style}
 use Rattle.keyed_requests.specs.declared.request.Form.{Form}
 use Rattle.keyed_requests.specs.declared.request.Settings.{Settings}
 use Rattle.keyed_requests.specs.declared.merging.Unit.TheVariants as unit
-use Rattle.keyed_commands.specs.Answers.{IsTableText, TableRows, key_cmp}
+use Rattle.keyed_commands.specs.Answers.{IsTableFile, TableRows, key_cmp}
 use Rattle.keyed_commands.specs.MergedTexts.{MergesTexts}
 use Rattle.keyed_commands.specs.declared.answer.Answer.{Answer}
 use Rattle.keyed_commands.specs.declared.answer.Outcome.TheVariants.{Made}
@@ -24,4 +24,4 @@ abbrev pub OneSideLaw : Type 0
 OneSideLaw = (settings : Settings) (base_form ours_form theirs_form : Form) (base_text ours_text theirs_text : List ℕ) (answer : Answer)
     → (merges : MergesTexts unit.Row settings base_form ours_form theirs_form base_text ours_text theirs_text answer) → answer.outcome ≡ Made
     → (rows : TableRows) × KeepsOneSide merges.base merges.ours merges.theirs rows
-    × IsTableText (in_style merges.merged.style settings.form) merges.columns merges.merged.keys merges.merged.by_cells rows answer.bytes.items
+    × IsTableFile (in_style merges.merged.style settings.form) merges.columns merges.merged.keys merges.merged.by_cells rows answer.bytes.items

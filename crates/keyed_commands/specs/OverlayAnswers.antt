@@ -22,7 +22,7 @@ use Rattle.keyed_files.specs.Opening.{form_of, text_of_stream}
 use Rattle.keyed_files.specs.Reading.{IsOpen}
 use Rattle.keyed_files.specs.declared.opened.Opened.{Opened}
 use Rattle.keyed_files.specs.declared.opened.Stream.{Stream}
-use Rattle.keyed_commands.specs.Answers.{IsTableText, TableRows, key_cmp}
+use Rattle.keyed_commands.specs.Answers.{IsTableFile, TableRows, key_cmp}
 use Rattle.keyed_commands.specs.AppliedTexts.{watched_left}
 use Rattle.keyed_commands.specs.FileOrder.{Keys, KeysOf, OfKeys, noted_keys, noted_with}
 use Rattle.keyed_commands.specs.TablesRead.{AreNames, IsUnordered, ReadsTable, SaysTable}
@@ -49,7 +49,7 @@ AreLaidOver layer below tables rows = Tabulates key_cmp rows (λ key. laid_under
 -- an answer with the rows of a table, written in a style
 pub record AnswersRows (form : Form) (columns : Columns) (keys : Option (List (List (List ℕ)))) (by_cells : Bool) (rows : TableRows) (answer : Answer) : Type 0 where
   pub style : Style
-  pub text : IsTableText (in_style style form) columns keys by_cells rows answer.bytes.items
+  pub text : IsTableFile (in_style style form) columns keys by_cells rows answer.bytes.items
   pub status : answer.status ≡ 0
   pub outcome : answer.outcome ≡ Made
 

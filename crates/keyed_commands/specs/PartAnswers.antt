@@ -22,4 +22,4 @@ pub record SaysChanges (form : Form) (columns : Columns) (marked : List (List �
 -- what is said of a part as CSV
 abbrev pub SaysChangesIn : Form → Columns → TableRows → TableRows → ChangesForm → PartAnswer → Type 0
 SaysChangesIn form columns old new (way.Csv marked) answer = SaysChanges form columns marked old new answer
-SaysChangesIn form columns old new (way.Json tolerance) answer = ⊤
+SaysChangesIn form columns old new (way.Json sameness) answer = ⊤

@@ -5,9 +5,9 @@ use Rattle.eob_joins.specs.Tables.{kept}
 use Rattle.keyed_requests.specs.declared.merging.Side.{Side}
 use Rattle.keyed_requests.specs.declared.merging.Side.TheVariants as side
 use Rattle.keyed_requests.specs.declared.merging.Unit.{Unit}
-use Rattle.keyed_numbers.specs.declared.decimal.Decimal.{Decimal}
+use Rattle.keyed_numbers.specs.declared.alike.Alike.{Alike}
 use Rattle.keyed_tables.specs.declared.marked.Marked.{Marked}
-use Rattle.keyed_tables.specs.declared.marked.Marked.TheVariants.{Settled, Stuck}
+use Rattle.keyed_tables.specs.declared.marked.Marked.TheVariants.{Settled, Unresolved}
 use Rattle.keyed_commands.specs.ConflictCells.{ThreeGroups, told_by}
 
 -- the rows that a side has under a key, if it has any
@@ -17,10 +17,10 @@ version_of side.Theirs versions = item_right (right_place versions)
 
 -- what stands of a key: its merged rows, or where it is in conflict the side's version as it is told, which by cell has the merged cells
 -- but for those in conflict
-abbrev pub row_by_side : Unit → Option Decimal → Side → Marked (List (List (List ℕ))) → Option (List (List (List ℕ)))
-row_by_side by tolerance of (Settled rows) = Some rows
-row_by_side by tolerance of (Stuck versions) = version_of of (told_by by tolerance versions)
+abbrev pub row_by_side : Unit → List Alike → Side → Marked (List (List (List ℕ))) → Option (List (List (List ℕ)))
+row_by_side by alikes of (Settled rows) = Some rows
+row_by_side by alikes of (Unresolved versions) = version_of of (told_by by alikes versions)
 
 -- the merged rows in their order, each as what stands of it
-abbrev pub rows_by_side : {K : Type 0} → Unit → Option Decimal → Side → List (K × Marked (List (List (List ℕ)))) → List (K × List (List (List ℕ)))
-rows_by_side by tolerance of rows = kept (row_by_side by tolerance of) rows
+abbrev pub rows_by_side : {K : Type 0} → Unit → List Alike → Side → List (K × Marked (List (List (List ℕ)))) → List (K × List (List (List ℕ)))
+rows_by_side by alikes of rows = kept (row_by_side by alikes of) rows

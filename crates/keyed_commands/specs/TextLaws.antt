@@ -12,12 +12,14 @@ use Rattle.keyed_columns.specs.ColumnNames.{or_header}
 use Rattle.keyed_columns.specs.Names.{repeats}
 use Rattle.keyed_columns.specs.Placed.{names_headed, placed}
 use Rattle.keyed_columns.specs.declared.columns.Columns.{Columns}
+use Rattle.keyed_requests.specs.declared.request.Direction.TheVariants.{Forward}
 use Rattle.keyed_columns.specs.declared.content.Content.{Content}
 use Rattle.keyed_columns.specs.declared.content.Content.TheVariants.{Rows}
 use Rattle.keyed_files.specs.Rows.{heading, table_rows}
+use Rattle.keyed_files.specs.SpelledFiles.{IsUnmarked}
 use Rattle.keyed_files.specs.Writing.{text_of}
 use Rattle.keyed_text.specs.Texts.{BeginsComments, PartsCells, ReadsAs}
-use Rattle.keyed_commands.specs.Answers.{IsTableText, TableChanges, TableRows, key_cmp, rows_eq}
+use Rattle.keyed_commands.specs.Answers.{IsTableFile, TableChanges, TableRows, key_cmp, rows_eq}
 use Rattle.keyed_commands.specs.AppliedTexts.{AppliesTexts}
 use Rattle.keyed_commands.specs.ChangesRead.{SaysChanges}
 use Rattle.keyed_commands.specs.TablesRead.{DiffsTexts, SaysTable}
@@ -55,7 +57,7 @@ NamesOnce form text = (header : List (List ℕ)) (rows : List (List (List ℕ)))
 
 -- an answer is the text of a table by key, and its status is 0
 abbrev pub MakesTable : Form → Columns → TableRows → Answer → Type 0
-MakesTable form columns table answer = (answer.status ≡ 0) × (answer.outcome ≡ Made) × IsTableText form columns None true table answer.bytes.items
+MakesTable form columns table answer = (answer.status ≡ 0) × (answer.outcome ≡ Made) × IsTableFile form columns None true table answer.bytes.items
 
 -- the rows that a table is written as, after its header
 abbrev pub table_text_rows : Form → Columns → TableRows → List (List (List ℕ))
@@ -66,8 +68,8 @@ abbrev pub SaysOnly : Form → Bool → List ℕ → List (List ℕ) → Columns
 SaysOnly form groups text names columns table = (other : TableRows) → SaysTable form Rows groups text names names columns other → other ≡ table
 
 -- an answer is the file, in this style, of the table that a text says under these columns, with the names of its header, or with others
--- where it has none; read again, it says that table and no other, where it has a column and the text of its rows begins with no mark of an
--- encoding
+-- where it has none; read again, it says that table and no other, where it has a column and the text of its rows, however each is spelled,
+-- begins with no mark of an encoding
 pub record AnswersTableOf (settings : Settings) (style : Style) (columns : Columns) (form : Form) (text : List ℕ) (others : List (List ℕ)) (answer : Answer) : Type 0 where
   pub header : List (List ℕ)
   pub table : TableRows
@@ -76,6 +78,7 @@ pub record AnswersTableOf (settings : Settings) (style : Style) (columns : Colum
   pub says : SaysTable form Rows settings.groups text header header columns table
   pub answers : MakesTable (in_style style settings.form) columns table answer
   pub reads : or_header header others ≢ [] → is_marked (text_of (in_style style settings.form) (table_text_rows settings.form columns table)) ≡ false
+      → IsUnmarked (in_style style settings.form) (table_text_rows settings.form columns table)
       → SaysOnly settings.form settings.groups answer.bytes.items (or_header header others) columns table
 
 -- what `apply` answers of the first of two texts, and of what `diff` wrote between both, is the text of the table that the second one says:
@@ -87,7 +90,7 @@ DiffedTextByLaw = (settings : Settings) (old_form new_form : Form) (old_text new
     → PartsCells (delimiter_of settings.form) → BeginsComments (delimiter_of settings.form) (comment_of settings.form)
     → settings.keeps_order ≡ false → NamesOnce old_form old_text → NamesOnce new_form new_text
     → (diffs : DiffsTexts settings old_form new_form old_text new_text difference)
-    → (applies : AppliesTexts settings old_form settings.form old_text difference.bytes.items answer)
+    → (applies : AppliesTexts settings Forward old_form settings.form old_text difference.bytes.items answer)
     → applies.names ≡ diffs.names → repeats [] diffs.names ≡ false → applies.columns.key ≡ diffs.columns.key
     → AnswersTableOf settings applies.applied.style applies.columns new_form new_text diffs.names answer
 
@@ -99,5 +102,5 @@ DiffedTextLaw = (settings : Settings) (old_form new_form : Form) (old_text new_t
     → settings.keeps_order ≡ false → NamesOnce old_form old_text → NamesOnce new_form new_text
     → settings.key ≡ None → settings.renames ≡ None
     → (diffs : DiffsTexts settings old_form new_form old_text new_text difference)
-    → (applies : AppliesTexts settings old_form settings.form old_text difference.bytes.items answer)
+    → (applies : AppliesTexts settings Forward old_form settings.form old_text difference.bytes.items answer)
     → AnswersTableOf settings applies.applied.style applies.columns new_form new_text diffs.names answer

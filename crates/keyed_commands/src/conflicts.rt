@@ -16,12 +16,12 @@ use std::alloc::AllocError;
 /// Returns `AllocError` if a request for memory was refused.
 pub fn render_conflicts(
     job: &Job<'_, Columns>,
-    stuck: &[(Key, Versions<Group>)],
+    unresolved: &[(Key, Versions<Group>)],
     settled: &[(Key, Group)],
 ) -> Result<Vec<u8>, AllocError> {
     let said = said_of_lost(job, settled)?;
     let mut versions = Vec::new(job.alloc);
-    for (key, row) in stuck {
+    for (key, row) in unresolved {
         put_versions(&mut versions, key, row)?;
     }
     put_lost(&mut versions, job.columns, "merged", settled)?;

@@ -1,5 +1,9 @@
 //! From the files that a request names to its answer.
-ghost use Rattle.std.specs.Prelude.{◌≡◌, ◌++◌, ◌∷◌, [], OnOk};
+ghost use Rattle.std.specs.Prelude.{◌≡◌, ◌++◌, ◌∷◌, [], IfOk, OnOk};
+ghost use Rattle.std.specs.Io.KnownBytes.{Appends};
+ghost use Rattle.either_or_both.specs.Prelude.{of_held};
+ghost use Rattle.keyed_commands.specs.Requested.{AnswersRequest, AppliesNamed, DiffsNamed, IsStreamOf, JoinsNamed};
+ghost use Rattle.keyed_commands.specs.Requested.{LooksUpNamed, MergesNamed, WritesRequest};
 
 use crate::answer::Answer;
 use crate::commands::apply::apply;
@@ -14,8 +18,8 @@ use either_or_both::Either;
 use keyed_faults::{Fault, Reason, at};
 use keyed_files::Stream;
 use keyed_requests::{
-    Command, Delimiter, Layout, Lookup as LookupRequest, Overlay as OverlayRequest, Request,
-    Settings, SortedRequest, Wanted,
+    Command, Comparing, Delimiter, Direction, Joining, Layout, Lookup as LookupRequest, Merging,
+    Overlay as OverlayRequest, Request, Settings, SortedRequest, Wanted,
 };
 use std::alloc::AllocError;
 use std::io::Write;
@@ -61,7 +65,11 @@ fn write_lookup<'a, R: Files + Input + AllocGlobal, W: Write>(
     layout: Layout<'a>,
     request: LookupRequest<'a>,
     output: &mut W,
-) -> Result<u8, Fault<'a>> {
+) -> Result<u8, Fault<'a>>
+    ensures status { IfOk result (λ status. status ≡ 0) }
+    ensures text { OnOk result (LooksUpNamed (of_held R.File.remaining R.Reader.remaining) layout.entry request.entry
+        (W.contents output.old) (W.contents output.new)) }
+{
     request.check_stdin()?;
     let left = stream_of(rt, request.left, None);
     let right = stream_of(rt, request.right, layout.form.reading.next);
@@ -76,8 +84,7 @@ fn write_overlay<'a, R: Files + Input + AllocGlobal, W: Write>(
     output: &mut W,
 ) -> Result<u8, Fault<'a>> {
     let answer = answer_overlay(rt, settings, request)?;
-    at("the standard output", write_whole(output, &answer.bytes))?;
-    Ok(answer.status)
+    write_answer(output, &answer)
 }
 
 /// The table that is made of those that are laid one over the other, of the files that are named.
@@ -122,9 +129,22 @@ pub fn write_request<'a, R: Files + Input + AllocGlobal, W: Write>(
     settings: Settings<'a>,
     request: Request<'a>,
     output: &mut W,
-) -> Result<u8, Fault<'a>> {
+) -> Result<u8, Fault<'a>>
+    ensures { IfOk result (WritesRequest (of_held R.File.remaining R.Reader.remaining) settings.entry request.entry
+        (W.contents output.old) (W.contents output.new)) }
+{
     let answer = answer_request(rt, settings, request)?;
-    at("the standard output", write_whole(output, &answer.bytes))?;
+    let status = write_answer(output, &answer)?;
+    Ok(status)
+}
+
+// Writes the text of an answer, and returns its status.
+fn write_answer<'a, W: Write>(output: &mut W, answer: &Answer) -> Result<u8, Fault<'a>>
+    ensures text { OnOk result (Appends (W.contents output.old) (W.contents output.new) answer.now.bytes.items) }
+    ensures status { IfOk result (λ status. status ≡ answer.now.status) }
+{
+    let written = write_whole(output, &answer.bytes);
+    at("the standard output", written)?;
     Ok(answer.status)
 }
 
@@ -161,9 +181,12 @@ pub fn stream_request<'a, R: Files + Input + AllocGlobal, W: Write>(
 /// # Errors
 ///
 /// Returns the error of the output, which may then have taken a part of the bytes.
-pub fn write_whole<W: Write>(output: &mut W, bytes: &[u8]) -> io::Result<()> {
+pub fn write_whole<W: Write>(output: &mut W, bytes: &[u8]) -> io::Result<()>
+    ensures { OnOk result (Appends (W.contents output.old) (W.contents output.new) bytes.now) }
+{
     output.write_all(bytes)?;
-    output.flush()
+    output.flush()?;
+    Ok(())
 }
 
 /// The answer to a request, of the files that it names.
@@ -175,35 +198,88 @@ pub fn answer_request<'a, R: Files + Input + AllocGlobal>(
     rt: &R,
     settings: Settings<'a>,
     request: Request<'a>,
-) -> Result<Answer, Fault<'a>> {
+) -> Result<Answer, Fault<'a>>
+    ensures { IfOk result (AnswersRequest (of_held R.File.remaining R.Reader.remaining) settings.entry request.entry) }
+{
     request.check_stdin()?;
-    let alloc = rt.alloc();
-    let next = settings.form.reading.next;
     match request {
-        Request::Diff { old, new, how } => {
-            let old = stream_of(rt, old, None);
-            diff(alloc, settings, how, old, stream_of(rt, new, next))
-        }
-        Request::Apply { old, changes } => {
-            let old = stream_of(rt, old, None);
-            apply(alloc, settings, old, stream_of(rt, changes, next))
-        }
+        Request::Diff { old, new, how } => answer_diff(rt, settings, how, old, new),
+        Request::Apply {
+            old,
+            changes,
+            direction,
+        } => answer_apply(rt, settings, direction, old, changes),
         Request::Merge {
             base,
             ours,
             theirs,
             how,
-        } => {
-            let base = stream_of(rt, base, None);
-            let ours = stream_of(rt, ours, next);
-            let theirs = stream_of(rt, theirs, settings.form.reading.last);
-            merge(alloc, settings, how, base, ours, theirs)
-        }
-        Request::Join { left, right, how } => {
-            let left = stream_of(rt, left, None);
-            join(alloc, settings, how, left, stream_of(rt, right, next))
-        }
+        } => answer_merge(rt, settings, how, base, ours, theirs),
+        Request::Join { left, right, how } => answer_join(rt, settings, how, left, right),
     }
+}
+
+// The changes between the tables of two files.
+fn answer_diff<'a, R: Files + Input + AllocGlobal>(
+    rt: &R,
+    settings: Settings<'a>,
+    how: Comparing<'a>,
+    old: &'a str,
+    new: &'a str,
+) -> Result<Answer, Fault<'a>>
+    ensures { IfOk result (DiffsNamed (of_held R.File.remaining R.Reader.remaining) settings.entry old.entry new.entry how.entry) }
+{
+    let old = stream_of(rt, old, None);
+    let new = stream_of(rt, new, settings.form.reading.next);
+    diff(rt.alloc(), settings, how, old, new)
+}
+
+// The table of a file with the changes of another made to it.
+fn answer_apply<'a, R: Files + Input + AllocGlobal>(
+    rt: &R,
+    settings: Settings<'a>,
+    direction: Direction,
+    old: &'a str,
+    changes: &'a str,
+) -> Result<Answer, Fault<'a>>
+    ensures { IfOk result (AppliesNamed (of_held R.File.remaining R.Reader.remaining) settings.entry old.entry changes.entry direction) }
+{
+    let old = stream_of(rt, old, None);
+    let changes = stream_of(rt, changes, settings.form.reading.next);
+    apply(rt.alloc(), settings, direction, old, changes)
+}
+
+// The tables of two files merged over that of their base.
+fn answer_merge<'a, R: Files + Input + AllocGlobal>(
+    rt: &R,
+    settings: Settings<'a>,
+    how: Merging<'a>,
+    base: &'a str,
+    ours: &'a str,
+    theirs: &'a str,
+) -> Result<Answer, Fault<'a>>
+    ensures { IfOk result (MergesNamed (of_held R.File.remaining R.Reader.remaining) settings.entry base.entry ours.entry
+        theirs.entry how.entry) }
+{
+    let base = stream_of(rt, base, None);
+    let ours = stream_of(rt, ours, settings.form.reading.next);
+    let theirs = stream_of(rt, theirs, settings.form.reading.last);
+    merge(rt.alloc(), settings, how, base, ours, theirs)
+}
+
+// The join of the tables of two files.
+fn answer_join<'a, R: Files + Input + AllocGlobal>(
+    rt: &R,
+    settings: Settings<'a>,
+    how: Joining<'a>,
+    left: &'a str,
+    right: &'a str,
+) -> Result<Answer, Fault<'a>>
+    ensures { IfOk result (JoinsNamed (of_held R.File.remaining R.Reader.remaining) settings.entry left.entry right.entry how.entry) }
+{
+    let left = stream_of(rt, left, None);
+    let right = stream_of(rt, right, settings.form.reading.next);
+    join(rt.alloc(), settings, how, left, right)
 }
 
 // A file or the standard input.
@@ -214,7 +290,9 @@ fn stream_of<'a, R: Files + Input>(
     rt: &R,
     file: &'a str,
     delimiter: Option<Delimiter>,
-) -> Stream<'a, Reader<R>> {
+) -> Stream<'a, Reader<R>>
+    ensures { IsStreamOf file.entry delimiter result }
+{
     let reader = if file == "-" {
         Ok(Either::Right(rt.reader()))
     } else {

@@ -22,7 +22,7 @@ impl Finished {
     }
 }
 
-/// Counts of tables that are read as they rise. Prints as numbers, each with its word, or with what the help calls the table.
+/// Counts of tables that are read in the order of their keys. Prints as numbers, each with its word, or with what the help calls the table.
 #[derive(Clone, Copy, Debug, PartialEq, Eq)]
 pub enum StreamCounts {
     /// How many rows changed.

@@ -14,7 +14,7 @@ use crate::row_order::RowOrder;
 use eob_joins::Change;
 use keyed_columns::{Columns, JoinColumns};
 use keyed_faults::{Fault, Reason, at};
-use keyed_files::{Opened, Places, Sign, SignedRow, Source, Two};
+use keyed_files::{Opened, Places, Sign, SignedRow, Source, TableSpelling, Two};
 use keyed_requests::{Form, Layout, Look, Settings};
 use keyed_rows::{Group, Key, ReadRow, Release};
 use keyed_tables::{Order, Rows, grouped_rows, paired, unique_rows};
@@ -39,6 +39,8 @@ pub struct Job<'c, C> {
     pub columns: &'c C,
     pub order: Order,
     pub row_order: RowOrder,
+    /// How the rows are spelled that stand in the table whose style the answer has.
+    pub spelling: TableSpelling,
 }
 
 impl<'c, C> Job<'c, C> {
@@ -58,6 +60,7 @@ impl<'c, C> Job<'c, C> {
             columns,
             order: order_of(alloc, settings),
             row_order: row_order_of(alloc, settings),
+            spelling: TableSpelling::even(alloc),
         }
     }
 
@@ -71,15 +74,17 @@ impl<'c, C> Job<'c, C> {
             columns,
             order: Order::by_key(),
             row_order: RowOrder::by_cells(),
+            spelling: TableSpelling::even(alloc),
         }
     }
 
-    /// The same job, with an answer that is written in a style.
-    pub fn in_style(self, style: Style) -> Self
-        ensures { result ≡ record self.entry { form = in_style style self.entry.form } }
+    /// The same job, with an answer that is written in a style, but for rows that have a spelling of their own.
+    pub fn in_style(self, style: Style, spelling: TableSpelling) -> Self
+        ensures { result ≡ record self.entry { form = in_style style self.entry.form; spelling = spelling } }
     {
         Job {
             form: self.form.in_style(style),
+            spelling,
             ..self
         }
     }
@@ -97,6 +102,7 @@ impl<'c, C> Job<'c, C> {
             columns: self.columns,
             order: Order::by_key(),
             row_order: RowOrder::by_cells(),
+            spelling: TableSpelling::even(self.alloc),
         }
     }
 

@@ -1,6 +1,6 @@
 //! What follows of the answers of commands, of tables in memory and of texts. Calling one of these functions does nothing: its contract
 //! gives the caller's proof the law.
-ghost use Rattle.keyed_commands.specs.Laws.{DiffReadsLaw};
+ghost use Rattle.keyed_commands.specs.Laws.{DiffReadsLaw, TakenBackFitsLaw, TakenBackLaw};
 ghost use Rattle.keyed_commands.specs.OneSide.{OneSideLaw};
 ghost use Rattle.keyed_commands.specs.TextLaws.{DiffSaysLaw, DiffedTextByLaw, DiffedTextLaw};
 ghost use Rattle.keyed_commands.specs.TextLaws.{OneChangesLaw, OneTableLaw};
@@ -39,4 +39,11 @@ pub fn law_diff_apply_texts()
 /// no report.
 pub fn law_one_side()
     ensures { OneSideLaw }
+{}
+
+/// Changes that are taken back fit the table that they made, and give the rows back that they were made to, whatever the table and the
+/// changes are, where they fitted it: the same keys, each with the same rows. Call it where changes are made to a table and then taken back.
+pub fn law_taken_back()
+    ensures fits { TakenBackFitsLaw }
+    ensures back { TakenBackLaw }
 {}

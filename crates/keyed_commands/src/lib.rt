@@ -10,6 +10,7 @@ mod by_number;
 mod changes;
 mod come_out;
 mod commands;
+mod compared;
 mod conflict_cells;
 mod conflicts;
 mod draft;
@@ -26,6 +27,7 @@ mod preferred;
 mod row_order;
 mod sorted;
 mod styles;
+mod turned;
 
 pub use answer::{Answer, Outcome};
 pub use commands::apply::apply;
@@ -42,16 +44,18 @@ pub use files::{answer_request, stream_request, write_command, write_request, wr
 pub use finished::{Finished, SideCounts, StreamCounts};
 pub use keyed_faults::{Encoding, Fault, Reason, Shown, ShownCell, ShownName, at};
 pub use keyed_files::Stream;
-pub use keyed_numbers::Decimal;
 pub use keyed_reports::Counts;
 pub use keyed_requests::{
-    Asked, Colours, ColumnsShown, Command, Comment, Comparing, Conflicts, Delimiter, Finding, Form,
-    Format, GitDiff, GitMerge, GitSetup, Heading, JoinNames, Joining, Kind, Layer, Layout, Lengths,
-    Look, Lookup as LookupRequest, LookupKind, Merging, NamedFile, Overlay as OverlayRequest,
-    Picked, Quotes, Reading, Request, RowFormat, RowsShown, Settings, Side, SortedChanges,
-    SortedRequest, Unit, View, Wanted, Writing,
+    Asked, Colours, ColumnsShown, Command, Comment, Comparing, Conflicts, Delimiter, Direction,
+    Finding, Form, Format, GitDiff, GitMerge, GitSetup, Heading, JoinNames, Joining, Kind, Layer,
+    Layout, Lengths, Look, Lookup as LookupRequest, LookupKind, Merging, NamedFile,
+    Overlay as OverlayRequest, Picked, Quotes, Reading, Request, RowFormat, RowsShown, Sameness,
+    Settings, Side, SortedChanges, SortedRequest, Unit, View, Wanted, Writing,
 };
 pub use keyed_text::{CellQuotes, LineEnd, Style};
-pub use laws::{law_diff_apply_texts, law_diff_reads, law_diff_says, law_one_side, law_text_once};
+pub use laws::{
+    law_diff_apply_texts, law_diff_reads, law_diff_says, law_one_side, law_taken_back,
+    law_text_once,
+};
 pub use output::write_into_file;
 pub use sorted::{diff_sorted, join_sorted};

@@ -1,7 +1,7 @@
 //! A table that a command made, as its answer: the text of the rows, unless a cell would be lost.
 ghost use Rattle.std.specs.Prelude.{◌≡◌, IfOk, is_none};
 ghost use Rattle.keyed_tables.specs.Arranged.{noted};
-ghost use Rattle.keyed_commands.specs.Answers.{AnswersTable, IsTableText, Stops};
+ghost use Rattle.keyed_commands.specs.Answers.{AnswersTable, IsTableFile, Stops};
 ghost use Rattle.keyed_commands.specs.declared.answer.Outcome.TheVariants.{Made};
 
 use crate::answer::{Answer, Outcome, stopped};
@@ -9,14 +9,14 @@ use crate::job::Job;
 use crate::lost_cells::{lose_cells, render_lost};
 use keyed_columns::Columns;
 use keyed_faults::Reason;
-use keyed_files::write_table;
+use keyed_files::write_spelled_table;
 use keyed_rows::{Group, Key};
 
 /// The rows as CSV, with status 0; or those that have cells in columns that go, with this word, and status 1.
 ///
 /// # Errors
 ///
-/// Returns the errors of `write_table`.
+/// Returns the errors of `write_spelled_table`.
 pub fn answer_of_rows(
     job: &Job<'_, Columns>,
     word: &str,
@@ -51,15 +51,15 @@ fn report_lost(
 ///
 /// # Errors
 ///
-/// Returns the errors of `write_table`.
+/// Returns the errors of `write_spelled_table`.
 pub fn table_as_csv(job: &Job<'_, Columns>, rows: Vec<(Key, Group)>) -> Result<Answer, Reason>
-    ensures text { IfOk result (λ answer. IsTableText job.now.form job.now.columns.now (noted job.now.order)
+    ensures text { IfOk result (λ answer. IsTableFile job.now.form job.now.columns.now (noted job.now.order)
         (is_none job.now.row_order.files) rows.items answer.bytes.items) }
     ensures status { IfOk result (λ answer. answer.status ≡ 0) }
     ensures outcome { IfOk result (λ answer. answer.outcome ≡ Made) }
 {
     let rows = job.arrange(rows)?;
-    let bytes = write_table(job.alloc, job.form, job.columns, rows)?;
+    let bytes = write_spelled_table(job.alloc, job.form, job.columns, rows, &job.spelling)?;
     Ok(Answer {
         bytes,
         status: 0,

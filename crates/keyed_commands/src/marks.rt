@@ -1,14 +1,13 @@
 //! A merged table in which rows in conflict stand between marks, as git writes them.
 ghost use Rattle.keyed_commands.specs.ComeOut.{AlikeMarked};
 
-use crate::conflict_cells::told_conflict;
+use crate::conflict_cells::{Telling, told_conflict};
 use crate::job::Job;
 use crate::row_order::{Grouped, RowOrder};
 use eob_joins::Versions;
 use keyed_columns::Columns;
 use keyed_faults::Reason;
 use keyed_files::{Written, begin_table, quote_first};
-use keyed_requests::Merging;
 use keyed_rows::{Group, Key};
 use keyed_tables::{Marked, Parted};
 use std::alloc::{AllocError, Global};
@@ -19,20 +18,22 @@ impl Grouped for Marked<Group> {
     fn in_order(self, alloc: Global, order: &RowOrder, key: &Key) -> Result<Self, AllocError> {
         match self {
             Marked::Settled(group) => Ok(Marked::Settled(group.in_order(alloc, order, key)?)),
-            Marked::Stuck(versions) => { Ok(Marked::Stuck(versions.in_order(alloc, order, key)?)) }
+            Marked::Unresolved(versions) => {
+                Ok(Marked::Unresolved(versions.in_order(alloc, order, key)?))
+            }
         }
     }
 }
 
 /// Whether one of the rows is in conflict.
 pub fn has_conflict(rows: &[(Key, Marked<Group>)]) -> bool {
-    rows.iter().any(|row| is_stuck(&row.1))
+    rows.iter().any(|row| is_unresolved(&row.1))
 }
 
-fn is_stuck(row: &Marked<Group>) -> bool {
+fn is_unresolved(row: &Marked<Group>) -> bool {
     match row {
         Marked::Settled(_) => false,
-        Marked::Stuck(_) => true,
+        Marked::Unresolved(_) => true,
     }
 }
 
@@ -46,14 +47,17 @@ pub fn parted(
     rows: Vec<(Key, Marked<Group>)>,
 ) -> Result<Parted<Key, Group>, AllocError> {
     let mut settled = Vec::new(alloc);
-    let mut stuck = Vec::new(alloc);
+    let mut unresolved = Vec::new(alloc);
     for (key, row) in rows {
         match row {
             Marked::Settled(group) => settled.push((key, group))?,
-            Marked::Stuck(versions) => stuck.push((key, versions))?,
+            Marked::Unresolved(versions) => unresolved.push((key, versions))?,
         }
     }
-    Ok(Parted { settled, stuck })
+    Ok(Parted {
+        settled,
+        unresolved,
+    })
 }
 
 /// The table as CSV, with the versions of each row in conflict between marks. Where rows are merged by cell, these differ in the cells in
@@ -65,7 +69,7 @@ pub fn parted(
 /// writer makes of it, if a request for memory was refused.
 pub fn write_marked(
     job: &Job<'_, Columns>,
-    how: Merging<'_>,
+    how: Telling<'_>,
     rows: Vec<(Key, Marked<Group>)>,
 ) -> Result<Vec<u8>, Reason> {
     let mut text = Text {
@@ -75,7 +79,7 @@ pub fn write_marked(
     for (key, row) in rows {
         text = match row {
             Marked::Settled(group) => text.with_rows(job, &key, &group)?,
-            Marked::Stuck(versions) => {
+            Marked::Unresolved(versions) => {
                 let told = told_conflict(job.alloc, how, versions)?;
                 text.with_versions(job, &key, &told)?
             }

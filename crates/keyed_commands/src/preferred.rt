@@ -3,9 +3,9 @@ ghost use Rattle.std.specs.Prelude.{◌≡◌, IfOk};
 ghost use Rattle.keyed_commands.specs.Preferred.{row_by_side, rows_by_side, version_of};
 
 use crate::by_number::{ours_of, theirs_of};
-use crate::conflict_cells::told_conflict;
+use crate::conflict_cells::{Telling, told_conflict};
 use eob_joins::Versions;
-use keyed_requests::{Merging, Side};
+use keyed_requests::Side;
 use keyed_rows::{Group, Key};
 use keyed_tables::Marked;
 use std::alloc::{AllocError, Global};
@@ -18,12 +18,12 @@ use std::alloc::{AllocError, Global};
 /// Returns `AllocError` if a request for memory was refused.
 pub fn rows_by_side(
     alloc: Global,
-    how: Merging<'_>,
+    how: Telling<'_>,
     side: Side,
     rows: Vec<(Key, Marked<Group>)>,
 ) -> Result<Vec<(Key, Group)>, AllocError>
     ensures { IfOk result (λ settled. settled.items
-        ≡ rows_by_side how.entry.unit how.entry.tolerance side rows.items) }
+        ≡ rows_by_side how.entry.unit how.entry.alikes.now side rows.items) }
 {
     let mut settled = Vec::new(alloc);
     for (key, row) in rows {
@@ -38,15 +38,15 @@ pub fn rows_by_side(
 // What stands of a key, if anything does.
 fn row_by_side(
     alloc: Global,
-    how: Merging<'_>,
+    how: Telling<'_>,
     side: Side,
     row: Marked<Group>,
 ) -> Result<Option<Group>, AllocError>
-    ensures { IfOk result (λ settled. settled ≡ row_by_side how.entry.unit how.entry.tolerance side row) }
+    ensures { IfOk result (λ settled. settled ≡ row_by_side how.entry.unit how.entry.alikes.now side row) }
 {
     match row {
         Marked::Settled(group) => Ok(Some(group)),
-        Marked::Stuck(versions) => {
+        Marked::Unresolved(versions) => {
             let told = told_conflict(alloc, how, versions)?;
             Ok(version_of(side, told))
         }

@@ -1,4 +1,4 @@
-//! Tables whose keys rise, compared and joined as they are read: part by part, so that memory does not grow with the tables.
+//! Tables whose keys strictly increase, compared and joined as they are read: part by part, so that memory does not grow with the tables.
 //!
 //! Where all rows of both tables up to a key are read, their join is the first part of the whole join (`law_cut_join` of `eob_joins`).
 ghost use Rattle.std.specs.Prelude.{◌≡◌, ◌==◌, ◌↔◌, ◌⊎◌, IfOk, IfSome, IsNone, List, false, is_none, length};
@@ -22,13 +22,13 @@ use crate::finished::{Finished, SideCounts, StreamCounts};
 use crate::job::{Job, Table};
 use eob_joins::Change;
 use keyed_columns::{
-    ColumnChanges, Columns, Content, JoinColumns, LoneColumns, names_among, picked_columns,
+    ColumnChanges, Columns, Content, JoinColumns, LoneColumns, Tolerances, names_among,
+    picked_columns,
 };
 use keyed_faults::{Fault, Reason, at};
 use keyed_files::{Parts, Stream, Two};
-use keyed_numbers::Decimal;
 use keyed_reports::{Counts, count, count_rows, json_columns, json_rows, row_changes};
-use keyed_requests::{Heading, Joining, Layout, Picked, SortedChanges};
+use keyed_requests::{Heading, Joining, Layout, Picked, Sameness, SortedChanges};
 use keyed_rows::{Cells, Group, Key, Release};
 use keyed_tables::{changes_of, unique_rows};
 use std::alloc::{AllocError, Global};
@@ -46,8 +46,8 @@ enum Work<'c> {
 enum ChangesForm<'c> {
     // As CSV, with the names of the columns as they are marked.
     Csv(Cells),
-    // As JSON. Cells that are numbers are compared by value where a tolerance is given.
-    Json(Option<Decimal<'c>>),
+    // As JSON, with cells compared so, or as they stand.
+    Json(Option<Sameness<'c>>),
 }
 
 // What there is to say of a part.
@@ -106,7 +106,7 @@ fn changes_of_part(
             let answer = csv_of_part(job, marked, part)?;
             Ok(answer)
         }
-        ChangesForm::Json(tolerance) => json_of_part(job, *tolerance, part),
+        ChangesForm::Json(sameness) => json_of_part(job, *sameness, part),
     }
 }
 
@@ -127,21 +127,23 @@ fn csv_of_part(job: &Job<'_, Columns>, marked: &Cells, part: Part) -> Result<Par
     })
 }
 
-// The same as JSON. Cells that are numbers are compared by value where a tolerance is given.
+// The same as JSON, with cells compared so, or as they stand.
 fn json_of_part(
     job: &Job<'_, Columns>,
-    tolerance: Option<Decimal<'_>>,
+    sameness: Option<Sameness<'_>>,
     part: Part,
 ) -> Result<PartAnswer, Reason> {
+    let tolerances = Tolerances::new(job.alloc, sameness)?;
+    let alikes = tolerances.alikes(job.alloc, job.columns)?;
     let old_rows = count_rows(&part.left.pairs);
     let changes = changes_of(job.alloc, part.left, part.right)?;
-    let changes = match tolerance {
-        Some(tolerance) => changed_by_number(job.alloc, tolerance, changes)?,
+    let changes = match sameness {
+        Some(_) => changed_by_number(job.alloc, &alikes, changes)?,
         None => changes,
     };
     let rows = row_changes(job.alloc, false, &changes)?;
     Ok(PartAnswer {
-        bytes: json_rows(job.alloc, job.columns, tolerance, &rows)?,
+        bytes: json_rows(job.alloc, job.columns, &alikes, &rows)?,
         status: changes_status(&changes),
         counts: StreamCounts::Changes(count(old_rows, &changes)),
     })
@@ -214,9 +216,9 @@ pub fn diff_sorted<'a, R: Read + Drop, W: Write>(
             let columns = versions.change_columns(alloc, layout.key)?;
             (ChangesForm::Csv(marked), columns)
         }
-        SortedChanges::Json { columns, tolerance } => {
-            let columns = columns_compared(alloc, layout, columns, &versions)?;
-            (ChangesForm::Json(tolerance), columns)
+        SortedChanges::Json { columns, sameness } => {
+            let columns = columns_compared(alloc, layout, columns, sameness, &versions)?;
+            (ChangesForm::Json(sameness), columns)
         }
     };
     let lone = at(versions.next.file, lone_among(alloc, &versions, &columns))?;
@@ -237,9 +239,12 @@ fn columns_compared<'a, R>(
     alloc: Global,
     layout: Layout<'_>,
     picked: Picked<'_>,
+    sameness: Option<Sameness<'_>>,
     versions: &Two<'a, R>,
 ) -> Result<Columns, Fault<'a>> {
     let columns = versions.columns(alloc, layout.key)?;
+    let tolerances = at(versions.next.file, Tolerances::new(alloc, sameness))?;
+    at(versions.next.file, tolerances.check_known(alloc, &columns))?;
     at(versions.next.file, picked_columns(alloc, picked, columns))
 }
 

@@ -2,199 +2,64 @@
 ghost use Rattle.std.specs.Prelude.{◌≡◌};
 ghost use Rattle.keyed_files.specs.Opening.{form_of, text_of_stream};
 ghost use Rattle.keyed_commands.specs.AppliedTexts.{watched_left};
-ghost use Rattle.keyed_commands.specs.NotedStyles.{ends_row, noted_line_end, noted_quotes, noted_style};
 ghost use Rattle.keyed_commands.specs.NotedStyles.{style_under};
 
-use keyed_files::Stream;
+use crate::job::Job;
+use keyed_columns::Columns;
+use keyed_faults::{Fault, at};
+use keyed_files::{FoundBy, Opened, Stream, TableSpelling};
 use keyed_requests::{Comment, Delimiter, Form, Heading};
-use keyed_text::{CellQuotes, LineEnd, Marks, Place, Style};
+use keyed_text::{Marks, Style, TextNotes};
+use std::alloc::{AllocError, Global};
 use std::io;
 use std::io::Read;
 
-// What is noted of a table, up to the byte that was read last.
-#[derive(Clone, Copy, Debug)]
-struct Noted {
-    marks: Marks,
-    // How many lines are still to be passed over, and whether the last byte of one was a CR, which ends a line with an LF after it or not.
-    skipped: u64,
-    follows_cr: bool,
-    place: Place,
-    has_mark: bool,
-    end: FirstEnd,
-    // Whether a cell of its first row is in quotes, whether one is in none, and whether the row is over.
-    has_quoted: bool,
-    has_bare: bool,
-    has_row: bool,
-    last: Option<u8>,
-}
-
-// How the first line ends: it does not yet, or by CR as far as one knows, by CR LF, or by one of the two alone.
-#[derive(Clone, Copy, Debug, PartialEq, Eq)]
-enum FirstEnd {
-    Open,
-    Cr,
-    CrLf,
-    Lone,
-}
-
-impl Noted {
-    // Nothing yet, of a table in this form, with another byte between its cells if there is one.
-    fn new(form: Form, delimiter: Option<Delimiter>) -> Self {
-        Noted {
-            marks: Marks {
-                delimiter: delimiter.unwrap_or(form.delimiter).byte(),
-                comment: form.reading.comment.map(Comment::byte),
-            },
-            skipped: form.reading.skipped,
-            follows_cr: false,
-            place: Place::Top,
-            has_mark: false,
-            end: FirstEnd::Open,
-            has_quoted: false,
-            has_bare: false,
-            has_row: false,
-            last: None,
-        }
-    }
-
-    // How the table is written.
-    fn style(&self) -> Style
-        ensures { result ≡ noted_style self.now }
-    {
-        Style {
-            has_mark: self.has_mark,
-            quotes: self.quotes(),
-            line_end: self.line_end(),
-            has_end: ends_row(self.last),
-        }
-    }
-
-    fn quotes(&self) -> CellQuotes
-        ensures { result ≡ noted_quotes self.now }
-    {
-        if self.has_quoted && !self.has_bare {
-            CellQuotes::Everywhere
-        } else {
-            CellQuotes::WhereNeeded
-        }
-    }
-
-    fn line_end(&self) -> LineEnd
-        ensures { result ≡ noted_line_end self.now.end }
-    {
-        match self.end {
-            FirstEnd::CrLf => LineEnd::CrLf,
-            FirstEnd::Open | FirstEnd::Cr | FirstEnd::Lone => LineEnd::Lf,
-        }
-    }
-
-    // Takes the next bytes.
-    fn take(&mut self, bytes: &[u8]) {
-        for byte in bytes {
-            if self.has_row && self.end != FirstEnd::Cr {
-                break;
-            }
-            self.take_byte(*byte);
-        }
-        if let Some(last) = bytes.last() {
-            self.last = Some(*last);
-        }
-    }
-
-    fn take_byte(&mut self, byte: u8) {
-        self.end = self.next_end(byte);
-        if self.has_row {
-            return;
-        }
-        self.has_mark = self.has_mark || self.place == Place::SecondOfMark && byte == 0xBF;
-        let next = self.next_place(byte);
-        if self.skipped > 0 {
-            self.pass_over(byte, next);
-        } else {
-            self.note_cell(next);
-            self.place = next;
-        }
-    }
-
-    // The place after one more byte. A note ends with CR too.
-    fn next_place(&self, byte: u8) -> Place {
-        match self.place {
-            Place::Comment if byte == b'\r' => Place::Row,
-            place => self.marks.after(place, byte).unwrap_or(Place::Bare),
-        }
-    }
-
-    // How the first line ends, with one more byte.
-    fn next_end(&self, byte: u8) -> FirstEnd {
-        match self.end {
-            FirstEnd::Open => match byte {
-                _ if self.place == Place::Quoted => FirstEnd::Open,
-                b'\r' => FirstEnd::Cr,
-                b'\n' => FirstEnd::Lone,
-                _ => FirstEnd::Open,
-            },
-            FirstEnd::Cr => match byte {
-                b'\n' => FirstEnd::CrLf,
-                _ => FirstEnd::Lone,
-            },
-            FirstEnd::CrLf => FirstEnd::CrLf,
-            FirstEnd::Lone => FirstEnd::Lone,
-        }
-    }
-
-    // Takes a byte of a line that is passed over, where quotes are bytes like any other.
-    fn pass_over(&mut self, byte: u8, next: Place) {
-        match byte {
-            b'\n' if self.follows_cr => {}
-            b'\n' | b'\r' => {
-                self.skipped = self.skipped.saturating_sub(1);
-                self.place = Place::Row;
-            }
-            _ => {
-                self.place = match next {
-                    Place::FirstOfMark | Place::SecondOfMark => next,
-                    _ => Place::Bare,
-                };
-            }
-        }
-        self.follows_cr = byte == b'\r';
-    }
-
-    // Notes whether the cell that a byte begins is in quotes, where the place after the byte is this one, and whether the row is over.
-    fn note_cell(&mut self, next: Place) {
-        match self.place {
-            Place::Top | Place::Row => match next {
-                Place::Quoted => self.has_quoted = true,
-                Place::Row | Place::Comment | Place::FirstOfMark => {}
-                _ => self.has_bare = true,
-            },
-            Place::Cell => match next {
-                Place::Quoted => self.has_quoted = true,
-                _ => self.has_bare = true,
-            },
-            Place::FirstOfMark | Place::SecondOfMark => match next {
-                Place::SecondOfMark | Place::Row => {}
-                _ => self.has_bare = true,
-            },
-            _ => {}
-        }
-        self.has_row = next == Place::Row && (self.has_quoted || self.has_bare);
-    }
-}
-
-/// A reader of a table, which notes how it is written.
+/// A reader of a table, which notes how its text is spelled, if one wants to know.
 #[derive(Drop)]
 pub struct Watched<R> {
+    alloc: Global,
     reader: R,
-    noted: Noted,
+    // None if one does not want to know. Memory that is refused for the notes is kept here: the bytes were read, and so are returned.
+    notes: Result<Option<TextNotes>, AllocError>,
+    // Whether the last byte is a CR, which ends a line with an LF after it or not.
+    follows_cr: bool,
 }
 
 impl<R> Watched<R> {
     /// How the table is written, as far as it is read.
-    pub fn style(&self) -> Style
-        ensures { result ≡ noted_style self.now.noted }
+    pub fn style(&self) -> Style {
+        match &self.notes {
+            Ok(Some(notes)) => notes.style(),
+            Ok(None) | Err(_) => Style::PLAIN,
+        }
+    }
+
+    // Notes bytes that are read, or that there was no memory for that.
+    fn note(&mut self, bytes: &[u8])
+        ensures { self.new.reader ≡ self.old.reader }
     {
-        self.noted.style()
+        if let Err(refused) = self.take(bytes) {
+            self.notes = Err(refused);
+        }
+    }
+
+    // Notes bytes that are read, or the end of the text where there are none. A CR that ends a line alone is noted as LF.
+    fn take(&mut self, bytes: &[u8]) -> Result<(), AllocError>
+        ensures { self.new.reader ≡ self.old.reader }
+    {
+        if let Ok(Some(notes)) = &mut self.notes {
+            if self.follows_cr || bytes.contains(&b'\r') {
+                let lines = with_line_feeds(self.alloc, self.follows_cr, bytes)?;
+                notes.take(&lines)?;
+                self.follows_cr = bytes.last() == Some(&b'\r');
+            } else {
+                notes.take(bytes)?;
+            }
+            if bytes.is_empty() {
+                notes.end()?;
+            }
+        }
+        Ok(())
     }
 }
 
@@ -203,24 +68,61 @@ impl<R: Read> Read for Watched<R> {
 
     fn read(&mut self, buf: &mut [u8]) -> io::Result<usize> {
         let count = self.reader.read(buf)?;
-        self.noted.take(first(buf, count));
+        if !buf.is_empty() {
+            self.note(first(buf, count));
+        }
         Ok(count)
     }
 }
 
-// Whether the last byte of a text ends a row. A text of no byte lacks no end.
-fn ends_row(last: Option<u8>) -> bool
-    ensures { result ≡ ends_row last }
-{
-    match last {
-        Some(byte) => byte == b'\n' || byte == b'\r',
-        None => true,
+// Bytes of a text with LF for each CR that no LF follows. One at their end is left to those that come next, where it stands first; at the
+// end of the text there are none.
+fn with_line_feeds(alloc: Global, follows_cr: bool, bytes: &[u8]) -> Result<Vec<u8>, AllocError> {
+    let mut lines = Vec::new(alloc);
+    let mut follows_cr = follows_cr;
+    for byte in bytes {
+        if follows_cr {
+            lines.push(if *byte == b'\n' { b'\r' } else { b'\n' })?;
+        }
+        follows_cr = *byte == b'\r';
+        if !follows_cr {
+            lines.push(*byte)?;
+        }
     }
+    if follows_cr && bytes.is_empty() {
+        lines.push(b'\n')?;
+    }
+    Ok(lines)
 }
 
 // So many bytes, or all where there are fewer.
 fn first(bytes: &[u8], count: usize) -> &[u8] {
     bytes.get(..count).unwrap_or(bytes)
+}
+
+/// How the rows of a table are spelled that was read so, under the columns of a job.
+///
+/// # Errors
+///
+/// Returns as a fault of the file `NoColumn` if the header lacks a column of the key, and `NoMemory` if a request for memory was refused.
+pub fn spelling_of<'a, R: Read + Drop>(
+    job: &Job<'_, Columns>,
+    table: &Opened<'a, Watched<R>>,
+) -> Result<TableSpelling, Fault<'a>> {
+    let found_by = if job.groups {
+        FoundBy::Cells
+    } else {
+        FoundBy::Key
+    };
+    let places = at(table.file, table.source.places(job.columns))?;
+    match &table.source.get_ref().notes {
+        Ok(Some(notes)) => at(
+            table.file,
+            TableSpelling::of_text(job.alloc, notes, job.form.has_header, &places, found_by),
+        ),
+        Ok(None) => Ok(TableSpelling::even(job.alloc)),
+        Err(AllocError) => at(table.file, Err(AllocError)),
+    }
 }
 
 /// The style of an answer that is written as a table is: one with no heading stands after other CSV, and so has no byte order mark.
@@ -236,8 +138,35 @@ pub fn style_under(heading: Heading, style: Style) -> Style
     }
 }
 
-/// A table in this form that is read so that one knows how it is written.
-pub fn watch<'a, R: Read>(form: Form, stream: Stream<'a, R>) -> Stream<'a, Watched<R>>
+/// Whether one wants to know how a table is written that is read.
+#[derive(Clone, Copy)]
+pub enum Noting {
+    Noted,
+    /// One does not, as another table says how the answer is written.
+    Unnoted,
+}
+
+impl Noting {
+    // Notes of a text of which nothing is read yet, with these bytes between its cells, if one wants to know.
+    fn notes(self, alloc: Global, form: Form, delimiter: Option<Delimiter>) -> Option<TextNotes> {
+        let marks = Marks {
+            delimiter: delimiter.unwrap_or(form.delimiter).byte(),
+            comment: form.reading.comment.map(Comment::byte),
+        };
+        match self {
+            Noting::Noted => Some(TextNotes::new(alloc, marks, form.reading.skipped)),
+            Noting::Unnoted => None,
+        }
+    }
+}
+
+/// A table in this form that is read so that one knows how it is written, if one wants to.
+pub fn watch<'a, R: Read>(
+    alloc: Global,
+    form: Form,
+    noting: Noting,
+    stream: Stream<'a, R>,
+) -> Stream<'a, Watched<R>>
     ensures form { form_of form result ≡ form_of form stream.entry }
     ensures text { text_of_stream (watched_left R.remaining) form result
         ≡ text_of_stream R.remaining form stream.entry }
@@ -247,9 +176,14 @@ pub fn watch<'a, R: Read>(form: Form, stream: Stream<'a, R>) -> Stream<'a, Watch
         delimiter,
         reader,
     } = stream;
-    let noted = Noted::new(form, delimiter);
+    let notes = noting.notes(alloc, form, delimiter);
     let reader = match reader {
-        Ok(reader) => Ok(Watched { reader, noted }),
+        Ok(reader) => Ok(Watched {
+            alloc,
+            reader,
+            notes: Ok(notes),
+            follows_cr: false,
+        }),
         Err(reason) => Err(reason),
     };
     Stream {

@@ -1,4 +1,4 @@
--- Rows that are put one by one behind those of their parts are dealt.
+-- Rows that are put one by one after those of their parts are dealt.
 use Rattle.std.proofs.Common.{◌≡◌, ◌∙◌, ◌==◌, ℕ, zero, suc, ◌<◌, true, false, List, [], ◌∷◌, ◌++◌, Option, Some, length, map, get_or, slice_set, arith, refl, sym, ap, subst, append_assoc, inl, inr}
 use Rattle.std.specs.Prelude.{slice_get}
 use Rattle.std.specs.declared.cmp.Ordering.{Ordering}

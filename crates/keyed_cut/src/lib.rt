@@ -1,5 +1,5 @@
 //! Tables cut into parts by ranges of their keys, all at the same ones, so that the commands can be run on the parts, one after the other
-//! or side by side, and what they print, one after the other, is what they print of the whole (`law_cut_joins` of `eob_parts`).
+//! or side by side, and what they print, one after the other, is what they print of the whole (`law_cut_joins` of `eob_joins`).
 //!
 //! `write_cut` reads each table twice, in memory that does not grow: once for a sample of keys, from which boundaries are taken, and once
 //! to deal the rows. That each row goes into the part of its key, after the rows there, and into no other part, is proved of `deal_rows`;

@@ -4,7 +4,7 @@ ghost use Rattle.keyed_faults.specs.Outside.{IsOutside};
 ghost use Rattle.keyed_faults.specs.declared.fault.Reason.TheVariants.{NoMemory};
 
 use crate::encoding::Encoding;
-use crate::shown::{Shown, ShownInList};
+use crate::shown::{Shown, ShownInList, ShownName};
 use keyed_rows::{Cells, Key, RepeatedKey, UniqueError};
 use keyed_text::QuoteFault;
 use std::alloc::{AllocError, AllocFailed};
@@ -51,6 +51,13 @@ pub enum Reason {
     NeitherHas(Vec<u8>),
     /// For a column of the key more than two names are given.
     ManyNames(Vec<u8>),
+    /// For a tolerance of numbers something else is given.
+    NoTolerance {
+        given: Vec<u8>,
+        wrong: &'static str,
+    },
+    /// A column of the key is to have a tolerance.
+    ToleranceOfKey(Vec<u8>),
     /// In the header on this line, a column is to have this name, which another column has.
     NamedTwice {
         line: u64,
@@ -314,6 +321,12 @@ impl fmt::Display for Reason {
                 f,
                 "more than two names of a column: {}",
                 ShownInList(names)
+            ),
+            Reason::NoTolerance { given, wrong } => write!(f, "{}: {wrong}", ShownName(given)),
+            Reason::ToleranceOfKey(name) => write!(
+                f,
+                "--tolerance: {} is a column of the key, whose cells are compared as they stand",
+                ShownInList(name)
             ),
             Reason::NamedTwice { line, name } => write!(
                 f,

@@ -1,4 +1,4 @@
--- Bytes that are read ahead: some of them taken, and some read behind them.
+-- Bytes that are read ahead: some of them taken, and some read after them.
 use Rattle.std.proofs.Common.{◌≡◌, ◌∙◌, ◌+◌, ◌-◌, ◌≤◌, ℕ, List, [], ◌++◌, Option, Some, None, min, length, take, drop, slice_range, refl, sym, ap, subst, arith, append_assoc, length-take, drop-drop, Bool, true, false, if◌then◌else◌}
 use Rattle.std.proofs.Math.Seq.{take-add}
 use Rattle.std.proofs.lemmas.List.{drop-take, drop_min}
@@ -35,7 +35,7 @@ range-more xs a e n le =
     ∙ take-add (e - a) n (drop a xs)
     ∙ ap (λ l. slice_range xs a e ++ take n l) (drop-drop (e - a) a xs ∙ ap (λ k. drop k xs) whole)
 
--- some are read behind the others
+-- some are read after the others
 pub range-grown : (old new : List ℕ) (a e n : ℕ) → a ≤ e → take e new ≡ take e old → slice_range new a (e + n) ≡ slice_range old a e ++ take n (drop e new)
 range-grown old new a e n le same =
     range-more new a e n le

@@ -1,4 +1,4 @@
--- What a reader of lines has left behind a read.
+-- What a reader of lines has left after a read.
 use Rattle.std.proofs.Common.{◌≡◌, ◌∙◌, ℕ, List, ◌++◌, Option, Some, None, Bool, true, false, take, drop, refl, sym, ap, append_assoc, take-append-drop, if◌then◌else◌}
 use Rattle.std.specs.Prelude.{is_none}
 use Rattle.std.specs.Io.KnownBytes.{Consumes, Keeps, prepend_known}

@@ -1,4 +1,4 @@
--- Rows that are read in parts: none yet, one more, and the end; and keys that rise.
+-- Rows that are read in parts: none yet, one more, and the end; and keys that strictly increase.
 use Rattle.std.proofs.Common.{◌≡◌, ◌∙◌, ◌⊎◌, ◌≤◌, ◌+◌, ℕ, List, [], ◌∷◌, ◌++◌, Option, Some, None, Bool, true, false, inl, inr, length, map, refl, sym, ap, ap₂, subst, append_assoc, if◌then◌else◌}
 use Rattle.std.specs.Cmp.Lexicographic.{lists_total, nat_list_cmp_total}
 use Rattle.std.specs.Cmp.{IsTotalOrder}
@@ -28,7 +28,7 @@ module _ {K : Type 0} (P : K → Type 0) where
   last_of_all [] k a = a.0
   last_of_all (x ∷ xs) k a = last_of_all xs k a.1
 
--- a key behind those that it is greater than
+-- a key after those that it is greater than
 sorted_one : (key : List (List ℕ)) → IsStrictlySortedBy key_cmp (key ∷ [])
 unfolding IsStrictlySortedBy
 sorted_one key = (tt, tt)
@@ -84,7 +84,7 @@ module _ {R : Type 0} (rem : R → Option (List ℕ)) where
         → taken ++ new.waiting.items ≡ (taken ++ old.waiting.items) ++ (row ∷ [])
     behind taken row waits = ap (λ l. taken ++ l) waits ∙ sym (append_assoc taken old.waiting.items (row ∷ []))
 
-    -- a row is read and put behind those that wait
+    -- a row is read and put after those that wait
     pub fills_and : (source : Source R) (row : ReadRow) → new.is_ended ≡ false → new.source.value ≡ source → GivesRecord rem old.source.value source true
         → IsPicked old.places (last_record source) row → rises_behind old.last row.key ≡ true → new.last ≡ Some row.key
         → new.waiting.items ≡ old.waiting.items ++ (row ∷ []) → Fills rem old new

@@ -155,7 +155,7 @@ module _ {R : Type 0} (rem : R → Option (List ℕ)) (form : Form) (text : List
     (begun : HasRead (delimiter_of form) (comment_of form) (checked_left rem) text [] old) where
   gone-if : (has_header has_first : Bool) → form.has_header ≡ has_header
       → GivesRow (checked_left rem) old source.reader has_first (fields_of source.last) → source.next ≡ next_of has_first has_header
-      → GoneSaid has_first has_header (fields_of source.last) source.header.gone → KnowsGone form rem text source
+      → GoneSaid has_first has_header (fields_of source.last) source.header.gone source.header.came → KnowsGone form rem text source
   gone-if true false same reads is said =
       let none = reads _ _ text [] begun in
       record { first = []; header = rw same (none, said); given = rw is none }
@@ -166,7 +166,7 @@ module _ {R : Type 0} (rem : R → Option (List ℕ)) (form : Form) (text : List
 pub gone-known : {R : Type 0} (rem : R → Option (List ℕ)) (form : Form) (known : Option (List ℕ)) (old : RowReader (Checked R)) (source made : Source R) → source ≡ made
     → IfSome known (λ text. HasRead (delimiter_of form) (comment_of form) (checked_left rem) text [] old)
     → (has_first : Bool) → GivesRow (checked_left rem) old made.reader has_first (fields_of made.last) → made.next ≡ next_of has_first form.has_header
-    → GoneSaid has_first form.has_header (fields_of made.last) made.header.gone → IfSome known (λ text. KnowsGone form rem text source)
+    → GoneSaid has_first form.has_header (fields_of made.last) made.header.gone made.header.came → IfSome known (λ text. KnowsGone form rem text source)
 gone-known rem form None old source made same begun has_first reads is said = tt
 gone-known rem form (Some text) old source made same begun has_first reads is said =
     rw same (gone-if rem form text old made begun form.has_header has_first refl reads is said)

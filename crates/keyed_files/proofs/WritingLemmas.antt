@@ -4,6 +4,7 @@ use Rattle.std.specs.Prelude.{if◌then◌else◌}
 use Rattle.keyed_text.proofs.WriteLemmas as one
 use Rattle.keyed_requests.specs.declared.request.Form.{Form}
 use Rattle.keyed_columns.specs.declared.columns.Place.{Place}
+use Rattle.keyed_columns.proofs.PlacedLemmas.{placed-next, placed-none}
 use Rattle.keyed_columns.specs.Placed.{cell_placed, placed, rest_behind}
 use Rattle.keyed_files.specs.declared.written.Written.{Written}
 use Rattle.keyed_files.specs.JoinedRows.{each_before, join_heading}

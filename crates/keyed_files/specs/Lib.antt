@@ -8,4 +8,5 @@ pub mod Opening
 pub mod Parts
 pub mod Reading
 pub mod Rows
+pub mod SpelledFiles
 pub mod Writing

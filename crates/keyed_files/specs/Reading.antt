@@ -7,7 +7,7 @@ use Rattle.keyed_text.specs.Texts.{AreRows}
 use Rattle.keyed_requests.specs.FormBytes.{comment_of, delimiter_of}
 use Rattle.keyed_requests.specs.declared.request.Form.{Form}
 use Rattle.keyed_columns.specs.Headers.{HeaderOf, NamesOf}
-use Rattle.keyed_columns.specs.CellsUnder.{cell_at}
+use Rattle.keyed_columns.specs.CellsUnder.{cell_at, row_under}
 use Rattle.keyed_columns.specs.Spelled.{SpelledBy}
 use Rattle.keyed_columns.specs.declared.columns.Columns.{Columns}
 use Rattle.keyed_columns.specs.declared.content.Content.{Content}

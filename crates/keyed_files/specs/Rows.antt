@@ -3,6 +3,7 @@ use Rattle.std.specs.Prelude.{◌==◌, ◌||◌, ◌&&◌, ℕ, List, [], ◌�
 use Rattle.std.specs.List.{flat_map}
 use Rattle.keyed_requests.specs.declared.request.Form.{Form}
 use Rattle.keyed_requests.specs.AnswerForm.{writes_heading}
+use Rattle.keyed_columns.specs.Placed.{first_cells, names_headed, placed}
 use Rattle.keyed_columns.specs.declared.columns.Columns.{Columns}
 use Rattle.keyed_columns.specs.declared.columns.Place.{Place}
 use Rattle.keyed_files.specs.declared.sign.Sign.{Sign}

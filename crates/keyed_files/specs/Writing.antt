@@ -5,6 +5,7 @@ use Rattle.keyed_text.specs.Streams as stream
 use Rattle.csv.specs.declared.writer.WriterBuilder.{WriterBuilder}
 use Rattle.keyed_text.specs.Texts.{finished, text_by, writer_in}
 use Rattle.keyed_faults.specs.Encodings.{is_marked}
+use Rattle.keyed_requests.specs.FormBytes.{comment_of, delimiter_of}
 use Rattle.keyed_requests.specs.declared.request.Form.{Form}
 use Rattle.keyed_files.specs.declared.written.Written.{Written}
 

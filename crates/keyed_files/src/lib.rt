@@ -15,6 +15,8 @@ mod opened;
 mod parts;
 mod sign;
 mod source;
+mod spelled_table;
+mod table_spelling;
 mod written;
 
 pub use first_cell::quote_first;
@@ -23,4 +25,6 @@ pub use opened::{Opened, Stream, Two};
 pub use parts::Parts;
 pub use sign::{Sign, SignedRow};
 pub use source::{Places, Source};
+pub use spelled_table::write_spelled_table;
+pub use table_spelling::{FoundBy, TableSpelling};
 pub use written::{Written, begin_table, write_table};

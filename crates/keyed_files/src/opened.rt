@@ -1,6 +1,7 @@
 //! Files whose headers are read.
 ghost use Rattle.std.specs.Prelude.{◌≡◌, IfOk, Ok, OnOk};
 ghost use Rattle.keyed_columns.specs.ChangedColumns.{marked_names};
+ghost use Rattle.keyed_files.specs.Gone.{IsGoneRead, IsTurned};
 ghost use Rattle.keyed_columns.specs.Keys.{AreChangeColumns, AreChangedColumnsBy, AreColumnsBy, AreJoinColumns};
 ghost use Rattle.keyed_columns.specs.Names.{compared};
 ghost use Rattle.keyed_columns.specs.Spelled.{IsSpelledAs};
@@ -15,7 +16,7 @@ use keyed_columns::{
     key_names, marked_names,
 };
 use keyed_faults::{Fault, Reason, at};
-use keyed_requests::{Delimiter, Form, Settings};
+use keyed_requests::{Delimiter, Direction, Form, Settings};
 use keyed_rows::Cells;
 use std::alloc::Global;
 use std::io::Read;
@@ -72,6 +73,19 @@ impl<'a, R> Opened<'a, R> {
                 at(self.file, self.source.rename(&names))
             }
             None => Ok(()),
+        }
+    }
+}
+
+impl<'a, R> Opened<'a, R> {
+    /// Has the header say which columns go where changes are made in a direction: backward, those that came.
+    pub fn turn(&mut self, direction: Direction)
+        ensures same { IsTurned direction self.old.source.value self.new.source.value }
+        ensures file { self.new ≡ record self.old { source = self.new.source } }
+    {
+        match direction {
+            Direction::Forward => {}
+            Direction::Backward => self.source.turn(),
         }
     }
 }

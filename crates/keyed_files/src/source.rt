@@ -26,6 +26,7 @@ ghost use Rattle.keyed_files.specs.declared.source.Next.TheVariants.{Read};
 use crate::by_line::ByLine;
 use crate::checked::{Checked, marks_of};
 use crate::sign::{Sign, SignedRow};
+use crate::table_spelling::FoundBy;
 use csv::ByteRecord;
 use keyed_columns::{Columns, Content, Header, KeyNames, Spelling};
 use keyed_faults::{Encoding, Reason};
@@ -83,6 +84,14 @@ impl<R> Source<R> {
         ensures { result.now ≡ self.now.header.gone }
     {
         &self.header.gone
+    }
+
+    /// Has the header say of the same changes taken back which columns go: those that came.
+    pub(crate) fn turn(&mut self)
+        ensures { self.new ≡ record self.old
+            { header = record self.old.header { gone = self.old.header.came; came = self.old.header.gone } } }
+    {
+        self.header.turn();
     }
 
     /// Gives the columns of a key, which have the names of the first table, those of the others.
@@ -332,7 +341,7 @@ fn header_of(
     ensures spelled { IfOk result (λ header. SpelledFirst form.has_header has_first content
         (fields_of row.now) header.spelling.spelled) }
     ensures gone { content ≡ Changes → IfOk result
-        (λ header. GoneSaid has_first form.has_header (fields_of row.now) header.gone) }
+        (λ header. GoneSaid has_first form.has_header (fields_of row.now) header.gone header.came) }
 {
     let before = cells_before(content);
     if !has_first {
@@ -478,6 +487,25 @@ impl Places {
         Ok(key)
     }
 
+    // The cells by which a row is found again that has these cells.
+    pub(crate) fn pick_found(
+        &self,
+        found_by: FoundBy,
+        row: &Cells,
+        picked: &mut Cells,
+    ) -> Result<(), AllocError> {
+        picked.clear();
+        for place in &self.key {
+            picked.push(cell_in(row, *place))?;
+        }
+        if found_by == FoundBy::Cells {
+            for place in &self.rest {
+                picked.push(cell_in(row, *place))?;
+            }
+        }
+        Ok(())
+    }
+
     // The key of a record, the line that it begins on, and its other cells. They are picked one after the other.
     fn pick_row(
         &self,
@@ -532,6 +560,14 @@ fn pick(picked: &mut Cells, from: &ByteRecord, places: &[Option<usize>]) -> Resu
         picked.push(cell_of(from, *place))?;
     }
     Ok(())
+}
+
+// The cell of a row at a place, or an empty one where there is no place.
+fn cell_in(row: &Cells, place: Option<usize>) -> &[u8] {
+    match place {
+        Some(place) => row.get(place).unwrap_or(b""),
+        None => b"",
+    }
 }
 
 // The cell of a record at a place, or an empty one where there is no place.

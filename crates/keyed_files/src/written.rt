@@ -224,8 +224,8 @@ pub fn begin_table(
     }
 }
 
-// Whether a table has a heading. Files with no row make a table of no column, whose heading is none.
-fn has_heading(form: Form, first: Option<&[u8]>, columns: &Columns) -> bool
+/// Whether a table has a heading. Files with no row make a table of no column, whose heading is none.
+pub(crate) fn has_heading(form: Form, first: Option<&[u8]>, columns: &Columns) -> bool
     ensures { result ≡ has_heading form (option_map (λ cell. cell.now) first.entry) columns.now }
 {
     form.writes_heading() && (first.is_some() || !columns.order.is_empty())

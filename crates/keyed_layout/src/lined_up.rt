@@ -2,7 +2,7 @@
 
 use keyed_columns::Columns;
 use keyed_faults::{ShownCell, ShownName};
-use keyed_numbers::{Decimal, is_same_cell};
+use keyed_numbers::{Alike, is_same_cell};
 use keyed_rows::{Cells, Group, Iter, Key};
 use std::alloc::{AllocError, Global};
 use unicode_width::UnicodeWidthStr;
@@ -133,8 +133,8 @@ fn line_of_word(alloc: Global, word: &str) -> Result<Line, AllocError> {
     })
 }
 
-/// Puts the picked cells of both versions of a row after those of a line, each pair as one cell. Where numbers are compared by value, two
-/// that are as near as may be count as the same, and the new one is put.
+/// Puts the picked cells of both versions of a row after those of a line, each pair as one cell. Two that are the same as the cells of
+/// their column are compared are one, and the new one is put.
 ///
 /// # Errors
 ///
@@ -142,14 +142,15 @@ fn line_of_word(alloc: Global, word: &str) -> Result<Line, AllocError> {
 pub fn put_both(
     alloc: Global,
     line: &mut Line,
-    tolerance: Option<Decimal<'_>>,
+    alikes: &[Alike<'_>],
     picked: &[bool],
     old: &Cells,
     new: &Cells,
 ) -> Result<(), AllocError> {
-    for ((cell, next), is_picked) in old.iter().zip(new.iter()).zip(picked.iter()) {
+    let cells = old.iter().zip(new.iter());
+    for ((cell, next), (alike, is_picked)) in cells.zip(alikes.iter().zip(picked.iter())) {
         if *is_picked {
-            line.cells.push(both_shown(alloc, tolerance, cell, next)?)?;
+            line.cells.push(both_shown(alloc, *alike, cell, next)?)?;
         }
     }
     Ok(())
@@ -158,11 +159,11 @@ pub fn put_both(
 // Two cells as one: the new one where they are the same.
 fn both_shown(
     alloc: Global,
-    tolerance: Option<Decimal<'_>>,
+    alike: Alike<'_>,
     old: &[u8],
     new: &[u8],
 ) -> Result<String, AllocError> {
-    if is_same_cell(tolerance, old, new) {
+    if is_same_cell(alike, old, new) {
         show_cell(alloc, new)
     } else {
         both_cells(alloc, old, new)

@@ -1,3 +1,4 @@
 pub mod DigitLemmas
 pub mod AlignedLemmas
 pub mod NearLemmas
+pub mod TextLemmas

@@ -1,7 +1,8 @@
 -- What number a `Decimal` is.
-use Rattle.std.specs.Prelude.{ℕ, ◌+◌, Bool, false, ◌||◌, nat_eq, List, ◌++◌, length, Option, Some, None}
-use Rattle.std.specs.Cmp.Lexicographic.{pointwise}
+use Rattle.std.specs.Prelude.{ℕ, ◌+◌, Bool, false, ◌||◌, List, ◌++◌, length, Option, Some, None}
+use Rattle.keyed_numbers.specs.Cells.{same_text, seen, trimmed}
 use Rattle.keyed_numbers.specs.Numbers.{Number, are_near, number_in}
+use Rattle.keyed_numbers.specs.declared.alike.Alike.{Alike}
 use Rattle.keyed_numbers.specs.declared.decimal.Decimal.{Decimal}
 
 abbrev pub number_of : Decimal → Number
@@ -14,8 +15,10 @@ number_of decimal = record {
 -- two cells are the same by value, where a tolerance is given
 abbrev pub are_same_by_value : Option Decimal → List ℕ → List ℕ → Bool
 are_same_by_value None cell other = false
-are_same_by_value (Some tolerance) cell other = are_near (number_of tolerance) (number_in cell) (number_in other)
+are_same_by_value (Some tolerance) cell other = are_near (number_of tolerance) (number_in (trimmed cell))
+    (number_in (trimmed other))
 
--- two cells are the same: byte by byte, or by value
-abbrev pub same_cell : Option Decimal → List ℕ → List ℕ → Bool
-same_cell tolerance cell other = pointwise nat_eq cell other || are_same_by_value tolerance cell other
+-- two cells are the same: as texts, or by value
+abbrev pub same_cell : Alike → List ℕ → List ℕ → Bool
+same_cell alike cell other = same_text alike.folds_case (seen alike.trims cell) (seen alike.trims other)
+    || are_same_by_value alike.tolerance cell other

@@ -1,4 +1,5 @@
 pub mod Digits
+pub mod Cells
 pub mod Numbers
 pub mod Decimals
 pub mod AlignedDigits

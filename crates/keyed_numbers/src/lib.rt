@@ -1,11 +1,14 @@
-//! Numbers as cells have them: written in decimals, and compared by value, exactly.
+//! Which cells are the same: as texts, or as numbers, which are written in decimals and compared by value, exactly.
 //!
 //! A number is what `Decimal::parse` takes. Nothing is rounded, and no memory is taken.
 #![tactic(auto)]
 
 mod aligned;
+mod alike;
 mod decimal;
 mod near;
+mod text;
 
+pub use alike::Alike;
 pub use decimal::Decimal;
 pub use near::is_same_cell;

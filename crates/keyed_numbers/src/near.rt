@@ -6,18 +6,28 @@ ghost use Rattle.keyed_numbers.specs.Decimals.{are_same_by_value, number_of, sam
 ghost use Rattle.keyed_numbers.specs.AlignedDigits.{digit_of};
 
 use crate::aligned::{Aligned, Sum, is_at_most};
+use crate::alike::Alike;
 use crate::decimal::Decimal;
+use crate::text::{is_same_text, seen, trimmed};
 
-/// Whether two cells are the same: byte by byte or, where a tolerance is given and both are numbers, by value, with no more than it between
-/// them.
+/// Whether two cells are the same: as texts or, where a tolerance is given and both are numbers, by value, with no more than it between
+/// them. White space of ASCII around a number is none of it. As texts cells are compared byte by byte, without white space around them or
+/// once case is folded where that is how it is done.
 ///
 /// ```
-/// assert!(rt; is_same_cell(Some(Decimal::ZERO), b"1.50", b"+1.5") && !is_same_cell(None, b"1.50", b"1.5"));
+/// let by_value = Alike { tolerance: Some(Decimal::ZERO), ..Alike::AS_THEY_STAND };
+/// assert!(rt; is_same_cell(by_value, b"1.50 ", b"+1.5") && !is_same_cell(Alike::AS_THEY_STAND, b"1.50", b"1.5"));
+/// let as_words = Alike { trims: true, folds_case: true, ..Alike::AS_THEY_STAND };
+/// assert!(rt; is_same_cell(as_words, b" Fig", b"fig ") && !is_same_cell(as_words, b"f ig", b"fig"));
 /// ```
-pub fn is_same_cell(tolerance: Option<Decimal<'_>>, cell: &[u8], other: &[u8]) -> bool
-    ensures { result ≡ same_cell tolerance.entry cell.now other.now }
+pub fn is_same_cell(alike: Alike<'_>, cell: &[u8], other: &[u8]) -> bool
+    ensures { result ≡ same_cell alike.entry cell.now other.now }
 {
-    cell == other || are_same_by_value(tolerance, cell, other)
+    is_same_text(
+        alike.folds_case,
+        seen(alike.trims, cell),
+        seen(alike.trims, other),
+    ) || are_same_by_value(alike.tolerance, cell, other)
 }
 
 // Whether two cells are numbers that are the same by value, where a tolerance is given.
@@ -27,8 +37,8 @@ fn are_same_by_value(tolerance: Option<Decimal<'_>>, cell: &[u8], other: &[u8]) 
     let Some(tolerance) = tolerance else {
         return false;
     };
-    match Decimal::parse(cell) {
-        Some(number) => match Decimal::parse(other) {
+    match Decimal::parse(trimmed(cell)) {
+        Some(number) => match Decimal::parse(trimmed(other)) {
             Some(next) => is_near(tolerance, number, next),
             None => false,
         },

@@ -1,5 +1,5 @@
 //! Keys parted by boundaries: which part a key is in, and what the rows of a part are. Tables that are cut at the same boundaries are joined
-//! part by part, by `law_cut_joins` of `eob_parts`.
+//! part by part, by `law_cut_joins` of `eob_joins`.
 //!
 //! `Boundaries` are keys in order; there is one part more than there are boundaries. The part of a key is how many boundaries are not above
 //! it. `Sample` chooses keys from which boundaries are taken. How tables are read, dealt and written stands above this crate, in `keyed_cut`.

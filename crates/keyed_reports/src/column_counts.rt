@@ -7,7 +7,7 @@ use crate::changed_rows::RowChange;
 use either_or_both::EitherOrBoth;
 use eob_joins::Change;
 use indexmap::IndexMap;
-use keyed_numbers::{Decimal, is_same_cell};
+use keyed_numbers::{Alike, is_same_cell};
 use keyed_rows::Cells;
 use std::alloc::{AllocError, Global};
 
@@ -35,8 +35,8 @@ pub struct ColumnCount<'a> {
 // How many changes of a column are told.
 const TOLD: usize = 3;
 
-/// The columns beside the key that changed in some row, in their order. Rows that came or went changed in no column. With a tolerance, cells
-/// that are numbers are compared by value.
+/// The columns beside the key that changed in some row, in their order. Rows that came or went changed in no column. The cells
+/// of each column are compared so.
 ///
 /// # Errors
 ///
@@ -44,12 +44,12 @@ const TOLD: usize = 3;
 pub fn column_counts<'a>(
     alloc: Global,
     names: &'a Cells,
-    tolerance: Option<Decimal<'_>>,
+    alikes: &[Alike<'_>],
     rows: &[RowChange<'a>],
 ) -> Result<Vec<ColumnCount<'a>>, AllocError> {
     let mut counts = Vec::new(alloc);
-    for (place, name) in names.iter().enumerate() {
-        if let Some(count) = column_count(alloc, name, place, tolerance, rows)? {
+    for (place, (name, alike)) in names.iter().zip(alikes.iter()).enumerate() {
+        if let Some(count) = column_count(alloc, name, place, *alike, rows)? {
             counts.push(count)?;
         }
     }
@@ -61,20 +61,20 @@ fn column_count<'a>(
     alloc: Global,
     name: &'a [u8],
     place: usize,
-    tolerance: Option<Decimal<'_>>,
+    alike: Alike<'_>,
     rows: &[RowChange<'a>],
 ) -> Result<Option<ColumnCount<'a>>, AllocError>
     ensures rows { IfOk result (λ column. unwrap_or (option_map (λ found. found.rows) column) 0
-        ≡ length (filter (λ row. is_changed_at tolerance.entry place
+        ≡ length (filter (λ row. is_changed_at alike.entry place
         (option_map (λ cells. cells.now) (left_place row.1))
         (option_map (λ cells. cells.now) (right_place row.1))) rows.now)) }
     ensures some { IfOk result (λ column. IfSome column (λ found. 0 < found.rows)) }
 {
-    let count = count_changed_at(place, tolerance, rows);
+    let count = count_changed_at(place, alike, rows);
     if count == 0 {
         return Ok(None);
     }
-    let changes = changes_at(alloc, place, tolerance, rows)?;
+    let changes = changes_at(alloc, place, alike, rows)?;
     Ok(Some(ColumnCount {
         name,
         rows: count,
@@ -83,35 +83,35 @@ fn column_count<'a>(
 }
 
 // In how many rows the column at a place changed.
-fn count_changed_at(place: usize, tolerance: Option<Decimal<'_>>, rows: &[RowChange<'_>]) -> usize
-    ensures { result ≡ length (filter (λ row. is_changed_at tolerance.entry place
+fn count_changed_at(place: usize, alike: Alike<'_>, rows: &[RowChange<'_>]) -> usize
+    ensures { result ≡ length (filter (λ row. is_changed_at alike.entry place
         (option_map (λ cells. cells.now) (left_place row.1))
         (option_map (λ cells. cells.now) (right_place row.1))) rows.now) }
 {
     rows.iter()
-        .filter(|row| is_changed_at(place, tolerance, row.1))
+        .filter(|row| is_changed_at(place, alike, row.1))
         .count()
 }
 
 // Whether a row changed at a place.
-fn is_changed_at(place: usize, tolerance: Option<Decimal<'_>>, change: Change<&Cells>) -> bool
-    ensures { result ≡ is_changed_at tolerance.entry place
+fn is_changed_at(place: usize, alike: Alike<'_>, change: Change<&Cells>) -> bool
+    ensures { result ≡ is_changed_at alike.entry place
         (option_map (λ cells. cells.now) (left_place change.entry))
         (option_map (λ cells. cells.now) (right_place change.entry)) }
 {
-    change_at(place, tolerance, change).is_some()
+    change_at(place, alike, change).is_some()
 }
 
 // The cells at a place of the rows that changed there.
 fn changes_at<'a>(
     alloc: Global,
     place: usize,
-    tolerance: Option<Decimal<'_>>,
+    alike: Alike<'_>,
     rows: &[RowChange<'a>],
 ) -> Result<Vec<CellChange<'a>>, AllocError> {
     let mut changes = Vec::new(alloc);
     for row in rows {
-        if let Some(change) = change_at(place, tolerance, row.1) {
+        if let Some(change) = change_at(place, alike, row.1) {
             changes.push(change)?;
         }
     }
@@ -121,32 +121,32 @@ fn changes_at<'a>(
 // What became of the cell of a row at a place, if the row changed there.
 fn change_at<'a>(
     place: usize,
-    tolerance: Option<Decimal<'_>>,
+    alike: Alike<'_>,
     change: Change<&'a Cells>,
 ) -> Option<CellChange<'a>>
-    ensures { option_map (λ cells. (cells.0.now, cells.1.now)) result ≡ change_at tolerance.entry place
+    ensures { option_map (λ cells. (cells.0.now, cells.1.now)) result ≡ change_at alike.entry place
         (option_map (λ cells. cells.now) (left_place change.entry))
         (option_map (λ cells. cells.now) (right_place change.entry)) }
 {
     match change {
         EitherOrBoth::Left(_) => None,
-        EitherOrBoth::Both(old, new) => change_of(tolerance, old.get(place), new.get(place)),
+        EitherOrBoth::Both(old, new) => change_of(alike, old.get(place), new.get(place)),
         EitherOrBoth::Right(_) => None,
     }
 }
 
 // Two cells, if they differ.
 fn change_of<'a>(
-    tolerance: Option<Decimal<'_>>,
+    alike: Alike<'_>,
     cell: Option<&'a [u8]>,
     next: Option<&'a [u8]>,
 ) -> Option<CellChange<'a>>
-    ensures { option_map (λ cells. (cells.0.now, cells.1.now)) result ≡ change_of tolerance.entry
+    ensures { option_map (λ cells. (cells.0.now, cells.1.now)) result ≡ change_of alike.entry
         (option_map (λ cell. cell.now) cell.entry) (option_map (λ cell. cell.now) next.entry) }
 {
     let cell = cell?;
     let next = next?;
-    if is_same_cell(tolerance, cell, next) {
+    if is_same_cell(alike, cell, next) {
         None
     } else {
         Some((cell, next))

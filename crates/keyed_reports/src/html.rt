@@ -10,7 +10,7 @@ use crate::shown_columns::{columns_of, left_out};
 use either_or_both::EitherOrBoth;
 use keyed_columns::Columns;
 use keyed_faults::{ShownCell, ShownName};
-use keyed_numbers::{Decimal, is_same_cell};
+use keyed_numbers::{Alike, is_same_cell};
 use keyed_rows::{Cells, Iter};
 use std::alloc::{AllocError, Global};
 
@@ -38,7 +38,7 @@ pub fn html(alloc: Global, report: &Report<'_>) -> Result<Vec<u8>, AllocError> {
     if !report.rows.is_empty() {
         put_heading(alloc, &mut text, report.columns, &shown)?;
         for row in report.rows {
-            put_row(alloc, &mut text, report.tolerance, &shown, row)?;
+            put_row(alloc, &mut text, report.alikes, &shown, row)?;
         }
         text.extend_from_slice(b"</tbody>\n</table>\n")?;
     }
@@ -115,7 +115,7 @@ fn put_heading(
 fn put_row(
     alloc: Global,
     text: &mut Vec<u8>,
-    tolerance: Option<Decimal<'_>>,
+    alikes: &[Alike<'_>],
     shown: &[bool],
     row: &RowChange<'_>,
 ) -> Result<(), AllocError> {
@@ -134,8 +134,8 @@ fn put_row(
             put_picked(alloc, text, "td", shown, new)?;
         }
         EitherOrBoth::Both(old, new) => {
-            put_marked(alloc, text, tolerance, shown, "del", (old, new))?;
-            put_marked(alloc, text, tolerance, shown, "ins", (new, old))?;
+            put_marked(alloc, text, alikes, shown, "del", (old, new))?;
+            put_marked(alloc, text, alikes, shown, "ins", (new, old))?;
         }
     }
     text.extend_from_slice(b"</tr>\n")?;
@@ -191,17 +191,18 @@ fn put_none(text: &mut Vec<u8>, shown: &[bool]) -> Result<(), AllocError> {
 fn put_marked(
     alloc: Global,
     text: &mut Vec<u8>,
-    tolerance: Option<Decimal<'_>>,
+    alikes: &[Alike<'_>],
     shown: &[bool],
     mark: &str,
     rows: (&Cells, &Cells),
 ) -> Result<(), AllocError> {
     let (cells, others) = rows;
-    for ((cell, other), is_shown) in cells.iter().zip(others.iter()).zip(shown.iter()) {
+    let cells = cells.iter().zip(others.iter());
+    for ((cell, other), (alike, is_shown)) in cells.zip(alikes.iter().zip(shown.iter())) {
         if !*is_shown {
             continue;
         }
-        if is_same_cell(tolerance, cell, other) {
+        if is_same_cell(*alike, cell, other) {
             let said = format!(in alloc; "{}", ShownCell(cell))?;
             put_element(text, "td", &said)?;
         } else {

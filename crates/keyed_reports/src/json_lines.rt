@@ -9,14 +9,14 @@ use crate::report::Report;
 use either_or_both::EitherOrBoth;
 use json::Writer;
 use keyed_columns::{Columns, LoneColumns};
-use keyed_numbers::{Decimal, is_same_cell};
+use keyed_numbers::{Alike, is_same_cell};
 use keyed_rows::{Cells, Iter};
 use std::alloc::{AllocError, Global};
 use std::fmt;
 
 /// The rows under these columns, an object each, on a line each: what became of the row, its key, the names of the columns in which it
-/// changed, if it did, and its other cells in the old table and in the new one, as far as it is there. With no row there is no line. With a
-/// tolerance, cells that are numbers are compared by value.
+/// changed, if it did, and its other cells in the old table and in the new one, as far as it is there. With no row there is no line. The
+/// cells of each column are compared so.
 ///
 /// # Errors
 ///
@@ -24,12 +24,12 @@ use std::fmt;
 pub fn json_rows(
     alloc: Global,
     columns: &Columns,
-    tolerance: Option<Decimal<'_>>,
+    alikes: &[Alike<'_>],
     rows: &[RowChange<'_>],
 ) -> Result<Vec<u8>, AllocError> {
     let mut text = Vec::new(alloc);
     for row in rows {
-        let object = row_object(alloc, columns, tolerance, row)?;
+        let object = row_object(alloc, columns, alikes, row)?;
         text.extend_from_slice(&object)?;
         text.push(b'\n')?;
     }
@@ -40,7 +40,7 @@ pub fn json_rows(
 fn row_object(
     alloc: Global,
     columns: &Columns,
-    tolerance: Option<Decimal<'_>>,
+    alikes: &[Alike<'_>],
     row: &RowChange<'_>,
 ) -> Result<Vec<u8>, AllocError> {
     let (key, change) = *row;
@@ -54,7 +54,7 @@ fn row_object(
         EitherOrBoth::Left(old) => put_side(alloc, &mut writer, "old", columns, old)?,
         EitherOrBoth::Right(new) => put_side(alloc, &mut writer, "new", columns, new)?,
         EitherOrBoth::Both(old, new) => {
-            put_changed(alloc, &mut writer, &columns.rest, tolerance, old, new)?;
+            put_changed(alloc, &mut writer, &columns.rest, alikes, old, new)?;
             put_side(alloc, &mut writer, "old", columns, old)?;
             put_side(alloc, &mut writer, "new", columns, new)?;
         }
@@ -68,14 +68,15 @@ fn put_changed(
     alloc: Global,
     writer: &mut Writer,
     names: &Cells,
-    tolerance: Option<Decimal<'_>>,
+    alikes: &[Alike<'_>],
     old: &Cells,
     new: &Cells,
 ) -> Result<(), AllocError> {
     writer.key("changed")?;
     writer.begin_array()?;
-    for (name, (cell, next)) in names.iter().zip(old.iter().zip(new.iter())) {
-        if !is_same_cell(tolerance, cell, next) {
+    let cells = old.iter().zip(new.iter());
+    for ((name, alike), (cell, next)) in names.iter().zip(alikes.iter()).zip(cells) {
+        if !is_same_cell(*alike, cell, next) {
             put_text(alloc, writer, name)?;
         }
     }

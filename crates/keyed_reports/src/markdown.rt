@@ -10,7 +10,7 @@ use crate::report::Report;
 use either_or_both::EitherOrBoth;
 use keyed_columns::Columns;
 use keyed_faults::{ShownCell, ShownName};
-use keyed_numbers::{Decimal, is_same_cell};
+use keyed_numbers::{Alike, is_same_cell};
 use keyed_rows::{Cells, Iter};
 use std::alloc::{AllocError, Global};
 
@@ -26,7 +26,7 @@ pub fn markdown(alloc: Global, report: &Report<'_>) -> Result<Vec<u8>, AllocErro
     if !report.rows.is_empty() {
         put_heading(alloc, &mut text, report.columns)?;
         for row in report.rows {
-            put_row(alloc, &mut text, report.tolerance, row)?;
+            put_row(alloc, &mut text, report.alikes, row)?;
         }
         text.push(b'\n')?;
     }
@@ -80,7 +80,7 @@ pub fn put_heading(alloc: Global, text: &mut Vec<u8>, columns: &Columns) -> Resu
 fn put_row(
     alloc: Global,
     text: &mut Vec<u8>,
-    tolerance: Option<Decimal<'_>>,
+    alikes: &[Alike<'_>],
     row: &RowChange<'_>,
 ) -> Result<(), AllocError> {
     let (key, change) = *row;
@@ -90,7 +90,7 @@ fn put_row(
         EitherOrBoth::Left(cells) | EitherOrBoth::Right(cells) => {
             put_cells(alloc, text, cells.iter())?
         }
-        EitherOrBoth::Both(old, new) => put_both(alloc, text, tolerance, old, new)?,
+        EitherOrBoth::Both(old, new) => put_both(alloc, text, alikes, old, new)?,
     }
     text.push(b'\n')?;
     Ok(())
@@ -132,12 +132,12 @@ fn put_cell(alloc: Global, text: &mut Vec<u8>, cell: &[u8]) -> Result<(), AllocE
 fn put_both(
     alloc: Global,
     text: &mut Vec<u8>,
-    tolerance: Option<Decimal<'_>>,
+    alikes: &[Alike<'_>],
     old: &Cells,
     new: &Cells,
 ) -> Result<(), AllocError> {
-    for (cell, next) in old.iter().zip(new.iter()) {
-        if is_same_cell(tolerance, cell, next) {
+    for (alike, (cell, next)) in alikes.iter().zip(old.iter().zip(new.iter())) {
+        if is_same_cell(*alike, cell, next) {
             put_cell(alloc, text, next)?;
         } else {
             let (before, after) = shown_pair(alloc, cell, next)?;

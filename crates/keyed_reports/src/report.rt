@@ -11,7 +11,7 @@ use crate::markdown::markdown;
 use crate::summary::{summary_json, summary_table};
 use crate::table::table;
 use keyed_columns::{ColumnChanges, Columns};
-use keyed_numbers::Decimal;
+use keyed_numbers::Alike;
 use keyed_requests::{Look, RowsShown, View};
 use std::alloc::{AllocError, Global};
 
@@ -32,18 +32,18 @@ pub struct Report<'r> {
     pub more: usize,
     /// The counts of all rows.
     pub counts: Counts,
-    /// How far apart numbers may be that count as the same, where cells that are numbers are compared by value.
-    pub tolerance: Option<Decimal<'r>>,
+    /// How the cells of each column beside the key are compared.
+    pub alikes: &'r [Alike<'r>],
 }
 
 impl<'r> Report<'r> {
-    /// What there is to say of these changed rows, of which this part is shown. The old table had this many rows. With a tolerance, cells that
-    /// are numbers are compared by value.
+    /// What there is to say of these changed rows, of which this part is shown. The old table had this many rows. The cells of each
+    /// column beside the key are compared so.
     pub fn new(
         columns: &'r Columns,
         column_changes: ColumnChanges<'r>,
         view: View<'r>,
-        tolerance: Option<Decimal<'r>>,
+        alikes: &'r [Alike<'r>],
         old_rows: usize,
         rows: &'r [RowChange<'r>],
     ) -> Self
@@ -60,7 +60,7 @@ impl<'r> Report<'r> {
             rows: shown_rows(view.rows, rows),
             more: count_more(view.rows, rows.len()),
             counts: count(old_rows, rows),
-            tolerance,
+            alikes,
         }
     }
 }
@@ -108,7 +108,7 @@ fn write_rows(alloc: Global, look: Look, report: &Report<'_>) -> Result<Vec<u8>,
         Look::Html => html(alloc, report),
         Look::Json => {
             let mut text = json_columns(alloc, &report.column_changes.lone(alloc)?)?;
-            let rows = json_rows(alloc, report.columns, report.tolerance, report.rows)?;
+            let rows = json_rows(alloc, report.columns, report.alikes, report.rows)?;
             text.extend_from_slice(&rows)?;
             Ok(text)
         }
@@ -121,11 +121,11 @@ fn write_summary(alloc: Global, look: Look, report: &Report<'_>) -> Result<Vec<u
         Look::Markdown => markdown(alloc, report),
         Look::Html => html(alloc, report),
         Look::Table { .. } => {
-            let counts = column_counts(alloc, &report.columns.rest, report.tolerance, report.all)?;
+            let counts = column_counts(alloc, &report.columns.rest, report.alikes, report.all)?;
             Ok(summary_table(alloc, report, &counts)?.into_bytes())
         }
         Look::Json => {
-            let counts = column_counts(alloc, &report.columns.rest, report.tolerance, report.all)?;
+            let counts = column_counts(alloc, &report.columns.rest, report.alikes, report.all)?;
             summary_json(alloc, report, &counts)
         }
     }

@@ -7,7 +7,7 @@ use crate::changed_rows::RowChange;
 use crate::report::Report;
 use either_or_both::EitherOrBoth;
 use eob_joins::Change;
-use keyed_numbers::{Decimal, is_same_cell};
+use keyed_numbers::{Alike, is_same_cell};
 use keyed_requests::ColumnsShown;
 use keyed_rows::Cells;
 use std::alloc::{AllocError, Global};
@@ -18,7 +18,7 @@ use std::alloc::{AllocError, Global};
 ///
 /// Returns `AllocError` if a request for memory was refused.
 pub fn columns_of(alloc: Global, report: &Report<'_>) -> Result<Vec<bool>, AllocError>
-    ensures { IfOk result (λ shown. shown.items ≡ columns_shown report.now.view.shown report.now.tolerance
+    ensures { IfOk result (λ shown. shown.items ≡ columns_shown report.now.view.shown report.now.alikes.now
         (length report.now.columns.now.rest)
         (map (λ row. (
           option_map (λ cells. cells.now) (left_place row.1),
@@ -26,13 +26,7 @@ pub fn columns_of(alloc: Global, report: &Report<'_>) -> Result<Vec<bool>, Alloc
         )) report.now.rows.now)) }
 {
     let count = report.columns.rest.len();
-    columns_shown(
-        alloc,
-        report.view.shown,
-        count,
-        report.tolerance,
-        report.rows,
-    )
+    columns_shown(alloc, report.view.shown, count, report.alikes, report.rows)
 }
 
 // Whether each of so many columns is shown of these rows: each of them where all are wanted or a row came or went, and else those in
@@ -41,10 +35,10 @@ fn columns_shown(
     alloc: Global,
     which: ColumnsShown,
     count: usize,
-    tolerance: Option<Decimal<'_>>,
+    alikes: &[Alike<'_>],
     rows: &[RowChange<'_>],
 ) -> Result<Vec<bool>, AllocError>
-    ensures { IfOk result (λ shown. shown.items ≡ columns_shown which tolerance.entry count
+    ensures { IfOk result (λ shown. shown.items ≡ columns_shown which alikes.now count
         (map (λ row. (
           option_map (λ cells. cells.now) (left_place row.1),
           option_map (λ cells. cells.now) (right_place row.1),
@@ -55,7 +49,7 @@ fn columns_shown(
         ColumnsShown::Changed => {
             let mut shown = flags(alloc, false, count)?;
             for row in rows {
-                shown = columns_changed(alloc, &shown, tolerance, row.1)?;
+                shown = columns_changed(alloc, &shown, alikes, row.1)?;
             }
             Ok(shown)
         }
@@ -75,17 +69,17 @@ fn flags(alloc: Global, flag: bool, count: usize) -> Result<Vec<bool>, AllocErro
 fn columns_changed(
     alloc: Global,
     shown: &[bool],
-    tolerance: Option<Decimal<'_>>,
+    alikes: &[Alike<'_>],
     change: Change<&Cells>,
 ) -> Result<Vec<bool>, AllocError>
-    ensures { IfOk result (λ columns. columns.items ≡ columns_changed tolerance.entry shown.now
+    ensures { IfOk result (λ columns. columns.items ≡ columns_changed alikes.now shown.now
         (option_map (λ cells. cells.now) (left_place change.entry))
         (option_map (λ cells. cells.now) (right_place change.entry))) }
 {
     match change {
         EitherOrBoth::Left(_) => flags(alloc, true, shown.len()),
         EitherOrBoth::Right(_) => flags(alloc, true, shown.len()),
-        EitherOrBoth::Both(old, new) => either_changed(alloc, shown, tolerance, old, new),
+        EitherOrBoth::Both(old, new) => either_changed(alloc, shown, alikes, old, new),
     }
 }
 
@@ -93,17 +87,17 @@ fn columns_changed(
 fn either_changed(
     alloc: Global,
     shown: &[bool],
-    tolerance: Option<Decimal<'_>>,
+    alikes: &[Alike<'_>],
     old: &Cells,
     new: &Cells,
 ) -> Result<Vec<bool>, AllocError>
     ensures { IfOk result (λ columns. columns.items
-        ≡ either_changed tolerance.entry shown.now old.now new.now) }
+        ≡ either_changed alikes.now shown.now old.now new.now) }
 {
     shown
         .iter()
-        .zip(old.iter().zip(new.iter()))
-        .map(|(is_shown, (cell, next))| *is_shown || !is_same_cell(tolerance, cell, next))
+        .zip(alikes.iter().zip(old.iter().zip(new.iter())))
+        .map(|(is_shown, (alike, (cell, next)))| *is_shown || !is_same_cell(*alike, cell, next))
         .collect(alloc)
 }
 

@@ -9,7 +9,7 @@ use eob_joins::Change;
 use keyed_layout::{
     Colour, Grid, Line, heading_of_picked, line_under, line_up, put_both, put_picked, widths_of,
 };
-use keyed_numbers::Decimal;
+use keyed_numbers::Alike;
 use keyed_requests::Colours;
 use keyed_rows::Cells;
 use std::alloc::{AllocError, Global};
@@ -88,7 +88,7 @@ fn grid_of(
     let mut grid: Grid = Vec::new(alloc);
     grid.push(heading_of_picked(alloc, report.columns, shown)?)?;
     for row in report.rows {
-        grid.push(line_of(alloc, colours, report.tolerance, shown, row)?)?;
+        grid.push(line_of(alloc, colours, report.alikes, shown, row)?)?;
     }
     Ok(grid)
 }
@@ -97,7 +97,7 @@ fn grid_of(
 fn line_of(
     alloc: Global,
     colours: Colours,
-    tolerance: Option<Decimal<'_>>,
+    alikes: &[Alike<'_>],
     shown: &[bool],
     row: &RowChange<'_>,
 ) -> Result<Line, AllocError> {
@@ -111,7 +111,7 @@ fn line_of(
         EitherOrBoth::Left(cells) | EitherOrBoth::Right(cells) => {
             put_picked(alloc, &mut line, shown, cells)?
         }
-        EitherOrBoth::Both(old, new) => put_both(alloc, &mut line, tolerance, shown, old, new)?,
+        EitherOrBoth::Both(old, new) => put_both(alloc, &mut line, alikes, shown, old, new)?,
     }
     Ok(line)
 }

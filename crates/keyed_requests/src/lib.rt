@@ -8,6 +8,7 @@ mod lookups;
 mod merging;
 mod overlays;
 mod request;
+mod sameness;
 mod writing;
 
 pub use asked::{Asked, GitDiff, GitMerge, GitSetup};
@@ -15,8 +16,9 @@ pub use lookups::{Finding, Lookup, LookupKind};
 pub use merging::{Conflicts, Merging, Side, Unit};
 pub use overlays::{Layer, NamedFile, Overlay};
 pub use request::{
-    Colours, ColumnsShown, Command, Comment, Comparing, Delimiter, Form, Format, JoinNames,
-    Joining, Kind, Layout, Lengths, Look, Picked, Quotes, Reading, Request, RowFormat, RowsShown,
-    Settings, SortedChanges, SortedRequest, View, Wanted,
+    Colours, ColumnsShown, Command, Comment, Comparing, Delimiter, Direction, Form, Format,
+    JoinNames, Joining, Kind, Layout, Lengths, Look, Picked, Quotes, Reading, Request, RowFormat,
+    RowsShown, Settings, SortedChanges, SortedRequest, View, Wanted,
 };
+pub use sameness::Sameness;
 pub use writing::{Heading, Writing};

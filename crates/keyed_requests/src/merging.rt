@@ -1,6 +1,6 @@
 //! How two versions of a table are merged, and what is written where rows are in conflict.
 
-use keyed_numbers::Decimal;
+use crate::sameness::Sameness;
 
 /// What is merged as one: where both sides changed it, and not alike, it is in conflict.
 #[derive(Clone, Copy, Debug)]
@@ -35,8 +35,8 @@ pub enum Conflicts {
 pub struct Merging<'a> {
     pub unit: Unit,
     pub conflicts: Conflicts,
-    /// How far apart numbers may be that count as the same, where cells that are numbers are compared by value.
-    pub tolerance: Option<Decimal<'a>>,
+    /// How cells are compared, where it is not as they stand.
+    pub sameness: Option<Sameness<'a>>,
 }
 
 impl Merging<'static> {
@@ -44,13 +44,13 @@ impl Merging<'static> {
     pub const PLAIN: Merging<'static> = Merging {
         unit: Unit::Row,
         conflicts: Conflicts::Report,
-        tolerance: None,
+        sameness: None,
     };
 
     /// Cell by cell, with marks, as git has texts merged.
     pub const AS_GIT: Merging<'static> = Merging {
         unit: Unit::Cell,
         conflicts: Conflicts::Marks,
-        tolerance: None,
+        sameness: None,
     };
 }

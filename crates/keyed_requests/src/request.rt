@@ -6,9 +6,9 @@ ghost use Rattle.keyed_requests.specs.Delimiters.{PartsCells-prop};
 use crate::lookups::Lookup;
 use crate::merging::Merging;
 use crate::overlays::Overlay;
+use crate::sameness::Sameness;
 use crate::writing::Writing;
 use keyed_faults::{Fault, Reason};
-use keyed_numbers::Decimal;
 
 /// A byte that may stand between cells: an ASCII character that neither ends rows nor quotes cells.
 #[derive(Clone, Copy, Debug)]
@@ -299,14 +299,14 @@ impl View<'static> {
     };
 }
 
-/// How two tables are compared: how what changed is written, and what of it. Changes as CSV are whole, whatever a report would show.
+/// How two tables are compared: how what changed is written, and what of it. Changes as CSV are whole, whatever a report would show, but that
+/// there is none of a row that differs in columns alone that are ignored (`Picked::AllBut`).
 #[derive(Clone, Copy, Debug)]
 pub struct Comparing<'a> {
     pub format: Format,
     pub view: View<'a>,
-    /// How far apart numbers may be that count as the same, where cells that are numbers are compared by value. Changes as CSV are of cells
-    /// as they stand.
-    pub tolerance: Option<Decimal<'a>>,
+    /// How cells are compared, where it is not as they stand. Changes as CSV are of cells as they stand.
+    pub sameness: Option<Sameness<'a>>,
 }
 
 impl Comparing<'static> {
@@ -315,9 +315,18 @@ impl Comparing<'static> {
         Comparing {
             format,
             view: View::WHOLE,
-            tolerance: None,
+            sameness: None,
         }
     }
+}
+
+/// Which way changes are made.
+#[derive(Clone, Copy, Debug)]
+pub enum Direction {
+    /// From the old table to the new one.
+    Forward,
+    /// From the new table back to the old one: what came goes, and what went comes.
+    Backward,
 }
 
 /// What is wanted of whole tables, in files by name, of which `-` is the standard input.
@@ -329,10 +338,11 @@ pub enum Request<'a> {
         new: &'a str,
         how: Comparing<'a>,
     },
-    /// A table with changes made to it.
+    /// A table with changes made to it, or taken back.
     Apply {
         old: &'a str,
         changes: &'a str,
+        direction: Direction,
     },
     /// Two versions of a table merged over their base.
     Merge {
@@ -354,10 +364,10 @@ pub enum Request<'a> {
 pub enum SortedChanges<'a> {
     /// As CSV that `Request::Apply` takes.
     Csv,
-    /// As JSON, a line a row, of these columns. Cells that are numbers are compared by value where a tolerance is given.
+    /// As JSON, a line a row, of these columns, whose cells are compared so, or as they stand.
     Json {
         columns: Picked<'a>,
-        tolerance: Option<Decimal<'a>>,
+        sameness: Option<Sameness<'a>>,
     },
 }
 
@@ -424,7 +434,7 @@ impl Request<'_> {
     pub fn check_stdin<'a>(self) -> Result<(), Fault<'a>> {
         match self {
             Request::Diff { old, new, .. } => check_files(&[old, new]),
-            Request::Apply { old, changes } => check_files(&[old, changes]),
+            Request::Apply { old, changes, .. } => check_files(&[old, changes]),
             Request::Merge {
                 base,
                 ours,

@@ -30,9 +30,10 @@ const TROUBLE: u8 = 2;
 // The same of a merge for git, which takes one up to 128 for rows in conflict.
 const TROUBLE_FOR_GIT: u8 = 129;
 
-/// Answers the command line of a runtime on the output, and returns the status. Unless tables are read as they rise, nothing is written
-/// before the whole answer is known. What is wrong is said on the standard error, and so is an output that does not take the help. That the
-/// reader of the output has left is no trouble: the status is that of the command, and a join or a look-up of tables as they are read stops.
+/// Answers the command line of a runtime on the output, and returns the status. Unless sorted tables are read row by row, nothing is
+/// written before the whole answer is known. What is wrong is said on the standard error, and so is an output that does not take the help.
+/// That the reader of the output has left is no trouble: the status is that of the command, and a join or a look-up of tables as they are
+/// read stops.
 ///
 /// A standard stream that is closed stays so: no file that is named takes its place.
 ///

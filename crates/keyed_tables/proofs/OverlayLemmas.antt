@@ -23,7 +23,7 @@ module _ {K : Type 0} (cmp : K → K → Ordering) {V W : Type 0} (f : V → W) 
   up_mapped P [] h = tt
   up_mapped P (z ∷ zs) h = (h.0, up_mapped (λ k. cmp z.0 k ≡ Less) zs h.1)
 
-  -- the keys rise where those of the join do
+  -- the keys strictly increase where those of the join do
   pub mapped_rises : (zs : List (K × V)) (rs : List (K × W)) → rs ≡ map (λ z. (z.0, f z.1)) zs → Rising cmp zs → Rising cmp rs
   mapped_rises zs rs e h = subst (Rising cmp) (sym e) (rising cmp (λ k. ⊤) (map (λ z. (z.0, f z.1)) zs) (up_mapped (λ k. ⊤) zs (up cmp zs h)))
 

@@ -1,4 +1,4 @@
--- The placed keys of two versions are those of both, each once: ours in their order, and each new one right behind the key that it follows.
+-- The placed keys of two versions are those of both, each once: ours in their order, and each new one right after the key that it follows.
 use Rattle.std.proofs.Common.{◌≡◌, ◌∙◌, ◌+◌, ◌||◌, ◌⊎◌, ⊎_elim, inl, inr, ℕ, zero, suc, ◌<◌, Bool, true, false, List, [], ◌∷◌, ◌++◌, length, get_or, filter, Some, drop, position, add-one, append_assoc, arith, drop-cons, refl, sym, ap, ap₂, subst, true≢false}
 use Rattle.std.specs.Cmp.{IsEquivalence}
 use Rattle.std.specs.Cmp.Lexicographic.{bytes_decides, pointwise_decides}
@@ -91,7 +91,7 @@ module _ {K : Type 0} (eq : K → K → Bool) (laws : IsEquivalence eq) (exact :
         by false e h = rw e h
 
     module _ (theirs : List K) where
-      -- keys of ours, each with the new ones behind it
+      -- keys of ours, each with the new ones after it
       abbrev with_new : List K → List K
       with_new zs = flat_map (λ k. k ∷ new_behind eq ours theirs k) zs
 
@@ -127,7 +127,7 @@ module _ {K : Type 0} (eq : K → K → Bool) (laws : IsEquivalence eq) (exact :
     none_alone [] = refl
     none_alone (z ∷ zs) = none_alone zs
 
-    -- a key that is not there has none behind it
+    -- a key that is not there has none after it
     absent_behind : (ts : List K) (k : K) → Absent k ts → new_behind eq ours ts k ≡ []
     absent_behind [] k h = refl
     absent_behind (t ∷ ts) k h = rw h.0 (absent_behind ts k h.1)
@@ -135,7 +135,7 @@ module _ {K : Type 0} (eq : K → K → Bool) (laws : IsEquivalence eq) (exact :
     own_behind : (ts : List K) (t : K) → new_behind eq ours (t ∷ ts) t ≡ new_first eq ours ts
     own_behind ts t = rw (laws.refl t) refl
 
-    -- one more key before the others changes nothing behind those that differ from it
+    -- one more key before the others changes nothing after those that differ from it
     same_alone : (t : K) (ts zs : List K) → list_any (eq t) zs ≡ false → new_alone (t ∷ ts) zs ≡ new_alone ts zs
     same_alone t ts [] h = refl
     same_alone t ts (z ∷ zs) h =
@@ -146,7 +146,7 @@ module _ {K : Type 0} (eq : K → K → Bool) (laws : IsEquivalence eq) (exact :
     none_any z [] h = refl
     none_any z (y ∷ ys) h = rw h.0 (none_any z ys h.1)
 
-    -- those that were first stand behind the one that comes before them
+    -- those that were first stand after the one that comes before them
     moved : (t : K) (ts zs : List K) → Absent t ts → IsDistinct eq zs → list_any (eq t) zs ≡ true → IsPermutation (new_first eq ours ts ++ new_alone ts zs) (new_alone (t ∷ ts) zs)
     moved t ts [] a d h = absurd (true≢false (sym h))
     moved t ts (z ∷ zs) a d h = by (eq t z) refl (λ m. moved t ts zs a (IsDistinct-tail eq z zs d) m)
@@ -196,7 +196,7 @@ module _ {K : Type 0} (eq : K → K → Bool) (laws : IsEquivalence eq) (exact :
         subst (IsPermutation (placed eq ours theirs)) (ap₂ (λ a b. a ++ b) (kept theirs) (new_ones theirs)) parts in
         IsPermutation-trans _ _ _ (IsPermutation-append_right ours _ _ (all_new theirs o d)) (IsPermutation-sym _ _ both)
 
-    -- two keys stand one behind the other
+    -- two keys stand one after the other
     abbrev Stand : K → K → List K → Type 0
     Stand p t l = (us : List K) × (vs : List K) × (l ≡ us ++ p ∷ t ∷ vs)
 
@@ -316,7 +316,7 @@ module _ {K : Type 0} (eq : K → K → Bool) (laws : IsEquivalence eq) (exact :
   weaker P Q f [] h = tt
   weaker P Q f (x ∷ xs) h = (f x h.0, weaker P Q f xs h.1)
 
-  -- keys behind others of which none is one of them
+  -- keys after others of which none is one of them
   distinct_behind : (xs ys : List K) → IsDistinct eq xs → IsDistinct eq ys → AllByRecursion (λ y. list_any (eq y) xs ≡ false) ys → IsDistinct eq (xs ++ ys)
   distinct_behind [] ys d e h = e
   distinct_behind (x ∷ xs) ys d e h =
@@ -357,7 +357,7 @@ module _ {K : Type 0} (eq : K → K → Bool) (laws : IsEquivalence eq) (exact :
   pub first_more : (ours ts : List K) (i : ℕ) (k : K) → i < length ts → k ≡ get_or ts i k → is_among eq ours k ≡ false → new_first eq ours (drop i ts) ≡ k ∷ new_first eq ours (drop (i + 1) ts)
   first_more ours ts i k l h e = rw add-one (ap (new_first eq ours) (drop-cons ts i k l ∙ ap (λ y. y ∷ drop (suc i) ts) (sym h)) ∙ rw e refl)
 
-  -- what stands behind a key that is at a place, and behind one that is at none
+  -- what stands after a key that is at a place, and after one that is at none
   at_place : (ours ts : List K) (k d : K) (i : ℕ) → i < length ts → eq k (get_or ts i d) ≡ true → ((j : ℕ) → j < i → eq k (get_or ts j d) ≡ false) → new_behind eq ours ts k ≡ new_first eq ours (drop 1 (drop i ts))
   at_place ours [] k d i l h f = absurd (omega (arith, l))
   at_place ours (t ∷ ts) k d zero l h f = rw h refl
@@ -372,7 +372,7 @@ module _ {K : Type 0} (eq : K → K → Bool) (laws : IsEquivalence eq) (exact :
   behind_no ours [] k h = refl
   behind_no ours (t ∷ ts) k h = rw (first_false (eq k t) (list_any (eq k) ts) h) (behind_no ours ts k (second_false (eq k t) (list_any (eq k) ts) h))
 
-  -- a turn of the loop that puts each key with the new ones behind it
+  -- a turn of the loop that puts each key with the new ones after it
   pub with_more : (ours ts ks : List K) (i : ℕ) (k : K) → i < length ours → k ≡ get_or ours i k
       → ((ks ++ k ∷ []) ++ new_behind eq ours ts k) ++ flat_map (λ y. y ∷ new_behind eq ours ts y) (drop (i + 1) ours)
       ≡ ks ++ flat_map (λ y. y ∷ new_behind eq ours ts y) (drop i ours)

@@ -19,7 +19,7 @@ module _ {X K : Type 0} (key : X → K) (cmp : K → K → Ordering) (o : IsTota
   repeat_of xs = find (λ pair. is_eq (cmp (key pair.0) (key pair.1))) (zip xs (drop 1 xs))
 
   module _ {W : Type 0} (value : X → W) where
-    -- rows that climb rise where no neighbours have the same key
+    -- rows that climb strictly increase where no neighbours have the same key
     abbrev Above : X → List X → Type 0
     Above x ys = Up cmp (λ k. cmp (key x) k ≡ Less) (map (λ y. (key y, value y)) ys)
 
@@ -37,7 +37,7 @@ module _ {X K : Type 0} (key : X → K) (cmp : K → K → Ordering) (o : IsTota
     up_rows [] h e = tt
     up_rows (x ∷ xs) h e = (tt, up_from x xs h e)
 
-    -- rows in the order of their keys rise where no neighbours have the same
+    -- rows in the order of their keys strictly increase where no neighbours have the same
     pub rows_rise : (xs : List X) → IsSortedBy (before key cmp) xs → repeat_of xs ≡ None → Rising cmp (map (λ y. (key y, value y)) xs)
     rows_rise xs sorted e = rising cmp (λ k. ⊤) (map (λ y. (key y, value y)) xs) (up_rows xs (sorted_climbs key cmp o xs sorted) e)
 

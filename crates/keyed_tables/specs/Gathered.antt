@@ -17,6 +17,6 @@ pub record AreInOrder {K V : Type 0} (cmp : V → V → Ordering) (gs : List (K 
 abbrev pub alone : {K V : Type 0} → K × V → K × List V
 alone row = (row.0, row.1 ∷ [])
 
--- rows whose keys rise, each as a group of its own, are their groups by key
+-- rows whose keys strictly increase, each as a group of its own, are their groups by key
 abbrev pub AloneLaw : {K : Type 0} → (K → K → Ordering) → Type 0 → Type 0
 AloneLaw {K} cmp V = (rows : List (K × V)) → Rising cmp (map alone rows) → AreGroups cmp rows (map alone rows)

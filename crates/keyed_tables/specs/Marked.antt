@@ -2,17 +2,17 @@
 use Rattle.std.specs.Prelude.{◌≡◌, Bool, true, false, List, Option, Some, None}
 use Rattle.std.specs.declared.cmp.Ordering.{Ordering}
 use Rattle.eob_both.specs.declared.either_or_both.EitherOrBoth.{EitherOrBoth}
-use Rattle.eob_joins.specs.Settled.{BecameOf, KeptAs, stuck_row}
+use Rattle.eob_joins.specs.Settled.{BecameOf, KeptAs, unresolved_row}
 use Rattle.eob_joins.specs.Versions.{IsVersionJoin}
 use Rattle.keyed_tables.specs.declared.marked.Marked.{Marked}
-use Rattle.keyed_tables.specs.declared.marked.Marked.TheVariants.{Settled, Stuck}
+use Rattle.keyed_tables.specs.declared.marked.Marked.TheVariants.{Settled, Unresolved}
 
--- what stands of a row: the row itself where it is stuck, and else the value that it became, if it has one
+-- what stands of a row: the row itself where it is unresolved, and else the value that it became, if it has one
 abbrev pub MarkedAs : {V : Type 0} → (V → V → Bool) → (Option V → Option V → Option V → Bool)
     → (Option V → Option V → Option V → V → Type 0) → EitherOrBoth V (EitherOrBoth V V) → Option (Marked V) → Type 0
-MarkedAs eq can gives v None = (stuck_row eq can v ≡ false) × BecameOf eq gives v None
-MarkedAs eq can gives v (Some (Settled w)) = (stuck_row eq can v ≡ false) × BecameOf eq gives v (Some w)
-MarkedAs eq can gives v (Some (Stuck same)) = (stuck_row eq can v ≡ true) × (same ≡ v)
+MarkedAs eq can gives v None = (unresolved_row eq can v ≡ false) × BecameOf eq gives v None
+MarkedAs eq can gives v (Some (Settled w)) = (unresolved_row eq can v ≡ false) × BecameOf eq gives v (Some w)
+MarkedAs eq can gives v (Some (Unresolved same)) = (unresolved_row eq can v ≡ true) × (same ≡ v)
 
 -- the rows of the join of three versions, in order, each as what stands of it
 abbrev pub IsMarkedMerge : {K V : Type 0} → (K → K → Ordering) → (V → V → Bool) → (Option V → Option V → Option V → Bool)

@@ -7,4 +7,4 @@ use Rattle.keyed_tables.specs.declared.parted.Parted.{Parted}
 
 -- what a merge gives of both: the merged rows where none is in conflict, and else those in conflict
 abbrev pub merged_of : {K V : Type 0} → Parted K V → Merged K V Global
-merged_of parted = if length parted.stuck.items == 0 then Whole parted.settled else Conflicts parted.stuck
+merged_of parted = if length parted.unresolved.items == 0 then Whole parted.settled else Conflicts parted.unresolved

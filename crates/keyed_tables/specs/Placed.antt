@@ -1,4 +1,4 @@
--- The keys of two versions of a table in one order: those of ours, with each that only theirs has behind the one that it follows there.
+-- The keys of two versions of a table in one order: those of ours, with each that only theirs has after the one that it follows there.
 use Rattle.std.specs.Prelude.{◌≡◌, Bool, false, not, List, [], ◌∷◌, ◌++◌, Option, None, Some, filter, if◌then◌else◌}
 use Rattle.std.specs.List.{IsDistinct, flat_map, list_any}
 use Rattle.std.specs.List.Sorted.{IsPermutation}
@@ -17,7 +17,7 @@ module _ {K : Type 0} (eq : K → K → Bool) where
   new_first ours [] = []
   new_first ours (t ∷ ts) = if is_among ours t then [] else t ∷ new_first ours ts
 
-  -- those behind a key of theirs, before the next that ours has
+  -- those after a key of theirs, before the next that ours has
   abbrev pub new_behind : List K → List K → K → List K
   new_behind ours [] k = []
   new_behind ours (t ∷ ts) k = if eq k t then new_first ours ts else new_behind ours ts k
@@ -32,7 +32,7 @@ module _ {K : Type 0} (eq : K → K → Bool) where
   placed_noted (Some ours) None = None
   placed_noted (Some ours) (Some theirs) = Some (placed ours theirs)
 
-  -- ks are the keys of ours and the new ones of theirs, each once: ours in their order, and each new one right behind the key that it
+  -- ks are the keys of ours and the new ones of theirs, each once: ours in their order, and each new one right after the key that it
   -- follows in theirs, or first where it is the first there
   pub record ArePlaced (ours theirs ks : List K) : Type 0 where
     pub same : IsPermutation (ours ++ filter (is_new ours) theirs) ks

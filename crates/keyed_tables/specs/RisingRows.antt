@@ -1,4 +1,4 @@
--- That the keys of rows rise has one proof at most, so that a struct may keep it.
+-- That the keys of rows strictly increase has one proof at most, so that a struct may keep it.
 use Rattle.std.specs.Prelude.{List}
 use Rattle.std.specs.declared.cmp.Ordering.{Ordering}
 use Rattle.std.proofs.Props.{props}

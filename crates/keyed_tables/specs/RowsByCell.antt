@@ -7,7 +7,7 @@ use Rattle.eob_joins.specs.Cells.{AreMergedCells, cells_clash, same_length}
 abbrev pub cell_eq : List ℕ → List ℕ → Bool
 cell_eq cell other = pointwise nat_eq cell other
 
--- a row with no others behind it
+-- a row with no others after it
 abbrev pub only_row : {A : Type 0} → A → List A → Option A
 only_row row rest = if length rest == 0 then Some row else None
 

@@ -69,7 +69,7 @@ fn row_of(group: &Group) -> Option<&Cells>
     }
 }
 
-// A row with no others behind it.
+// A row with no others after it.
 fn only<'a>(row: &'a Cells, rest: &[Cells]) -> Option<&'a Cells>
     ensures { option_map (λ row. row.now) result ≡ only_row row.now rest.now }
 {

@@ -157,7 +157,7 @@ fn take_group(
     }
 }
 
-// Rows whose keys rise, each as a group of its own, are their groups by key.
+// Rows whose keys strictly increase, each as a group of its own, are their groups by key.
 fn law_alone<K: Ord, V>()
     ensures { AloneLaw K.cmp V }
 {}

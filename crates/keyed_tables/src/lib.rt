@@ -1,7 +1,7 @@
 //! Tables in memory, as rows by key: gathered from the rows of a file, compared, changed, merged, and put into an order.
 //!
-//! That the keys of a table rise is kept in its type, so that each join of `eob_joins` may be called on it. How a table is read and
-//! written stands above this crate.
+//! That the keys of a table strictly increase is kept in its type, so that each join of `eob_joins` may be called on it. How a table is
+//! read and written stands above this crate.
 #![tactic(auto)]
 
 mod by_cell;

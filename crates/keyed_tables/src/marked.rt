@@ -18,7 +18,7 @@ pub enum Marked<V> {
     /// Its value in the merged table.
     Settled(V),
     /// Its values in the three versions, which are in conflict.
-    Stuck(Versions<V>),
+    Unresolved(Versions<V>),
 }
 
 /// The merged table as [`parted_merge_of`](crate::parted_merge_of) has it, with each row in conflict in its place.
@@ -116,7 +116,7 @@ pub fn marked_row<V: Eq + Drop, S: Settle<V>>(
     if is_in_conflict(&versions) {
         match rule.settle(versions)? {
             Ok(value) => Ok(Some(Marked::Settled(value))),
-            Err(versions) => Ok(Some(Marked::Stuck(versions))),
+            Err(versions) => Ok(Some(Marked::Unresolved(versions))),
         }
     } else {
         match merged_value(versions) {

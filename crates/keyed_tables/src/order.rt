@@ -41,7 +41,7 @@ impl Order {
         }
     }
 
-    /// The order of a table that is merged of two: the keys of ours as they were taken, and each that only theirs has right behind the key
+    /// The order of a table that is merged of two: the keys of ours as they were taken, and each that only theirs has right after the key
     /// that it follows there, or first where it is the first there. It is the order of keys where one of both is.
     ///
     /// # Errors

@@ -1,6 +1,6 @@
 //! Three versions of a table merged, with the rows in conflict apart from those that are merged.
 ghost use Rattle.std.specs.Prelude.{◌≡◌, IfOk};
-ghost use Rattle.eob_joins.specs.Settled.{BecameUnless, IsMergeWith, KeptAs, stuck};
+ghost use Rattle.eob_joins.specs.Settled.{BecameUnless, IsMergeWith, KeptAs, unresolved};
 ghost use Rattle.eob_joins.specs.Tables.{kept};
 ghost use Rattle.eob_joins.specs.Versions.{IsMergeByKey};
 ghost use Rattle.keyed_tables.specs.Parted.{merged_of};
@@ -17,7 +17,7 @@ use std::alloc::{AllocError, Global};
 #[derive(Debug, Drop)]
 pub struct Parted<K, V> {
     pub settled: Vec<(K, V)>,
-    pub stuck: Vec<(K, Versions<V>)>,
+    pub unresolved: Vec<(K, Versions<V>)>,
 }
 
 /// The merged rows, which have whatever one side alone changed as that side has it; and the rows that both sides changed, to rows that are
@@ -84,17 +84,20 @@ fn parted_rows<K: Drop, V: Eq + Drop, S: Settle<V>>(
 ) -> Result<Parted<K, V>, AllocError>
     ensures settled { IfOk result (λ parted. KeptAs (BecameUnless V.eq (S.can rule.now) (S.gives rule.now))
         all.items parted.settled.items) }
-    ensures stuck { IfOk result
-        (λ parted. parted.stuck.items ≡ kept (stuck V.eq (S.can rule.now)) all.items) }
+    ensures unresolved { IfOk result
+        (λ parted. parted.unresolved.items ≡ kept (unresolved V.eq (S.can rule.now)) all.items) }
 {
     let mut settled = Vec::new(alloc);
-    let mut stuck = Vec::new(alloc);
+    let mut unresolved = Vec::new(alloc);
     for (key, versions) in all {
         match marked_row(versions, rule)? {
             Some(Marked::Settled(value)) => settled.push((key, value))?,
-            Some(Marked::Stuck(versions)) => stuck.push((key, versions))?,
+            Some(Marked::Unresolved(versions)) => unresolved.push((key, versions))?,
             None => {}
         }
     }
-    Ok(Parted { settled, stuck })
+    Ok(Parted {
+        settled,
+        unresolved,
+    })
 }

@@ -1,4 +1,4 @@
-//! The order of a merged table: the keys of ours, with each that only theirs has behind the one that it follows there.
+//! The order of a merged table: the keys of ours, with each that only theirs has after the one that it follows there.
 ghost use Rattle.std.specs.Prelude.{◌≡◌, ◌++◌, IfOk, OnOk, drop};
 ghost use Rattle.std.specs.List.{IsDistinct};
 ghost use Rattle.keyed_tables.specs.Placed.{PlacedLaw, new_behind, new_first, placed};
@@ -7,7 +7,7 @@ use indexmap::IndexSet;
 use keyed_rows::Key;
 use std::alloc::{AllocError, Global};
 
-/// The keys of both versions, each once: those of ours in their order, and each that only theirs has right behind the key that it follows
+/// The keys of both versions, each once: those of ours in their order, and each that only theirs has right after the key that it follows
 /// there, or first where it is the first there.
 ///
 /// # Errors
@@ -43,7 +43,7 @@ fn list_keys(
     Ok(keys)
 }
 
-// Puts the keys behind this one in theirs, before the next that ours has.
+// Puts the keys after this one in theirs, before the next that ours has.
 fn put_behind(
     keys: &mut Vec<Key>,
     ours: &IndexSet<Key>,
@@ -59,7 +59,7 @@ fn put_behind(
     }
 }
 
-// Those behind the one at a place.
+// Those after the one at a place.
 fn rest_behind(keys: &[Key], place: usize) -> &[Key]
     ensures { result.now ≡ drop 1 (drop place keys.now) }
 {
@@ -95,7 +95,7 @@ fn set_of(alloc: Global, keys: Vec<Key>) -> Result<IndexSet<Key>, AllocError>
     Ok(set)
 }
 
-/// The keys of two versions, placed, are those of both, each once: ours in their order, and each new one right behind the key that it
+/// The keys of two versions, placed, are those of both, each once: ours in their order, and each new one right after the key that it
 /// follows in theirs. Calling it does nothing: its contract gives the caller's proof the law.
 pub fn law_placed()
     ensures { PlacedLaw ⟦<Key as Eq>⟧.eq }

@@ -1,5 +1,6 @@
 pub mod RoundTrip
 pub mod TextLemmas
 pub mod QuoteLemmas
+pub mod SpellingLemmas
 pub mod WriteLemmas
 pub mod ReadLemmas

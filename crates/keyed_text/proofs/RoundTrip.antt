@@ -57,11 +57,11 @@ abbrev pub after-head : LineEnd → State
 after-head Lf = st.StartRecord
 after-head CrLf = st.AfterCr
 
-end-head : (e : LineEnd) (tail : List ℕ) → end_text (terminator_of e) ++ tail ≡ head-end e ∷ (behind-end e ++ tail)
+pub end-head : (e : LineEnd) (tail : List ℕ) → end_text (terminator_of e) ++ tail ≡ head-end e ∷ (behind-end e ++ tail)
 end-head Lf tail = refl
 end-head CrLf tail = refl
 
-head-unquoted : (e : LineEnd) → (head-end e == 34) ≡ false
+pub head-unquoted : (e : LineEnd) → (head-end e == 34) ≡ false
 head-unquoted Lf = refl
 head-unquoted CrLf = refl
 
@@ -81,7 +81,7 @@ module _ (s : Style) (d : ℕ) (m : Option ℕ) (same : (d == d) ≡ true) (n34 
   abbrev in-quotes : List ℕ → Bool
   in-quotes x = by_style (quote_style s.quotes) (needs_quotes (writer_in s d m) x)
 
-  unquoted : (x : List ℕ) → in-quotes x ≡ false → list_any (needs_byte (writer_in s d m)) x ≡ false
+  pub unquoted : (x : List ℕ) → in-quotes x ≡ false → list_any (needs_byte (writer_in s d m)) x ≡ false
   unquoted x e = needs-none s.quotes _ e
 
   -- a byte that calls for no quotes is no mark of the format
@@ -174,7 +174,7 @@ module _ (s : Style) (d : ℕ) (m : Option ℕ) (same : (d == d) ≡ true) (n34 
   ]
 
   -- the byte between cells ends the field
-  end-field : (fields : List (List ℕ)) (x u : List ℕ)
+  pub end-field : (fields : List (List ℕ)) (x u : List ℕ)
       → next_record (config_by d m) st.InField fields x (d ∷ u) ≡ next_record (config_by d m) st.StartField (fields ++ (x ∷ [])) [] u
   unfolding next_record
   end-field fields x u = rw same refl
@@ -198,14 +198,14 @@ module _ (s : Style) (d : ℕ) (m : Option ℕ) (same : (d == d) ≡ true) (n34 
   head-plain (z ∷ zs) = n34
 
   -- the end of a record, after a field
-  end-run : (e : LineEnd) (fields : List (List ℕ)) (x tail : List ℕ)
+  pub end-run : (e : LineEnd) (fields : List (List ℕ)) (x tail : List ℕ)
       → next_record (config_by d m) st.InField fields x (end_text (terminator_of e) ++ tail) ≡ Some (fields ++ (x ∷ []), after-head e, behind-end e ++ tail)
   unfolding next_record
   end-run Lf fields x tail = rw m10 refl
   end-run CrLf fields x tail = rw m13 refl
 
   -- and of one of a single empty cell
-  blank-run : (e : LineEnd) (tail : List ℕ) → next_record (config_by d m) st.StartRecord [] [] (34 ∷ 34 ∷ (end_text (terminator_of e) ++ tail))
+  pub blank-run : (e : LineEnd) (tail : List ℕ) → next_record (config_by d m) st.StartRecord [] [] (34 ∷ 34 ∷ (end_text (terminator_of e) ++ tail))
       ≡ Some ([] ∷ [], after-head e, behind-end e ++ tail)
   unfolding next_record
   blank-run Lf tail = rw (k34, m10) refl
@@ -226,12 +226,12 @@ module _ (s : Style) (d : ℕ) (m : Option ℕ) (same : (d == d) ≡ true) (n34 
       rw (end-field fields x _, u) (run ∙ back ∙ rw (append_assoc fields (x ∷ []) (y ∷ ys)) refl)
 
   -- a record's text starts as a field's does, where it starts with no mark of a record's end
-  first-quoted : (x : List ℕ) (c : ℕ) (tail : List ℕ) → in-quotes x ≡ true
+  pub first-quoted : (x : List ℕ) (c : ℕ) (tail : List ℕ) → in-quotes x ≡ true
       → next_record (config_by d m) st.StartRecord [] [] (field_text (writer_in s d m) x ++ (c ∷ tail))
       ≡ next_record (config_by d m) st.StartField [] [] (field_text (writer_in s d m) x ++ (c ∷ tail))
   first-quoted x c tail needs = rw needs (record-same [] [] 34 _ refl refl k34)
 
-  first-plain : (x : List ℕ) (c : ℕ) (tail : List ℕ) → list_any (needs_byte (writer_in s d m)) (x) ≡ false
+  pub first-plain : (x : List ℕ) (c : ℕ) (tail : List ℕ) → list_any (needs_byte (writer_in s d m)) (x) ≡ false
       → ((length x == 0) ≡ false) ⊎ (((c == 13) ≡ false) × ((c == 10) ≡ false) × (is_byte m c ≡ false))
       → next_record (config_by d m) st.StartRecord [] [] (x ++ (c ∷ tail)) ≡ next_record (config_by d m) st.StartField [] [] (x ++ (c ∷ tail))
   first-plain [] c tail p (inl e) = cc e
@@ -261,7 +261,7 @@ module _ (s : Style) (d : ℕ) (m : Option ℕ) (same : (d == d) ≡ true) (n34 
   not-zero n e = cc (sym e ∙ ne_eqb (suc n) 0 (λ z. cc z))
 
   -- a field that is written as nothing is empty
-  empty-field : (x : List ℕ) → (length (field_text (writer_in s d m) x) == 0) ≡ true → x ≡ []
+  pub empty-field : (x : List ℕ) → (length (field_text (writer_in s d m) x) == 0) ≡ true → x ≡ []
   empty-field [] e = refl
   empty-field (b ∷ rest) e = elim (cases_Bool (in-quotes (b ∷ rest))) [
     | inl needs ↦ absurd (not-zero _ (rw needs at e))
@@ -315,7 +315,7 @@ module _ (s : Style) (d : ℕ) (m : Option ℕ) (same : (d == d) ≡ true) (n34 
       let run = plain-run fields [] (b ∷ rest) [] p in
       start-same fields [] b rest q.1 ∙ ap (next_record (config_by d m) st.InField fields []) (sym (append-nil (b ∷ rest))) ∙ run
 
-  open-field : (fields : List (List ℕ)) (x : List ℕ)
+  pub open-field : (fields : List (List ℕ)) (x : List ℕ)
       → next_record (config_by d m) st.StartField fields [] (field_text (writer_in s d m) x) ≡ Some (fields ++ (x ∷ []), st.StartRecord, [])
   unfolding next_record
   open-field fields x = elim (cases_Bool (in-quotes x)) [
@@ -343,7 +343,7 @@ module _ (s : Style) (d : ℕ) (m : Option ℕ) (same : (d == d) ≡ true) (n34 
       record-same [] [] b rest q.2 q.3 q.4
 
   -- the same of a record of one field
-  open-one : (x : List ℕ) → (length (field_text (writer_in s d m) x) == 0) ≡ false
+  pub open-one : (x : List ℕ) → (length (field_text (writer_in s d m) x) == 0) ≡ false
       → next_record (config_by d m) st.StartRecord [] [] (field_text (writer_in s d m) x) ≡ Some (x ∷ [], st.StartRecord, [])
   open-one x some = elim (cases_Bool (in-quotes x)) [
     | inl needs ↦
@@ -354,7 +354,7 @@ module _ (s : Style) (d : ℕ) (m : Option ℕ) (same : (d == d) ≡ true) (n34 
         rw text (open-start x (rw text at some) (unquoted x plain) ∙ (rw text at (open-field [] x)))
   ]
 
-  open-blank : next_record (config_by d m) st.StartRecord [] [] (34 ∷ 34 ∷ []) ≡ Some ([] ∷ [], st.StartRecord, [])
+  pub open-blank : next_record (config_by d m) st.StartRecord [] [] (34 ∷ 34 ∷ []) ≡ Some ([] ∷ [], st.StartRecord, [])
   unfolding next_record
   open-blank = rw k34 refl
 

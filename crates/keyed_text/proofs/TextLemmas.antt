@@ -74,7 +74,7 @@ pub rows-full : (d : ℕ) (m : Option ℕ) (text : List ℕ) (rows : List (List 
 rows-full d m text rows h = reached-full (config_by d m) st.StartRecord h.0 (strip_bom text) h.1 rows h.2
 
 -- a row with a cell reads back as it is
-same-back : (row : List (List ℕ)) → HasCells row → row ≡ read_back row
+pub same-back : (row : List (List ℕ)) → HasCells row → row ≡ read_back row
 same-back [] h = absurd (h refl)
 same-back (x ∷ row) h = refl
 
@@ -121,7 +121,7 @@ last-of row (next ∷ rows) h =
     (row ∷ l.0, l.1, ap (λ rest. row ∷ rest) l.2, All-cons HasCells row l.0 (All-head HasCells row (next ∷ rows) h) l.3, l.4)
 
 -- a beginning of a text that begins with no mark
-strip-beginning : (t more : List ℕ) → strip_bom (t ++ more) ≡ t ++ more → strip_bom t ≡ t
+pub strip-beginning : (t more : List ℕ) → strip_bom (t ++ more) ≡ t ++ more → strip_bom t ≡ t
 unfolding strip_bom
 strip-beginning [] more e = refl
 strip-beginning (a ∷ []) more e = refl
@@ -131,16 +131,16 @@ strip-beginning (a ∷ b ∷ c ∷ t) more e = elim (cases_Bool (is_bom a b c)) 
   | inr none ↦ rw none refl
 ]
 
-less-end : (xs ys : List ℕ) → take (length (xs ++ ys) - length ys) (xs ++ ys) ≡ xs
+pub less-end : (xs ys : List ℕ) → take (length (xs ++ ys) - length ys) (xs ++ ys) ≡ xs
 less-end xs ys =
     let count : length (xs ++ ys) - length ys ≡ length xs = omega (arith, length-append xs ys) in
     rw count (take-append_seam xs ys)
 
-no-comment-quotes : (d : ℕ) (m : Option ℕ) → BeginsComments d m → is_byte m 34 ≡ false
+pub no-comment-quotes : (d : ℕ) (m : Option ℕ) → BeginsComments d m → is_byte m 34 ≡ false
 no-comment-quotes d None h = refl
 no-comment-quotes d (Some b) h = h.0
 
-no-comment-parts : (d : ℕ) (m : Option ℕ) → BeginsComments d m → is_byte m d ≡ false
+pub no-comment-parts : (d : ℕ) (m : Option ℕ) → BeginsComments d m → is_byte m d ≡ false
 no-comment-parts d None h = refl
 no-comment-parts d (Some b) h = h.1
 
@@ -160,10 +160,10 @@ module _ (s : Style) (d : ℕ) (m : Option ℕ) (parts : PartsCells d) (begins :
   n191 : (d == 191) ≡ false
   n191 = apart 191 parts.3 (omega arith)
 
-  m10 : (10 == d) ≡ false
+  pub m10 : (10 == d) ≡ false
   m10 = ne_eqb 10 d (λ e. true≢false (sym (eq-eqb d 10 (sym e)) ∙ parts.2))
 
-  m13 : (13 == d) ≡ false
+  pub m13 : (13 == d) ≡ false
   m13 = ne_eqb 13 d (λ e. true≢false (sym (eq-eqb d 13 (sym e)) ∙ parts.1))
 
   read : (row : List (List ℕ)) (tail : List ℕ)
@@ -171,7 +171,7 @@ module _ (s : Style) (d : ℕ) (m : Option ℕ) (parts : PartsCells d) (begins :
   read row tail = read-write s d m (eq-eqb d d refl) parts.0 parts.1 parts.2 m10 m13 (no-comment-quotes d m begins) (no-comment-parts d m begins) row tail
 
   -- what is read from a state of a text is what is read where the next read is the same
-  records-alike : (from : State) (text tail : List ℕ) (more : List (List (List ℕ)))
+  pub records-alike : (from : State) (text tail : List ℕ) (more : List (List (List ℕ)))
       → next_record (config_by d m) from [] [] text ≡ next_record (config_by d m) st.StartRecord [] [] tail
       → AreRecords (config_by d m) st.StartRecord tail more → AreRecords (config_by d m) from text more
   unfolding Reached
@@ -192,7 +192,7 @@ module _ (s : Style) (d : ℕ) (m : Option ℕ) (parts : PartsCells d) (begins :
       let first = same ∙ ap (next_record (config_by d m) st.StartRecord [] []) text-is ∙ read row (text-of rows ++ tail) in
       (rest.0, rest.1, (after, first, same-back row (All-head HasCells row rows h), rest.2), rest.3)
 
-  none-there : AreRecords (config_by d m) st.StartRecord [] []
+  pub none-there : AreRecords (config_by d m) st.StartRecord [] []
   unfolding Reached next_record
   none-there = (st.StartRecord, [], (refl, refl), refl)
 

@@ -1,7 +1,10 @@
 -- What follows of every text that is written or read.
 use Rattle.std.specs.Prelude.{◌≡◌, ◌≢◌, ℕ, List, [], ◌∷◌, All, Option}
 use Rattle.csv.specs.Reading.{strip_bom}
-use Rattle.keyed_text.specs.Texts.{AreRows, BeginsComments, PartsCells, ReadsAs, styled_text}
+use Rattle.keyed_text.specs.Spelling.{rows_spelled, text_as}
+use Rattle.keyed_text.specs.Texts.{AreRows, BeginsComments, PartsCells, ReadsAs, finished, styled_text}
+use Rattle.keyed_text.specs.declared.spelling.RowSpelling.{RowSpelling}
+use Rattle.keyed_text.specs.declared.style.LineEnd.{LineEnd}
 use Rattle.keyed_text.specs.declared.style.Style.{Style}
 
 -- a row of at least one cell
@@ -33,3 +36,10 @@ ReadsOnceLaw = (d : ℕ) (c : Option ℕ) (text : List ℕ) (rows others : List 
 -- and each of them has a cell
 abbrev pub RowsHaveCellsLaw : Type 0
 RowsHaveCellsLaw = (d : ℕ) (c : Option ℕ) (text : List ℕ) (rows : List (List (List ℕ))) → AreRows d c text rows → All HasCells rows
+
+-- the file of rows, in any style and each row in any spelling, reads back as them, where their text begins with no byte order mark
+abbrev pub SpelledBackLaw : Type 0
+SpelledBackLaw = (s : Style) (d : ℕ) (c : Option ℕ) → PartsCells d → BeginsComments d c
+    → (row : RowSpelling × List (List ℕ)) (rows : List (RowSpelling × List (List ℕ))) (after : List LineEnd)
+    → All HasCells (rows_spelled (row ∷ rows)) → strip_bom (text_as s d c (row ∷ rows) after) ≡ text_as s d c (row ∷ rows) after
+    → AreRows d c (finished s (text_as s d c (row ∷ rows) after)) (rows_spelled (row ∷ rows))

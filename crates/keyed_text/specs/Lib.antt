@@ -2,3 +2,4 @@ pub mod Texts
 pub mod Laws
 pub mod Streams
 pub mod Quotes
+pub mod Spelling

@@ -1,6 +1,6 @@
 //! What follows of every text that is written or read. Calling one of these functions does nothing: its contract gives the caller's
 //! proof the law.
-ghost use Rattle.keyed_text.specs.Laws.{ReadsBackLaw, ReadsOnceLaw, RowsHaveCellsLaw};
+ghost use Rattle.keyed_text.specs.Laws.{ReadsBackLaw, ReadsOnceLaw, RowsHaveCellsLaw, SpelledBackLaw};
 
 /// What is written of a header and rows, in any style, reads back as them, and as nothing else.
 ///
@@ -18,4 +18,11 @@ pub fn law_reads_once()
 /// Each row of a text has a cell. Call it before `law_reads_back`, for rows that were read.
 pub fn law_rows_have_cells()
     ensures { RowsHaveCellsLaw }
+{}
+
+/// What is written of rows reads back as them in whatever spelling each of them is: which cells are in quotes, how the row ends, and which
+/// blank lines stand before it and after the last one. The text begins with no byte order mark of its own. Call it where a text that your
+/// code wrote is read.
+pub fn law_spelled_back()
+    ensures { SpelledBackLaw }
 {}

@@ -1,6 +1,7 @@
 //! A reader that passes a text on while its quotes are in order: each quote that opens a cell is closed, and the cell ends right after
 //! the closing one. The kit's reader of CSV takes any text, so that a quote which is never closed would swallow the rest of a file.
 ghost use Rattle.std.specs.Prelude.{◌≡◌, ◌↔◌, IsTrue};
+ghost use Rattle.csv.specs.Machine.{is_byte};
 ghost use Rattle.keyed_text.specs.Quotes.{cell_place, closed_place, ends_line, place_after, place_behind};
 ghost use Rattle.keyed_text.specs.Quotes.{IsOutside, IsQuoteFree, place_behind_plain, plain_place};
 ghost use Rattle.keyed_text.specs.Quotes.{row_place, then_place};
@@ -177,11 +178,18 @@ impl Marks {
     fn row(self, byte: u8) -> Place
         ensures { result ≡ row_place self byte }
     {
-        if self.comment == Some(byte) {
+        if self.begins_comment(byte) {
             Place::Comment
         } else {
             self.cell(byte)
         }
+    }
+
+    // Whether a byte at the beginning of a row begins a line that is passed over.
+    pub(crate) fn begins_comment(self, byte: u8) -> bool
+        ensures { result ≡ is_byte self.comment byte }
+    {
+        self.comment == Some(byte)
     }
 
     // The place after the first byte of a cell.
@@ -225,7 +233,7 @@ impl Marks {
 }
 
 // Whether a byte ends a line.
-fn ends_line(byte: u8) -> bool
+pub(crate) fn ends_line(byte: u8) -> bool
     ensures { result ≡ ends_line byte }
 {
     byte == b'\r' || byte == b'\n'

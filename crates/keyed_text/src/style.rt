@@ -6,7 +6,7 @@ ghost use Rattle.keyed_text.specs.Texts.{ended, finished, terminator_of};
 use std::alloc::{AllocError, Global};
 
 // A byte order mark in UTF-8.
-const MARK: &[u8] = b"\xef\xbb\xbf";
+pub(crate) const MARK: &[u8] = b"\xef\xbb\xbf";
 
 /// Which cells of a row are written in quotes.
 #[derive(Clone, Copy, Debug, PartialEq, Eq)]

@@ -13,7 +13,7 @@ pub endless_behind : (bytes : List ℕ) (n : ℕ) (others : List ℕ) → others
 endless_behind bytes n others e a b =
     subst HasNoEnd (ap (λ x. take n bytes ++ x) e ∙ take-append-drop n bytes) (All-append (λ b. b ≢ 10) (take n bytes) others a b)
 
--- a line that ends behind the blocks
+-- a line that ends after the blocks
 pub line_behind : (bytes : List ℕ) (n : ℕ) (blocks others last rest : List ℕ) → blocks ≡ take n bytes → others ≡ drop n bytes → HasNoEnd (take n bytes)
     → others ≡ last ++ 10 ∷ rest → HasNoEnd last
     → (bytes ≡ take (length blocks + length last) bytes ++ 10 ∷ rest) × HasNoEnd (take (length blocks + length last) bytes)

@@ -30,7 +30,7 @@ pub record HasTaken (answers : Answering) (given written unfinished unwritten : 
 abbrev pub Taken : {N A : Type 0} → Answering → List ℕ → List ℕ → Session N A → Type 0
 Taken answers given written s = HasTaken answers given written s.unfinished.items s.answers.unwritten.items s.answers.lines s.answers.any_bad
 
--- the answer to a line is put behind the ones that were there
+-- the answer to a line is put after the ones that were there
 abbrev pub AddsAnswer : Answering → List ℕ → List ℕ → List ℕ → ℕ → Bool → Bool → Type 0
 AddsAnswer answers line old new number was_bad any_bad = (text : List ℕ) × (bad : Bool) × answers number line text bad
     × (new ≡ old ++ text ++ 10 ∷ []) × (any_bad ≡ (was_bad || bad))
@@ -66,7 +66,7 @@ abbrev pub StopsAtEnd : {N A : Type 0} → Answering → Session N A → Option 
 StopsAtEnd answers s old new stop = (given written : List ℕ) → Taken answers given written s
     → Stopped old new (λ put more. AnswersFirst answers given (written ++ put) more) stop
 
--- bytes were put on a writer as far as these, and more stand behind them
+-- bytes were put on a writer as far as these, and more stand after them
 abbrev pub PutSome : Option (List ℕ) → Option (List ℕ) → List ℕ → Type 0
 PutSome old new bytes = (put : List ℕ) × (more : List ℕ) × Appends old new put × (bytes ≡ put ++ more)
 

@@ -34,7 +34,7 @@ pub name_ahead : (v more : List ℕ) → IsName v → NoNameAhead (v ++ more) �
 name_ahead [] more h n = h.0 refl
 name_ahead (b ∷ v) more h n = n b (v ++ more) refl (All-head IsNameByte b v h.1)
 
--- what stands behind the first of two names
+-- what stands after the first of two names
 pub names_rest : (bytes first rest v w more : List ℕ) (p : ℕ) → ¬ IsNameByte p → IsName first → NoNameAhead rest → bytes ≡ first ++ rest → IsName v → bytes ≡ (v ++ p ∷ w) ++ more → rest ≡ p ∷ (w ++ more)
 names_rest bytes first rest v w more p np nf nr e nv f =
     (one_split first rest v (p ∷ (w ++ more)) nf.1 nv.1 nr (byte_no_name p (w ++ more) np) (sym e ∙ f ∙ append_assoc v (p ∷ w) more)).1

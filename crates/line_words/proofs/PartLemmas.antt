@@ -27,7 +27,7 @@ pub join_none : {X : Type 0} (f : X → List ℕ) (xs : List X) → length xs < 
 join_none f [] h = refl
 join_none f (x ∷ xs) h = absurd (omega arith)
 
--- the first word, and then each of the others behind a space
+-- the first word, and then each of the others after a space
 pub spaced_all : {X : Type 0} (f : X → List ℕ) (xs others : List X) (d : X) (i : ℕ) (start first output : List ℕ) → 1 ≤ length xs → others ≡ drop 1 xs
     → first ≡ start ++ f (get_or xs 0 d) → length others ≤ i → output ≡ first ++ flat_map (λ w. 32 ∷ f w) (take i others)
     → output ≡ start ++ join_with_byte 32 (map f xs)

@@ -1,4 +1,4 @@
-//! How answers grow: part by part, behind what stands there.
+//! How answers grow: part by part, after what stands there.
 ghost use Rattle.std.specs.Prelude.{◌≡◌, ◌++◌, OnOk, OnErr, map};
 ghost use Rattle.std.specs.Fmt.{decimal};
 ghost use Rattle.std.specs.List.{flat_map, join_with_byte};

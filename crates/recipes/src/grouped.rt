@@ -2,7 +2,7 @@
 ghost use Rattle.std.specs.Prelude.{◌≡◌, option_map};
 ghost use Rattle.either_or_both.specs.Prelude.{IfOk, IfSome, Some, left_place, map, right_place};
 ghost use Rattle.eob_joins.specs.Groups.{AreGroups, Ordered, shown_group};
-ghost use Rattle.eob_joins.specs.Parts.{part_under};
+ghost use Rattle.eob_joins.specs.KeySlices.{slice_under};
 
 use either_or_both::EitherOrBoth;
 use eob_joins::{group_by_key, group_join_slices, groups_of};
@@ -22,7 +22,7 @@ pub fn by_customer<K: Ord + Drop, A: Drop>(
 /// The customer at place `n`, where there are so many, with the part of the table that is this customer's. Takes no memory.
 pub fn nth_customer<K: Ord, A>(orders: &[(K, A)], n: usize) -> Option<(&K, &[(K, A)])>
     requires { Ordered K.cmp orders.now }
-    ensures { IfSome result (λ group. part_under K.cmp orders.now group.0.now ≡ Some group.1.now) }
+    ensures { IfSome result (λ group. slice_under K.cmp orders.now group.0.now ≡ Some group.1.now) }
 {
     groups_of(orders).nth(n)
 }
@@ -36,9 +36,9 @@ pub fn nth_account<'a, K: Ord, A, B>(
     requires orders { Ordered K.cmp orders.now }
     requires payments { Ordered K.cmp payments.now }
     ensures orders { IfSome result (λ row. option_map (λ a. a.now) (left_place row.1)
-        ≡ part_under K.cmp orders.now row.0.now) }
+        ≡ slice_under K.cmp orders.now row.0.now) }
     ensures payments { IfSome result (λ row. option_map (λ b. b.now) (right_place row.1)
-        ≡ part_under K.cmp payments.now row.0.now) }
+        ≡ slice_under K.cmp payments.now row.0.now) }
 {
     group_join_slices(orders, payments).nth(n)
 }

@@ -20,7 +20,7 @@ pub fn opened(stored: Option<Vec<u8>>, given: &[u8]) -> Either<&[u8], Cursor<Vec
     }
 }
 
-/// Puts the next line behind what stands in `line`, up to and with its end, and returns how many bytes it has: 0 at the end.
+/// Puts the next line after what stands in `line`, up to and with its end, and returns how many bytes it has: 0 at the end.
 pub fn next_line(
     reader: &mut Either<&[u8], Cursor<Vec<u8>>>,
     line: &mut Vec<u8>,

@@ -1,4 +1,4 @@
-//! A table whose rows have two sides, each of which may be absent: one side of a row set behind its key.
+//! A table whose rows have two sides, each of which may be absent: one side of a row set after its key.
 ghost use Rattle.std.specs.Prelude.{◌≡◌};
 ghost use Rattle.either_or_both.specs.Prelude.{OnOk, Some, left_place, nat_cmp, option_and_then, right_place};
 ghost use Rattle.std.specs.BTreeMap.{get};

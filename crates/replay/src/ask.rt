@@ -70,7 +70,7 @@ impl<'a> Ask<'a> {
         )
     }
 
-    /// The functions of nothing that give the first argument and the last one, but for a function behind them.
+    /// The functions of nothing that give the first argument and the last one, but for a function after them.
     pub fn makers(&self) -> (Function<'_>, Function<'_>) {
         let (first, last) = self.words();
         let last = if is_value(last) { last } else { first };

@@ -7,7 +7,7 @@ use crate::references::boxed_either;
 use either_or_both::Either;
 use std::ops::{Deref, DerefMut};
 
-/// What a container holds once a list was put behind it.
+/// What a container holds once a list was put after it.
 pub fn answer(ask: &Ask) -> Said {
     let alloc = ask.alloc();
     let mut value = Either::<Vec<i32>>::read(alloc, ask.value)?;

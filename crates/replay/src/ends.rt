@@ -50,7 +50,7 @@ where
     Ok(items)
 }
 
-// Puts what an iterator gives next behind the items, if it gives one.
+// Puts what an iterator gives next after the items, if it gives one.
 fn put_next<I: Iterator>(items: &mut Vec<I::Item>, walk: &mut I) -> Result<(), AllocError>
 where
     I::Item: Drop,

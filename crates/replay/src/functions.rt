@@ -68,7 +68,7 @@ impl<'a> Function<'a> {
         })
     }
 
-    /// Puts a value behind an accumulator, as a digit.
+    /// Puts a value after an accumulator, as a digit.
     pub fn fold<T: Value>(&self, acc: i32, x: T) -> i32 {
         self.calls.note_two(self.name, &acc, &x);
         acc.wrapping_mul(10).wrapping_add(self.step(x.code()))

@@ -20,7 +20,7 @@ type Table<K, V> = &'static [(K, V)];
 
 type Joined<K, V> = &'static [(K, EitherOrBoth<V, V>)];
 
-/// Two lists whose keys rise, and their join.
+/// Two lists whose keys strictly increase, and their join.
 #[rattlefmt::skip]
 static JOINED: [(Table<u8, char>, Table<u8, char>, Joined<u8, char>); 6] = [
     // left, right
@@ -82,7 +82,7 @@ fn by_reference<K: Ord + Copy + Drop, V: Copy + Drop>(
     Ok(rows)
 }
 
-// Both lists rise, and their join is as wanted, at once, item by item and by reference.
+// Both lists strictly increase, and their join is as wanted, at once, item by item and by reference.
 fn check<K: Ord + Copy + Debug + Drop, V: PartialEq + Copy + Debug + Drop>(
     rt: &impl Abort,
     alloc: Global,
@@ -110,7 +110,7 @@ fn small_lists_are_joined(rt: HostRuntime) -> Result<(), Fail> {
     Ok(())
 }
 
-/// A list rises where each key is less than the next.
+/// A list strictly increases where each key is less than the next.
 #[test]
 fn lists_that_rise_are_known(rt: HostRuntime) {
     assert!(rt; is_rising::<u8, char>(&[]));

@@ -48,7 +48,7 @@ fn value(side: Side, key: u32) -> Option<u32> {
 
 type Table = Vec<(u32, u32)>;
 
-// The table, whose keys rise.
+// The table, whose keys strictly increase.
 fn table(rt: &impl Abort, alloc: Global, side: Side) -> Result<Table, Fail>
     ensures { IfOk result (λ table. Rising nat_cmp table.items) }
 {

@@ -52,7 +52,7 @@ fn input(bytes: &[u8], fails: bool, count: usize) -> SlowInput<'_> {
     )
 }
 
-// What a command says of inputs of which the one at this place fails behind as many bytes.
+// What a command says of inputs of which the one at this place fails after as many bytes.
 fn broken_off<'a>(
     alloc: Global,
     command: Command,
@@ -257,7 +257,7 @@ fn expect_full(
     Ok(())
 }
 
-/// An output that is full behind any byte is an error, of small answers, and of some that are written in parts; and one that has room for
+/// An output that is full after any byte is an error, of small answers, and of some that are written in parts; and one that has room for
 /// the answer and takes one byte at a time has all of it.
 #[test]
 fn outputs_that_are_full_are_errors(rt: HostRuntime) -> Result<(), Fail> {

@@ -144,7 +144,7 @@ fn cells_of_every_byte_pass_unchanged(rt: HostRuntime) -> Result<(), Fail> {
     Ok(())
 }
 
-/// So is a key of any byte, and keys rise as their bytes do.
+/// So is a key of any byte, and keys strictly increase as their bytes do.
 #[test]
 fn keys_of_every_byte_pass_unchanged(rt: HostRuntime) -> Result<(), Fail> {
     let alloc = rt.alloc();

@@ -1,11 +1,11 @@
 //! Each command on tables that are texts, and on readers and writers. What the tests know of the calls of `keyed_commands` stands here.
 
 use keyed_commands::{
-    Answer, Colours, Command as AnyCommand, Comparing, Delimiter, Fault, Finding, Finished, Form,
-    Format, JoinNames, Joining, Kind, Layer, Look, LookupKind, LookupRequest, Merging, NamedFile,
-    Outcome, OverlayRequest, Reading, Reason, Request, RowFormat, Settings, SortedChanges,
-    SortedRequest, Stream, Writing, apply, at, diff, diff_sorted, join, join_sorted, lookup, merge,
-    overlay, stream_request, write_command, write_request, write_whole,
+    Answer, Colours, Command as AnyCommand, Comparing, Delimiter, Direction, Fault, Finding,
+    Finished, Form, Format, JoinNames, Joining, Kind, Layer, Look, LookupKind, LookupRequest,
+    Merging, NamedFile, Outcome, OverlayRequest, Reading, Reason, Request, RowFormat, Settings,
+    SortedChanges, SortedRequest, Stream, Writing, apply, at, diff, diff_sorted, join, join_sorted,
+    lookup, merge, overlay, stream_request, write_command, write_request, write_whole,
 };
 use std::alloc::{AllocError, Global};
 use std::io::{Read, Write};
@@ -142,6 +142,7 @@ impl Command {
             Command::Apply => Request::Apply {
                 old: first,
                 changes: next,
+                direction: Direction::Forward,
             },
             Command::Merge => Request::Merge {
                 base: first,
@@ -190,7 +191,8 @@ pub fn write_answer<'a, R: Read + Drop, W: Write>(
         }
         Command::Apply => {
             let changes = named("changes", new);
-            write_whole_answer(apply(alloc, settings, old, changes), output)
+            let answer = apply(alloc, settings, Direction::Forward, old, changes);
+            write_whole_answer(answer, output)
         }
         Command::Merge => {
             let (base, ours) = (named("base", old), named("ours", new));

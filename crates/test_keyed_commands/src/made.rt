@@ -5,7 +5,7 @@ use std::alloc::{AllocError, Global};
 use std::fmt::Write;
 use std::ops::Range;
 
-/// Puts rows behind a text: a number of a range as a key, behind the beginning of each row, and a cell.
+/// Puts rows after a text: a number of a range as a key, after the beginning of each row, and a cell.
 pub fn put_rows(
     text: &mut String,
     beginning: &str,

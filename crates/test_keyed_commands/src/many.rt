@@ -81,7 +81,7 @@ fn many_rows_are_laid_over(rt: HostRuntime) -> Result<(), Fail> {
 const BY_ROW: Merging<'static> = Merging {
     unit: Unit::Row,
     conflicts: Conflicts::Marks,
-    tolerance: None,
+    sameness: None,
 };
 
 /// Hundreds of conflicts among hundreds of rows keep their places.
@@ -119,7 +119,7 @@ fn hundreds_of_conflicts_are_marked(rt: HostRuntime) -> Result<(), Fail> {
     expect(merge, 1, wanted.as_bytes())
 }
 
-/// Each of thousands of rows that theirs adds stands behind the row that it follows there.
+/// Each of thousands of rows that theirs adds stands after the row that it follows there.
 #[test]
 fn many_new_rows_stand_behind_those_that_they_follow(rt: HostRuntime) -> Result<(), Fail> {
     let alloc = rt.alloc();

@@ -270,7 +270,7 @@ fn cells_are_never_too_long(rt: HostRuntime) -> Result<(), Fail> {
     Ok(())
 }
 
-// The rows of a group between two texts, each behind a beginning: as many with cells of their own, and as many that are the same.
+// The rows of a group between two texts, each after a beginning: as many with cells of their own, and as many that are the same.
 fn group(
     alloc: Global,
     before: &str,

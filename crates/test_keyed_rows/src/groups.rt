@@ -7,7 +7,7 @@ fn row(alloc: Global, cell: &[u8]) -> Result<Cells, AllocError> {
     Cells::from_slices(alloc, &[cell])
 }
 
-// A group of rows of one cell each, which are the bytes behind a first one.
+// A group of rows of one cell each, which are the bytes after a first one.
 fn group(alloc: Global, cells: &[u8], release: Release) -> Result<Group, AllocError> {
     let mut group = Group::with_release(row(alloc, b"first")?, release);
     for byte in cells {

@@ -44,7 +44,7 @@ fn check_two(
     Ok(())
 }
 
-// Rows that differ in the number of their cells, in an empty one, in a byte before, at or behind the eighth, and in a zero that is a byte
+// Rows that differ in the number of their cells, in an empty one, in a byte before, at or after the eighth, and in a zero that is a byte
 // or is none.
 static SHORT: [&[&[u8]]; 28] = [
     &[],

@@ -29,7 +29,7 @@ fn words_of(alloc: Global, line: &str) -> Result<Vec<Vec<u8>>, AllocError> {
 }
 
 // What stands on the standard error where tables are joined as they are read, onto such an output, and each look at the clock is a second
-// behind the one before.
+// after the one before.
 fn said_of<'a>(
     alloc: Global,
     disk: &'a Disk,
@@ -53,7 +53,7 @@ fn said_of<'a>(
     Ok(said)
 }
 
-/// Where rows are written before all are read, the line comes again behind them, unless they go to a terminal, which may be its own.
+/// Where rows are written before all are read, the line comes again after them, unless they go to a terminal, which may be its own.
 #[test]
 fn line_leaves_rows_on_a_terminal_alone(rt: HostRuntime) -> Result<(), Fail> {
     let alloc = rt.alloc();

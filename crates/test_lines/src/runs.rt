@@ -252,7 +252,7 @@ fn answers_line_longer_than_buffer(rt: HostRuntime) -> Result<(), Fail> {
     Ok(())
 }
 
-/// So is a line of 3 MB in 100,000 words, and one that stands before or behind it.
+/// So is a line of 3 MB in 100,000 words, and one that stands before or after it.
 #[test]
 fn answers_line_of_many_words(rt: HostRuntime) -> Result<(), Fail> {
     let mut input = Vec::new(rt.alloc());

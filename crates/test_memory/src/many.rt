@@ -258,7 +258,7 @@ fn lists_are_regrouped(rt: HostRuntime) -> Result<(), Fail> {
 
 type Rows<A> = Vec<(u16, Token), A>;
 
-// Three hundred rows whose keys rise by this step.
+// Three hundred rows whose keys strictly increase by this step.
 fn rows<'a>(memory: Memory<'a>, one: &Token, step: u16) -> Result<Rows<Memory<'a>>, AllocError>
     requires { step ≤ 3 }
 {

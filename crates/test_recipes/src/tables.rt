@@ -50,7 +50,7 @@ fn of_a_full_outer_join(rt: HostRuntime) -> Result<(), Fail> {
     expect_shown(alloc, &rows, want)
 }
 
-/// Two lists whose keys rise, and one whose keys do not beside another.
+/// Two lists whose keys strictly increase, and one whose keys do not beside another.
 #[test]
 fn of_a_join_if_rising(rt: HostRuntime) -> Result<(), Fail> {
     let alloc = rt.alloc();

@@ -60,7 +60,7 @@ fn of_settings(rt: HostRuntime) -> Result<(), Fail> {
     Ok(())
 }
 
-/// One side of a row, behind a key that is there and one that is not.
+/// One side of a row, after a key that is there and one that is not.
 #[test]
 fn of_upsert(rt: HostRuntime) -> Result<(), Fail> {
     let mut table = BTreeMap::new(rt.alloc());

@@ -22,7 +22,7 @@ fn held<T: Drop>(is_left: bool, value: T) -> Either<T, T> {
     }
 }
 
-/// A container grows by the items that are put behind it.
+/// A container grows by the items that are put after it.
 #[test]
 fn container_grows_by_what_is_put_behind_it(rt: HostRuntime) -> Result<(), Fail> {
     let alloc = rt.alloc();
@@ -225,7 +225,7 @@ fn check_written(alloc: Global, (is_left, size): Way) -> Result<(), Fail> {
     )
 }
 
-// The bytes copied to the other side with some behind them, where no call moves more at a time.
+// The bytes copied to the other side with some after them, where no call moves more at a time.
 fn check_copied(alloc: Global, (is_left, size): Way) -> Result<(), Fail> {
     let mut from = held(is_left, Stream::new(alloc, BYTES, size, NEVER)?);
     let mut to = held(!is_left, Stream::new(alloc, &[], size, NEVER)?);

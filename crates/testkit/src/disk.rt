@@ -111,7 +111,7 @@ impl Disk {
         Ok(())
     }
 
-    /// Puts bytes behind those of a file. Returns whether it is there.
+    /// Puts bytes after those of a file. Returns whether it is there.
     ///
     /// # Errors
     ///
@@ -127,7 +127,7 @@ impl Disk {
         }
     }
 
-    /// Has a file other bytes when it is opened again, or puts more behind those. Returns whether it is there.
+    /// Has a file other bytes when it is opened again, or puts more after those. Returns whether it is there.
     ///
     /// # Errors
     ///
@@ -472,7 +472,7 @@ impl State {
     }
 }
 
-/// A file that is open. It is read from its beginning on, and written behind its end.
+/// A file that is open. It is read from its beginning on, and written after its end.
 #[derive(Drop)]
 pub struct File<'a> {
     disk: &'a Disk,

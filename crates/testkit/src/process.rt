@@ -116,7 +116,7 @@ impl Sink {
     }
 }
 
-// Puts a value behind a text, and an end behind it.
+// Puts a value after a text, and an end after it.
 fn put<D: Display + Drop>(text: &RefCell<String>, value: D, end: &str) -> io::Result<()> {
     let mut text = text.try_borrow_mut()?;
     write!(*text, "{value}{end}")?;

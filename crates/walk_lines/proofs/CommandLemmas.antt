@@ -1,4 +1,4 @@
--- From what the words behind a name say to what the line says.
+-- From what the words after a name say to what the line says.
 use Rattle.std.proofs.Common.{ℕ, ◌==◌, ◌≡◌, ◌≢◌, List, [], ◌∷◌, get_or, map, Option, Some, None, refl, sym, ap, ◌∙◌, subst}
 use Rattle.std.specs.Bool.{if◌then◌else◌}
 use Rattle.std.specs.Prelude.{Result, Ok, Err, IfOk, MatchOption, Vec}
@@ -9,7 +9,7 @@ use Rattle.walk_lines.specs.declared.line.Answer.{Answer}
 use Rattle.walk_lines.specs.Commands.{Command, Collect, Walk, Normal, Ends, Join, command_words, IsBad, Says}
 use Rattle.walk_lines.specs.Answers.{AnswersBehind, AnswersLine, RefItem, shown, name_of, name_text, SaysBehind, SaysItems, SaysNoItems, words_behind}
 
--- the words of a command: its name, and what stands behind it
+-- the words of a command: its name, and what stands after it
 pub words_of : (c : Command) → command_words c ≡ name_text (name_of c) ∷ words_behind c
 words_of (Collect items) = refl
 words_of (Walk items) = refl
@@ -46,7 +46,7 @@ says_behind line bytes n c e s =
     let first : name_text (name_of c) ≡ name_text n = cc in
     record { name = name_once (name_of c) n first; words = cc; formed = s.formed }
 
--- an answer behind a name is the answer to the line
+-- an answer after a name is the answer to the line
 pub answers_line : {M : Type 0} (line bytes : List ℕ) (n : Name) (given : Option (Answer M)) → words line ≡ name_text n ∷ words bytes → AnswersBehind n bytes given
     → MatchOption given (IsBad line) (λ a. AnswersLine line a)
 answers_line line bytes n None e h = λ c s. h c (says_behind line bytes n c e s)

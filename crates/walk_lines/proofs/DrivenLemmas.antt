@@ -96,7 +96,7 @@ sides_shown (Right r) = sym (aligned-map (λ w. w.now) (λ w. w.now) [] r.items)
 pub called : (letters : List ℕ) (i d : ℕ) (P Q : Type 0) → i < length letters → MatchEnd (end_of (get_or letters i d)) P Q → MatchEnd (get_or (map end_of letters) i Front) P Q
 called letters i d P Q h m = subst (λ e. MatchEnd e P Q) (sym (call_at letters i d h)) m
 
--- what all the calls gave, and how many items are left, are written behind what stood there
+-- what all the calls gave, and how many items are left, are written after what stood there
 pub driven : {M : Type 0} (sides : EitherOrBoth (Vec (Bor (List ℕ)) M) (Vec (Bor (List ℕ)) M)) (calls : List End) (given : List (Option RefItem)) (left : ℕ) (start before named output : List ℕ)
     → map (option_map as_it_is) given ≡ answers (items_of_sides sides) calls → left ≡ left_over (items_of_sides sides) calls
     → before ≡ start ++ flat_map given_part given → named ≡ before ++ codes "left " → output ≡ named ++ decimal left

@@ -33,7 +33,7 @@ pub filled : (ends : List End) → ends ≢ [] → map end_letter ends ≢ []
 filled [] n e = n refl
 filled (end ∷ ends) n e = absurd (cc)
 
--- the words behind `ends`
+-- the words after `ends`
 ends_words : (bytes letters rest : List ℕ) → (letters ≡ [] → words bytes ≡ []) → (letters ≢ [] → words bytes ≡ letters ∷ words rest)
     → (first : List ℕ) (others : List (List ℕ)) → words bytes ≡ first ∷ others → (letters ≡ first) × (words rest ≡ others)
 ends_words bytes [] rest none some first others e = absurd (cc (none refl, e))

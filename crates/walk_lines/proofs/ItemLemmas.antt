@@ -67,7 +67,7 @@ says_more all done i others more s e h = record {
 pub says_all : (bytes : List ℕ) (items : List Named) (others : List (List ℕ)) → SaysFirst (words bytes) items others → others ≡ [] → SaysItems bytes items
 says_all bytes items others s e = record { words = s.words ∙ ap (λ l. map item_text items ++ l) e ∙ append-nil (map item_text items); names = s.names }
 
--- what is left of a list of items behind the first of them
+-- what is left of a list of items after the first of them
 left_behind : (done items : List Named) (others : List (List ℕ)) → map item_text items ≡ map item_text done ++ others → All HasNames items
     → (more : List Named) × (others ≡ map item_text more) × All HasNames more
 left_behind [] items others e h = (items, sym e, h)

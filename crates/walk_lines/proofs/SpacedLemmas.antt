@@ -17,7 +17,7 @@ pub texts_none : {X Y : Type 0} (f : Y → List ℕ) (g : X → Y) (xs : List X)
 texts_none f g [] h = refl
 texts_none f g (x ∷ xs) h = absurd (omega arith)
 
--- the first text, and then each of the others behind a space
+-- the first text, and then each of the others after a space
 pub texts_all : {X Y : Type 0} (f : Y → List ℕ) (g : X → Y) (xs others : List X) (d : X) (i : ℕ) (start first output : List ℕ) → 1 ≤ length xs → others ≡ drop 1 xs
     → first ≡ start ++ f (g (get_or xs 0 d)) → length others ≤ i → output ≡ first ++ flat_map (λ x. 32 ∷ f (g x)) (take i others)
     → output ≡ start ++ spaced (map f (map g xs))

@@ -87,7 +87,7 @@ second_table : (bytes rest : List ℕ) (right q : List Entry) → SaysTable (wor
     → (right ≡ q) × (words rest ≡ [])
 second_table bytes rest right q s n e h = table_once right q (words rest) [] s.names h (sym s.words ∙ e ∙ sym (append-nil (map entry_text q))) (λ i ws k f. n i ws k f) nothing_ahead
 
--- what a read of the words behind `join` found
+-- what a read of the words after `join` found
 pub record Tables (bytes first behind last : List ℕ) (left right : List Entry) : Type 0 where
   pub left_said : SaysTable (words bytes) left (words first)
   pub left_whole : NoEntryAhead first
@@ -125,7 +125,7 @@ says_tables bytes first behind last left right t e x y = record {
   formed = (t.left_said.names, t.right_said.names, x, y);
 }
 
--- keys of references rise as the keys that they show
+-- keys of references strictly increase as the keys that they show
 abbrev Pairs : Type 0
 Pairs = List (Bor (List ℕ) × Bor (List ℕ))
 
@@ -152,7 +152,7 @@ no_entry bytes Q None h n = h
 no_entry bytes Q (Some x) h n = absurd (n x refl)
 
 module _ (bytes first behind last : List ℕ) (left right : List Entry) (t : Tables bytes first behind last left right) where
-  -- words behind the second table
+  -- words after the second table
   pub words_left : (words last ≡ [] → ⊥) → (c : Command) → SaysBehind name.Join bytes c → ⊥
   words_left h (Join p q) s = h (tables_said bytes first behind last left right p q t s).2
   words_left h (Collect items) s = absurd (cc (s.name))
@@ -160,7 +160,7 @@ module _ (bytes first behind last : List ℕ) (left right : List Entry) (t : Tab
   words_left h (Normal items) s = absurd (cc (s.name))
   words_left h (Ends ends items) s = absurd (cc (s.name))
 
-  -- keys that do not rise
+  -- keys that do not strictly increase
   pub not_rising : (Rising bytes_cmp left × Rising bytes_cmp right → ⊥) → (c : Command) → SaysBehind name.Join bytes c → ⊥
   not_rising h (Join p q) s =
       let a = tables_said bytes first behind last left right p q t s in

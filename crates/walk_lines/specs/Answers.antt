@@ -33,7 +33,7 @@ name_of (Normal items) = name.Normal
 name_of (Ends ends items) = name.Ends
 name_of (Join p q) = name.Join
 
--- the words behind it
+-- the words after it
 abbrev pub words_behind : Command → List (List ℕ)
 words_behind (Collect items) = map item_text items
 words_behind (Walk items) = map item_text items
@@ -41,7 +41,7 @@ words_behind (Normal items) = map item_text items
 words_behind (Ends ends items) = map end_letter ends ∷ map item_text items
 words_behind (Join p q) = map entry_text p ++ codes "/" ∷ map entry_text q
 
--- behind the word that names it, bytes say a command
+-- after the word that names it, bytes say a command
 pub record SaysBehind (named : Name) (bytes : List ℕ) (command : Command) : Type 0 where
   pub name : name_of command ≡ named
   pub words : words bytes ≡ words_behind command
@@ -61,7 +61,7 @@ pub record SaysFirst (all : List (List ℕ)) (items : List Named) (others : List
   pub words : all ≡ map item_text items ++ others
   pub names : All HasNames items
 
--- the first word of bytes says this item, and behind it stand the words of the rest
+-- the first word of bytes says this item, and after it stand the words of the rest
 abbrev pub HasItemAhead : List ℕ → Named → List ℕ → Type 0
 HasItemAhead bytes item rest = (words bytes ≡ item_text item ∷ words rest) × HasNames item
 
@@ -105,7 +105,7 @@ Gives (Ends ends items) (answer.Ends sides calls) = (shown_sides sides ≡ colle
 Gives (Join p q) (answer.Join joined) = IsJoin bytes_cmp p q (map shown_row joined.items)
 Gives command given = ⊥
 
--- the answer to what bytes say behind the word that names a command, or none where they say no such command
+-- the answer to what bytes say after the word that names a command, or none where they say no such command
 abbrev pub AnswersBehind : {M : Type 0} → Name → List ℕ → Option (Answer M) → Type 0
 AnswersBehind {M} named bytes given = MatchOption given ((command : Command) → ¬ SaysBehind named bytes command)
     (λ (a : Answer M). (command : Command) × SaysBehind named bytes command × Gives command a)
@@ -126,7 +126,7 @@ pub record SaysTable (all : List (List ℕ)) (table : List Entry) (others : List
   pub words : all ≡ map entry_text table ++ others
   pub names : All HasEntryNames table
 
--- the first word of bytes says this entry, and behind it stand the words of the rest
+-- the first word of bytes says this entry, and after it stand the words of the rest
 abbrev pub HasEntryAhead : List ℕ → Entry → List ℕ → Type 0
 HasEntryAhead bytes entry rest = (words bytes ≡ entry_text entry ∷ words rest) × HasEntryNames entry
 

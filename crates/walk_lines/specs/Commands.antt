@@ -64,7 +64,7 @@ command_words (Normal items) = codes "normal" ∷ map item_text items
 command_words (Ends ends items) = codes "ends" ∷ map end_letter ends ∷ map item_text items
 command_words (Join p q) = codes "join" ∷ (map entry_text p ++ codes "/" ∷ map entry_text q)
 
--- its words are names, there is an end to be called, and the keys of its tables rise
+-- its words are names, there is an end to be called, and the keys of its tables strictly increase
 abbrev pub IsWellFormed : Command → Type 0
 IsWellFormed (Collect items) = All HasNames items
 IsWellFormed (Walk items) = All HasNames items

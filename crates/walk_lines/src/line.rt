@@ -90,7 +90,7 @@ fn command_name(word: &[u8]) -> Option<Name>
     }
 }
 
-// The answer to a command with these words behind its name, or None where it is not called with such words.
+// The answer to a command with these words after its name, or None where it is not called with such words.
 fn answer_command<'a, A: Allocator + Copy>(
     alloc: A,
     name: Name,

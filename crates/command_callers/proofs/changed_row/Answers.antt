@@ -17,11 +17,11 @@ unfolding distinct field_at repeats
 returns-clause-status c =
     IfOk-weaker c.diff.result _ _ (λ answer told. diff_differs (told refl) (record { key = refl; renames = refl; order = refl }) id_a id_a (one_x ∷ []) (one_y ∷ [])
     (known_text _ _ _ _ _ c.as_slice.ensures refl with_x refl) (known_text _ _ _ _ _ c.as_slice-2.ensures refl with_y refl) ((codes "1" ∷ [], codes "x" ∷ []) ∷ []) ((codes "1" ∷ [], codes "y" ∷ []) ∷ []) (tt, tt) (tt, tt)
-    (IsPermutation-refl _) (IsPermutation-refl _) refl refl) c.diff.ensures
+    (IsPermutation-refl _) (IsPermutation-refl _) refl refl) c.diff.ensures.csv
 
 pub returns-clause-bytes : goal.returns-clause-bytes
 unfolding distinct escaped field_at fields_text is_blank placed repeats
 returns-clause-bytes c =
     IfOk-weaker c.diff.result _ _ (λ answer told. diff_bytes (told refl) (record { key = refl; renames = refl; order = refl }) id_a id_a (one_x ∷ []) (one_y ∷ [])
     (known_text _ _ _ _ _ c.as_slice.ensures refl with_x refl) (known_text _ _ _ _ _ c.as_slice-2.ensures refl with_y refl) ((codes "1" ∷ [], codes "x" ∷ []) ∷ []) ((codes "1" ∷ [], codes "y" ∷ []) ∷ []) (tt, tt) (tt, tt)
-    (IsPermutation-refl _) (IsPermutation-refl _)) c.diff.ensures
+    (IsPermutation-refl _) (IsPermutation-refl _)) c.diff.ensures.csv

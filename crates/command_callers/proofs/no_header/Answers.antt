@@ -17,11 +17,11 @@ unfolding digits distinct field_at
 returns-clause-status c =
     IfOk-weaker c.diff.result _ _ (λ answer told. diff_differs (told refl) (record { key = refl; renames = refl; order = refl }) first_second first_second (one_x ∷ []) (one_y ∷ [])
     (bare_text _ _ _ _ _ _ c.as_slice.ensures refl bare_x refl) (bare_text _ _ _ _ _ _ c.as_slice-2.ensures refl bare_y refl) ((codes "1" ∷ [], codes "x" ∷ []) ∷ []) ((codes "1" ∷ [], codes "y" ∷ []) ∷ []) (tt, tt) (tt, tt)
-    (IsPermutation-refl _) (IsPermutation-refl _) refl refl) c.diff.ensures
+    (IsPermutation-refl _) (IsPermutation-refl _) refl refl) c.diff.ensures.csv
 
 pub returns-clause-bytes : goal.returns-clause-bytes
 unfolding digits distinct escaped field_at fields_text is_blank placed
 returns-clause-bytes c =
     IfOk-weaker c.diff.result _ _ (λ answer told. diff_bytes (told refl) (record { key = refl; renames = refl; order = refl }) first_second first_second (one_x ∷ []) (one_y ∷ [])
     (bare_text _ _ _ _ _ _ c.as_slice.ensures refl bare_x refl) (bare_text _ _ _ _ _ _ c.as_slice-2.ensures refl bare_y refl) ((codes "1" ∷ [], codes "x" ∷ []) ∷ []) ((codes "1" ∷ [], codes "y" ∷ []) ∷ []) (tt, tt) (tt, tt)
-    (IsPermutation-refl _) (IsPermutation-refl _)) c.diff.ensures
+    (IsPermutation-refl _) (IsPermutation-refl _)) c.diff.ensures.csv

@@ -4,11 +4,13 @@ ghost use Rattle.either_or_both.specs.Prelude.{left_place, right_place};
 ghost use Rattle.keyed_tables.specs.Arranged.{noted};
 ghost use Rattle.keyed_commands.specs.AppliedTexts.{AppliesSources, AppliesStreams, watched_left};
 ghost use Rattle.keyed_commands.specs.Answers.{AllFit, AnswersPatched, Stops, fits_place, key_cmp, rows_eq};
+ghost use Rattle.keyed_commands.specs.Turned.{changes_in};
 
 use crate::answer::{Answer, stopped};
 use crate::job::{Changes, Job, Table};
 use crate::made_table::answer_of_rows;
-use crate::styles::{Watched, style_under, watch};
+use crate::styles::{Noting, Watched, spelling_of, style_under, watch};
+use crate::turned::changes_in;
 use either_or_both::EitherOrBoth;
 use either_or_both::join::{outer_join, outer_join_slices};
 use eob_joins::Change;
@@ -16,13 +18,14 @@ use keyed_columns::{Columns, Content};
 use keyed_faults::{Fault, Reason, at};
 use keyed_files::{Stream, Two};
 use keyed_reports::{Stopped, Version, write_stopped};
-use keyed_requests::Settings;
+use keyed_requests::{Direction, Settings};
 use keyed_rows::{Group, Key};
 use keyed_tables::patched;
 use std::alloc::{AllocError, Global};
 use std::io::Read;
 
-/// The answer to `apply`, with its rows written as the old table is.
+/// The answer to `apply`, with its rows written as the table is: backward, the changes are taken back, each turned about, and the columns go
+/// that they brought.
 ///
 /// # Errors
 ///
@@ -31,31 +34,53 @@ use std::io::Read;
 pub fn apply<'a, R: Read + Drop>(
     alloc: Global,
     settings: Settings<'a>,
+    direction: Direction,
     old: Stream<'a, R>,
     changes: Stream<'a, R>,
 ) -> Result<Answer, Fault<'a>>
-    ensures { IfOk result (AppliesStreams R.remaining settings.entry old.entry changes.entry) }
+    ensures { IfOk result (AppliesStreams R.remaining settings.entry direction old.entry changes.entry) }
 {
-    let old = watch(settings.form, old);
-    let changes = watch(settings.form, changes);
+    let old = watch(alloc, settings.form, Noting::Noted, old);
+    let changes = watch(alloc, settings.form, Noting::Unnoted, changes);
     let mut inputs = Two::new(alloc, settings.form, Content::Changes, old, changes)?;
     inputs.first.rename(alloc, settings)?;
+    inputs.next.turn(direction);
     let columns = inputs.changed_columns(alloc, settings.key)?;
-    apply_files(Job::new(alloc, settings, &columns), &mut inputs)
+    apply_files(Job::new(alloc, settings, &columns), direction, &mut inputs)
 }
 
 fn apply_files<'a, R: Read + Drop>(
     mut job: Job<'_, Columns>,
+    direction: Direction,
     inputs: &mut Two<'a, Watched<R>>,
 ) -> Result<Answer, Fault<'a>>
-    ensures { IfOk result (AppliesSources (watched_left R.remaining) job.entry inputs.old) }
+    ensures { IfOk result (AppliesSources (watched_left R.remaining) job.entry direction inputs.old) }
 {
     let tables = job.read_to_change(inputs)?;
     let (old, changes) = tables;
     let noted = inputs.first.source.get_ref().style();
     let style = style_under(job.form.writing.heading, noted);
-    let job = job.in_style(style);
-    at(inputs.next.file, apply_tables(&job, old, changes))
+    let spelling = spelling_of(&job, &inputs.first)?;
+    let job = job.in_style(style, spelling);
+    at(inputs.next.file, apply_in(&job, direction, old, changes))
+}
+
+// The answer to `apply` in a direction.
+fn apply_in(
+    job: &Job<'_, Columns>,
+    direction: Direction,
+    old: Table,
+    changes: Changes,
+) -> Result<Answer, Reason>
+    ensures fits { IfOk result (λ answer. AllFit key_cmp old.pairs.items (changes_in direction changes.pairs.items)
+        → AnswersPatched job.now.form job.now.columns.now (noted job.now.order)
+        (is_none job.now.row_order.files) old.pairs.items (changes_in direction changes.pairs.items) answer) }
+    ensures misfits { IfOk result (λ answer.
+        (AllFit key_cmp old.pairs.items (changes_in direction changes.pairs.items) → ⊥) → Stops answer) }
+{
+    let changes = changes_in(job.alloc, direction, changes)?;
+    let answer = apply_tables(job, old, changes)?;
+    Ok(answer)
 }
 
 // The answer to `apply`: the table with the changes made to it, where each of them fits, and else a report of those that do not.

@@ -4,21 +4,26 @@
 ghost use Rattle.std.specs.Prelude.{◌≡◌, ◌↔◌, ◌==◌, ◌&&◌, IfOk, None, is_none, length, not};
 ghost use Rattle.keyed_requests.specs.declared.request.Format.TheVariants.{Csv};
 ghost use Rattle.keyed_columns.specs.Keys.{AreChangeColumns};
-ghost use Rattle.keyed_files.specs.Opening.{first_header, next_header};
+ghost use Rattle.keyed_files.specs.Opening.{first_header, headers_of, next_header};
 ghost use Rattle.keyed_tables.specs.Arranged.{noted};
 ghost use Rattle.keyed_commands.specs.Answers.{ChangesComeOut, IsDiffStatus, IsDiffText, columns_differ};
 ghost use Rattle.keyed_commands.specs.Answers.{status_of};
-ghost use Rattle.keyed_commands.specs.TablesRead.{DiffsSources, DiffsStreams};
+ghost use Rattle.keyed_commands.specs.Beside.{AnswersBeside, DiffsBesideSources, DiffsSourcesBy};
+ghost use Rattle.keyed_commands.specs.Beside.{DiffsStreamsBy};
+ghost use Rattle.keyed_commands.specs.Reported.{AreComparedColumns, IsReport, ReportsSources, ReportsStreams};
+ghost use Rattle.keyed_commands.specs.TablesRead.{DiffsSources};
 ghost use Rattle.keyed_commands.specs.declared.answer.Outcome.TheVariants.{Made};
 
 use crate::answer::{Answer, Outcome};
 use crate::by_number::changed_by_number;
 use crate::changes::write_changes;
+use crate::compared::{changed_beside, compared_columns};
 use crate::job::{Job, Table};
 use eob_joins::Change;
-use keyed_columns::{ColumnChanges, Columns, Content, names_among, picked_columns};
+use keyed_columns::{ColumnChanges, Columns, Content, Tolerances, names_among, picked_columns};
 use keyed_faults::{Fault, Reason, at};
 use keyed_files::{Stream, Two};
+use keyed_numbers::Alike;
 use keyed_reports::{Report, count_rows, row_changes, write_report};
 use keyed_requests::{Comparing, Format, Look, Picked, Settings};
 use keyed_rows::{Cells, Group, Key};
@@ -39,8 +44,10 @@ pub fn diff<'a, R: Read + Drop>(
     old: Stream<'a, R>,
     new: Stream<'a, R>,
 ) -> Result<Answer, Fault<'a>>
-    ensures { IfOk result (λ answer. how.entry.format ≡ Csv →
-        DiffsStreams R.remaining settings.entry old.entry new.entry answer) }
+    ensures csv { IfOk result (λ answer. how.entry.format ≡ Csv →
+        DiffsStreamsBy R.remaining how.entry.view.columns settings.entry old.entry new.entry answer) }
+    ensures report { IfOk result (λ answer. IsReport how.entry.format → how.entry.sameness ≡ None →
+        ReportsStreams R.remaining how.entry.view.columns settings.entry old.entry new.entry answer) }
 {
     let mut versions = Two::new(alloc, settings.form, Content::Rows, old, new)?;
     versions.first.rename(alloc, settings)?;
@@ -55,12 +62,14 @@ fn columns_of_diff<'a, R>(
     how: Comparing<'_>,
     versions: &Two<'a, R>,
 ) -> Result<Columns, Fault<'a>>
-    ensures { IfOk result (λ columns. how.entry.format ≡ Csv →
+    ensures csv { IfOk result (λ columns. how.entry.format ≡ Csv →
         AreChangeColumns settings.entry.key (first_header versions.now) (next_header versions.now) columns) }
+    ensures report { IfOk result (λ columns. IsReport how.entry.format →
+        AreComparedColumns how.entry.view.columns settings.entry.key (headers_of versions.now) columns) }
 {
     match how.format {
         Format::Csv => versions.change_columns(alloc, settings.key),
-        Format::Report(_) => columns_compared(alloc, settings, how.view.columns, versions),
+        Format::Report(_) => columns_compared(alloc, settings, how, versions),
     }
 }
 
@@ -68,11 +77,16 @@ fn columns_of_diff<'a, R>(
 fn columns_compared<'a, R>(
     alloc: Global,
     settings: Settings<'_>,
-    picked: Picked<'_>,
+    how: Comparing<'_>,
     versions: &Two<'a, R>,
-) -> Result<Columns, Fault<'a>> {
-    let columns = versions.columns(alloc, settings.key)?;
-    at(versions.next.file, picked_columns(alloc, picked, columns))
+) -> Result<Columns, Fault<'a>>
+    ensures { IfOk result (AreComparedColumns how.entry.view.columns settings.entry.key (headers_of versions.now)) }
+{
+    let all = versions.columns(alloc, settings.key)?;
+    let tolerances = at(versions.next.file, Tolerances::new(alloc, how.sameness))?;
+    at(versions.next.file, tolerances.check_known(alloc, &all))?;
+    let picked = picked_columns(alloc, how.view.columns, all);
+    at(versions.next.file, picked)
 }
 
 fn diff_files<'a, R: Read + Drop>(
@@ -80,13 +94,79 @@ fn diff_files<'a, R: Read + Drop>(
     how: Comparing<'_>,
     versions: &mut Two<'a, R>,
 ) -> Result<Answer, Fault<'a>>
-    ensures { IfOk result (λ answer. how.entry.format ≡ Csv →
-        DiffsSources R.remaining job.entry versions.old answer) }
+    ensures csv { IfOk result (λ answer. how.entry.format ≡ Csv →
+        DiffsSourcesBy R.remaining how.entry.view.columns job.entry versions.old answer) }
+    ensures report { IfOk result (λ answer. IsReport how.entry.format → how.entry.sameness ≡ None →
+        ReportsSources R.remaining job.entry versions.old answer) }
 {
     match how.format {
-        Format::Csv => diff_files_as_csv(job, versions),
+        Format::Csv => diff_files_picked(job, how.view.columns, versions),
         Format::Report(look) => diff_files_as_report(job, look, how, versions),
     }
+}
+
+// The changes between the rows of two files as CSV, whole: of a row that differs in columns alone that are ignored there is none.
+fn diff_files_picked<'a, R: Read + Drop>(
+    job: Job<'_, Columns>,
+    picked: Picked<'_>,
+    versions: &mut Two<'a, R>,
+) -> Result<Answer, Fault<'a>>
+    ensures { IfOk result (DiffsSourcesBy R.remaining picked.entry job.entry versions.old) }
+{
+    match picked {
+        Picked::All => diff_files_as_csv(job, versions),
+        Picked::Only(_) => diff_files_as_csv(job, versions),
+        Picked::AllBut(ignored) => diff_files_beside(job, ignored, versions),
+    }
+}
+
+// The same where columns are ignored.
+fn diff_files_beside<'a, R: Read + Drop>(
+    mut job: Job<'_, Columns>,
+    ignored: &str,
+    versions: &mut Two<'a, R>,
+) -> Result<Answer, Fault<'a>>
+    ensures { IfOk result (DiffsBesideSources R.remaining job.entry ignored.now versions.old) }
+{
+    let (before, after) = (versions.first.header(), versions.next.header());
+    let compared = compared_columns(job.alloc, ignored, job.columns, before, after);
+    let compared = at(versions.next.file, compared)?;
+    let tables = job.read_both(versions)?;
+    let marked = versions.marked_names(job.alloc)?;
+    let (old, new) = tables;
+    let answer = diff_beside(
+        &job,
+        versions.column_changes(),
+        &marked,
+        &compared,
+        old,
+        new,
+    );
+    at(versions.next.file, answer)
+}
+
+// The answer to `diff` as CSV where these columns are compared.
+fn diff_beside(
+    job: &Job<'_, Columns>,
+    columns: ColumnChanges<'_>,
+    marked: &Cells,
+    compared: &[bool],
+    old: Table,
+    new: Table,
+) -> Result<Answer, Reason>
+    ensures { IfOk result (AnswersBeside job.now.form job.now.columns.now (noted job.now.order)
+        (is_none job.now.row_order.files) compared.now marked.now (columns_differ columns.entry)
+        old.pairs.items new.pairs.items) }
+{
+    let all = changes_shown(job, old, new)?;
+    let changes = changed_beside(job.alloc, compared, all)?;
+    let status = diff_status(job.alloc, columns, &changes)?;
+    let bytes = write_changes(job, marked, changes)?;
+    Ok(Answer {
+        bytes,
+        status,
+        outcome: Outcome::Made,
+    })
 }
 
 // The changes between the rows of two files as CSV.
@@ -134,17 +214,16 @@ fn diff_files_as_report<'a, R: Read + Drop>(
     look: Look,
     how: Comparing<'_>,
     versions: &mut Two<'a, R>,
-) -> Result<Answer, Fault<'a>> {
-    let (old, new) = job.read_both(versions)?;
-    let before = at(
-        versions.first.file,
-        names_among(job.alloc, versions.first.header(), job.columns),
-    )?;
-    let after = at(
-        versions.next.file,
-        names_among(job.alloc, versions.next.header(), job.columns),
-    )?;
+) -> Result<Answer, Fault<'a>>
+    ensures { IfOk result (λ answer. how.entry.sameness ≡ None → ReportsSources R.remaining job.entry versions.old answer) }
+{
+    let tables = job.read_both(versions)?;
+    let before = names_among(job.alloc, versions.first.header(), job.columns);
+    let before = at(versions.first.file, before)?;
+    let after = names_among(job.alloc, versions.next.header(), job.columns);
+    let after = at(versions.next.file, after)?;
     let columns = ColumnChanges::new(&before, &after);
+    let (old, new) = tables;
     let answer = diff_as_report(&job, look, how, columns, old, new);
     at(versions.next.file, answer)
 }
@@ -157,18 +236,20 @@ fn diff_as_report<'a>(
     old: Table,
     new: Table,
 ) -> Result<Answer, Reason>
-    ensures { IfOk result (λ answer. how.entry.tolerance ≡ None →
+    ensures { IfOk result (λ answer. how.entry.sameness ≡ None →
         IsDiffStatus column_changes.entry old.pairs.items new.pairs.items answer.status) }
 {
+    let tolerances = Tolerances::new(job.alloc, how.sameness)?;
+    let alikes = tolerances.alikes(job.alloc, job.columns)?;
     let old_rows = count_rows(&old.pairs);
-    let changes = compared(job, how, old, new)?;
+    let changes = compared(job, how, &alikes, old, new)?;
     let status = diff_status(job.alloc, column_changes, &changes)?;
     let rows = row_changes(job.alloc, job.groups, &changes)?;
     let report = Report::new(
         job.columns,
         column_changes,
         how.view,
-        how.tolerance,
+        &alikes,
         old_rows,
         &rows,
     );
@@ -180,21 +261,23 @@ fn diff_as_report<'a>(
     })
 }
 
-// The changes between two tables. Where cells that are numbers are compared by value, rows whose cells are the same by it did not change.
+// The changes between two tables. Where cells are not compared as they stand, rows whose cells are the same as their columns are compared
+// did not change.
 fn compared(
     job: &Job<'_, Columns>,
     how: Comparing<'_>,
+    alikes: &[Alike<'_>],
     old: Table,
     new: Table,
 ) -> Result<Vec<(Key, Change<Group>)>, AllocError>
-    ensures changes { IfOk result (λ shown. how.entry.tolerance ≡ None → ChangesComeOut (noted job.now.order)
+    ensures changes { IfOk result (λ shown. how.entry.sameness ≡ None → ChangesComeOut (noted job.now.order)
         (is_none job.now.row_order.files) old.pairs.items new.pairs.items shown.items) }
-    ensures none { IfOk result (λ shown. how.entry.tolerance ≡ None →
+    ensures none { IfOk result (λ shown. how.entry.sameness ≡ None →
         (length shown.items ≡ 0) ↔ (old.pairs.items ≡ new.pairs.items)) }
 {
     let changes = changes_shown(job, old, new)?;
-    match how.tolerance {
-        Some(tolerance) => changed_by_number(job.alloc, tolerance, changes),
+    match how.sameness {
+        Some(_) => changed_by_number(job.alloc, alikes, changes),
         None => Ok(changes),
     }
 }

@@ -12,22 +12,21 @@ ghost use Rattle.keyed_commands.specs.Preferred.{rows_by_side};
 ghost use Rattle.keyed_commands.specs.FileOrder.{NotesBoth, placed_with};
 ghost use Rattle.keyed_commands.specs.TablesRead.{IsUnordered, ReadsTable};
 ghost use Rattle.keyed_commands.specs.Answers.{AnswersMerge, AnswersMerged, AnswersMergedByCell, HasConflict};
-ghost use Rattle.keyed_commands.specs.Answers.{AnswersTable, HasNoConflict, HasNoneStuck, HasStuck, Stops};
+ghost use Rattle.keyed_commands.specs.Answers.{AnswersTable, HasNoConflict, HasNoneUnresolved, HasUnresolved, Stops};
 
 use crate::answer::{Answer, Outcome, stopped};
 use crate::by_number::settled_by_number;
-use crate::conflict_cells::told_conflicts;
+use crate::conflict_cells::{Telling, told_conflicts};
 use crate::conflicts::render_conflicts;
 use crate::job::{Job, Table};
 use crate::lost_cells::lose_cells;
 use crate::made_table::answer_of_rows;
 use crate::marks::{has_conflict, parted, write_marked};
 use crate::preferred::rows_by_side;
-use crate::styles::{Watched, style_under, watch};
-use keyed_columns::{Columns, Content, columns_of, merged_columns};
+use crate::styles::{Noting, Watched, spelling_of, style_under, watch};
+use keyed_columns::{Columns, Content, Tolerances, columns_of, merged_columns};
 use keyed_faults::{Fault, Reason, at};
 use keyed_files::{Opened, Stream, Two};
-use keyed_numbers::Decimal;
 use keyed_reports::Report;
 use keyed_requests::{Conflicts, Merging, Settings, Side, Unit};
 use keyed_rows::{Group, Key};
@@ -55,15 +54,21 @@ pub fn merge<'a, R: Read + Drop>(
     ensures { IfOk result (λ answer. IsReported how.entry →
         MergesStreams R.remaining how.entry.unit settings.entry base.entry ours.entry theirs.entry answer) }
 {
-    let base = watch(settings.form, base);
-    let ours = watch(settings.form, ours);
-    let theirs = watch(settings.form, theirs);
+    let base = watch(alloc, settings.form, Noting::Unnoted, base);
+    let ours = watch(alloc, settings.form, Noting::Noted, ours);
+    let theirs = watch(alloc, settings.form, Noting::Unnoted, theirs);
     let mut base = Opened::new(alloc, settings.form, Content::Rows, base)?;
     let mut sides = Two::new(alloc, settings.form, Content::Rows, ours, theirs)?;
     base.rename(alloc, settings)?;
     let columns = columns_of_merge(alloc, settings, &base, &sides)?;
+    at(base.file, check_known(alloc, how, &columns))?;
     let job = Job::new(alloc, settings, &columns);
     merge_files(job, how, &mut base, &mut sides)
+}
+
+// Tells of a column with a tolerance of its own that is none of these.
+fn check_known(alloc: Global, how: Merging<'_>, columns: &Columns) -> Result<(), Reason> {
+    Tolerances::new(alloc, how.sameness)?.check_known(alloc, columns)
 }
 
 // The columns of the three tables, with a heading that spells them as ours does.
@@ -103,7 +108,8 @@ fn merge_files<'a, R: Read + Drop>(
     let versions = read_versions(&mut job, base, sides)?;
     let noted = sides.first.source.get_ref().style();
     let style = style_under(job.form.writing.heading, noted);
-    let job = job.in_style(style);
+    let spelling = spelling_of(&job, &sides.first)?;
+    let job = job.in_style(style, spelling);
     at(sides.next.file, merge_tables(&job, how, versions))
 }
 
@@ -149,32 +155,38 @@ fn merge_tables(
         versions.base.pairs.items versions.ours.pairs.items versions.theirs.pairs.items
         answer how.entry.unit) }
 {
-    match how.tolerance {
-        Some(tolerance) => merge_by_number(job, how, tolerance, versions),
+    let tolerances = Tolerances::new(job.alloc, how.sameness)?;
+    let alikes = tolerances.alikes(job.alloc, job.columns)?;
+    let telling = Telling {
+        unit: how.unit,
+        alikes: &alikes,
+    };
+    match how.sameness {
+        Some(_) => merge_by_number(job, telling, how.conflicts, versions),
         None => match how.conflicts {
-            Conflicts::Report => merge_reported(job, how, versions),
+            Conflicts::Report => merge_reported(job, telling, versions),
             Conflicts::Marks => {
                 let rows = marked_rows(job.alloc, how.unit, versions)?;
-                mark_conflicts(job, how, rows)
+                mark_conflicts(job, telling, rows)
             }
             Conflicts::Prefer(side) => {
                 let rows = marked_rows(job.alloc, how.unit, versions)?;
-                merge_by_side(job, how, side, rows)
+                merge_by_side(job, telling, side, rows)
             }
         },
     }
 }
 
-// The same where cells that are numbers are compared by value, which settles rows in conflict.
+// The same where cells are not compared as they stand, which settles rows in conflict.
 fn merge_by_number(
     job: &Job<'_, Columns>,
-    how: Merging<'_>,
-    tolerance: Decimal<'_>,
+    how: Telling<'_>,
+    conflicts: Conflicts,
     versions: ThreeVersions,
 ) -> Result<Answer, Reason> {
     let rows = marked_rows(job.alloc, how.unit, versions)?;
-    let rows = settled_by_number(job.alloc, tolerance, how.unit, rows)?;
-    match how.conflicts {
+    let rows = settled_by_number(job.alloc, how.alikes, how.unit, rows)?;
+    match conflicts {
         Conflicts::Marks => mark_conflicts(job, how, rows),
         Conflicts::Prefer(side) => merge_by_side(job, how, side, rows),
         Conflicts::Report => answer_of_merge(job, how, parted(job.alloc, rows)?),
@@ -185,7 +197,7 @@ fn merge_by_number(
 // rows are reported.
 fn mark_conflicts(
     job: &Job<'_, Columns>,
-    how: Merging<'_>,
+    how: Telling<'_>,
     rows: Vec<(Key, Marked<Group>)>,
 ) -> Result<Answer, Reason> {
     if has_conflict(&rows) && job.columns.count_written() == job.columns.rest.len() {
@@ -201,12 +213,12 @@ fn mark_conflicts(
 // The merged table, with rows in conflict as this side has them.
 fn merge_by_side(
     job: &Job<'_, Columns>,
-    how: Merging<'_>,
+    how: Telling<'_>,
     side: Side,
     rows: Vec<(Key, Marked<Group>)>,
 ) -> Result<Answer, Reason>
     ensures { IfOk result (AnswersTable job.now.form job.now.columns.now (noted job.now.order)
-        (is_none job.now.row_order.files) (rows_by_side how.entry.unit how.entry.tolerance side rows.items)) }
+        (is_none job.now.row_order.files) (rows_by_side how.entry.unit how.entry.alikes.now side rows.items)) }
 {
     let settled = rows_by_side(job.alloc, how, side, rows)?;
     let answer = answer_of_rows(job, "merged", settled)?;
@@ -216,7 +228,7 @@ fn merge_by_side(
 // The merged table, or a report of the rows in conflict.
 fn merge_reported(
     job: &Job<'_, Columns>,
-    how: Merging<'_>,
+    how: Telling<'_>,
     versions: ThreeVersions,
 ) -> Result<Answer, Reason>
     ensures { IfOk result (λ answer. AnswersBy job.now.form job.now.columns.now
@@ -247,7 +259,7 @@ fn marked_rows(
 // The answer to `merge` that takes each row whole: the merged table, or a report of the rows in conflict.
 fn merge_by_row(
     job: &Job<'_, Columns>,
-    how: Merging<'_>,
+    how: Telling<'_>,
     base: Table,
     ours: Table,
     theirs: Table,
@@ -266,16 +278,16 @@ fn merge_by_row(
 // The answer to `merge` that merges a row of each version cell by cell: the merged table, or a report of the rows in conflict.
 fn merge_by_cell(
     job: &Job<'_, Columns>,
-    how: Merging<'_>,
+    how: Telling<'_>,
     base: Table,
     ours: Table,
     theirs: Table,
 ) -> Result<Answer, Reason>
-    ensures whole { IfOk result (λ answer. HasNoneStuck base.pairs.items ours.pairs.items theirs.pairs.items
+    ensures whole { IfOk result (λ answer. HasNoneUnresolved base.pairs.items ours.pairs.items theirs.pairs.items
         → AnswersMergedByCell job.now.form job.now.columns.now (noted job.now.order)
         (is_none job.now.row_order.files) base.pairs.items ours.pairs.items theirs.pairs.items answer) }
     ensures conflict { IfOk result (λ answer.
-        HasStuck base.pairs.items ours.pairs.items theirs.pairs.items → Stops answer) }
+        HasUnresolved base.pairs.items ours.pairs.items theirs.pairs.items → Stops answer) }
 {
     let parted = parted_merge_by_cell_of(job.alloc, base, ours, theirs)?;
     let answer = answer_of_merge(job, how, parted)?;
@@ -285,7 +297,7 @@ fn merge_by_cell(
 // The merged table, or a report of the rows in conflict.
 fn answer_of_merge(
     job: &Job<'_, Columns>,
-    how: Merging<'_>,
+    how: Telling<'_>,
     parted: Parted<Key, Group>,
 ) -> Result<Answer, Reason>
     ensures { IfOk result (AnswersMerge job.now.form job.now.columns.now (noted job.now.order)
@@ -302,26 +314,29 @@ fn answer_of_merge(
 
 // Whether no row is in conflict.
 fn is_whole(parted: &Parted<Key, Group>) -> bool
-    ensures { result ≡ (length parted.now.stuck.items == 0) }
+    ensures { result ≡ (length parted.now.unresolved.items == 0) }
 {
-    parted.stuck.is_empty()
+    parted.unresolved.is_empty()
 }
 
 // Rows in conflict as a report, and with them the merged rows that have cells in columns that go.
 fn report_conflicts(
     job: &Job<'_, Columns>,
-    how: Merging<'_>,
+    how: Telling<'_>,
     parted: Parted<Key, Group>,
 ) -> Result<Answer, Reason>
     ensures { IfOk result Stops }
 {
-    let Parted { settled, stuck } = parted;
-    let stuck = job.arrange(told_conflicts(job.alloc, how, stuck)?)?;
+    let Parted {
+        settled,
+        unresolved,
+    } = parted;
+    let unresolved = job.arrange(told_conflicts(job.alloc, how, unresolved)?)?;
     let settled = if lose_cells(job.columns, &settled) {
         job.arrange(settled)?
     } else {
         Vec::new(job.alloc)
     };
-    let text = render_conflicts(job, &stuck, &settled)?;
+    let text = render_conflicts(job, &unresolved, &settled)?;
     Ok(stopped(text))
 }

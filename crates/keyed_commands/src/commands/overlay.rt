@@ -3,7 +3,7 @@ ghost use Rattle.std.specs.Prelude.{◌≡◌, ◌∷◌, [], IfOk, OnOk, is_non
 ghost use Rattle.keyed_columns.specs.Keys.{AreColumnsBy};
 ghost use Rattle.keyed_columns.specs.declared.content.Content.TheVariants.{Rows};
 ghost use Rattle.keyed_tables.specs.Arranged.{noted};
-ghost use Rattle.keyed_commands.specs.Answers.{IsTableText};
+ghost use Rattle.keyed_commands.specs.Answers.{IsTableFile};
 ghost use Rattle.keyed_commands.specs.OverlayAnswers.{AreLaidOver, AreLayers, IsLayer, IsSpelledAsFirst};
 ghost use Rattle.keyed_commands.specs.OverlayAnswers.{LaysTables, NotesAll};
 ghost use Rattle.keyed_commands.specs.OverlayAnswers.{OverlaysSources, OverlaysStreams, rows_laid};
@@ -16,10 +16,10 @@ use crate::answer::Answer;
 use crate::files::put;
 use crate::job::{Job, Table};
 use crate::made_table::table_as_csv;
-use crate::styles::{Watched, style_under, watch};
+use crate::styles::{Noting, Watched, spelling_of, style_under, watch};
 use keyed_columns::{Columns, Content, columns_of};
 use keyed_faults::{Fault, Reason, at};
-use keyed_files::{Opened, Stream};
+use keyed_files::{Opened, Stream, TableSpelling};
 use keyed_requests::{Form, Layer, Settings};
 use keyed_rows::{Cells, Group, Key};
 use keyed_tables::{filled_over, laid_over};
@@ -59,7 +59,8 @@ fn overlay_files<'a, R: Read + Drop>(
     let laid = lay_all(&mut job, layer, tables)?;
     let noted = laid.style.unwrap_or(job.form.writing.style);
     let style = style_under(job.form.writing.heading, noted);
-    let job = job.in_style(style);
+    let spelling = laid.spelling.unwrap_or(TableSpelling::even(job.alloc));
+    let job = job.in_style(style, spelling);
     at(file, answer_laid(&job, laid.table))
 }
 
@@ -74,11 +75,13 @@ fn open_all<'a, R: Read + Drop>(
 {
     let mut opened = Vec::new(alloc);
     let mut key = settings.key;
+    let mut noting = Noting::Noted;
     for stream in tables {
         let file = stream.file;
-        let table = open_layer(alloc, settings.form, key, stream)?;
+        let table = open_layer(alloc, settings.form, key, noting, stream)?;
         at(file, put(&mut opened, table))?;
         key = None;
+        noting = Noting::Unnoted;
     }
     Ok(opened)
 }
@@ -88,11 +91,12 @@ fn open_layer<'a, R: Read + Drop>(
     alloc: Global,
     form: Form,
     key: Option<&str>,
+    noting: Noting,
     stream: Stream<'a, R>,
 ) -> Result<Opened<'a, Watched<R>>, Fault<'a>>
     ensures { IfOk result (IsLayer R.remaining form key.entry stream.entry) }
 {
-    let stream = watch(form, stream);
+    let stream = watch(alloc, form, noting, stream);
     let mut table = Opened::new(alloc, form, Content::Rows, stream)?;
     table.rename_key(alloc, key)?;
     Ok(table)
@@ -155,11 +159,12 @@ fn headers_of<'o, R>(
     Ok(headers)
 }
 
-// Tables that are laid one over the other, if there is one, and how the first one is written.
+// Tables that are laid one over the other, if there is one, and how the first one is written and its rows are spelled.
 #[derive(Drop)]
 struct Laid {
     table: Option<Table>,
     style: Option<Style>,
+    spelling: Option<TableSpelling>,
 }
 
 // Reads the tables one after the other, each laid over those before it.
@@ -179,6 +184,7 @@ fn lay_all<'a, R: Read + Drop>(
     let mut laid = Laid {
         table: None,
         style: None,
+        spelling: None,
     };
     for table in tables {
         laid = lay(job, layer, laid, table)?;
@@ -202,11 +208,25 @@ fn lay<'a, R: Read + Drop>(
 {
     let above = job.read_table(job.columns, &mut table)?;
     let style = below.style.unwrap_or(table.source.get_ref().style());
+    let spelling = first_spelling(job, below.spelling, &table)?;
     let laid = at(table.file, lay_over(job.alloc, layer, below.table, above))?;
     Ok(Laid {
         table: Some(laid),
         style: Some(style),
+        spelling: Some(spelling),
     })
+}
+
+// The spelling of the rows of the first table: that of the tables below, if there is one.
+fn first_spelling<'a, R: Read + Drop>(
+    job: &Job<'_, Columns>,
+    below: Option<TableSpelling>,
+    table: &Opened<'a, Watched<R>>,
+) -> Result<TableSpelling, Fault<'a>> {
+    match below {
+        Some(spelling) => Ok(spelling),
+        None => spelling_of(job, table),
+    }
 }
 
 // A table over another, if there is one.
@@ -241,7 +261,7 @@ fn laid_by(alloc: Global, layer: Layer, below: Table, above: Table) -> Result<Ta
 
 // The rows of a table, if there is one.
 fn answer_laid(job: &Job<'_, Columns>, table: Option<Table>) -> Result<Answer, Reason>
-    ensures text { IfOk result (λ answer. IsTableText job.now.form job.now.columns.now (noted job.now.order)
+    ensures text { IfOk result (λ answer. IsTableFile job.now.form job.now.columns.now (noted job.now.order)
         (is_none job.now.row_order.files)
         (unwrap_or (option_map (λ table. table.pairs.items) table) []) answer.bytes.items) }
     ensures status { IfOk result (λ answer. answer.status ≡ 0) }

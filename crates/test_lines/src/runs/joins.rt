@@ -15,7 +15,7 @@ static JOINED: [(&[u8], &str, u8); 8] = [
     (b"join a=1/ b=2\njoin A=1 /\njoin\n",                "line 1: bad\nline 2: bad\nline 3: bad\n",  2),
 ];
 
-/// Lines that join two lists of entries have each key once with its values; lists whose keys do not rise are bad lines.
+/// Lines that join two lists of entries have each key once with its values; lists whose keys do not strictly increase are bad lines.
 #[test]
 fn answers_joins(rt: HostRuntime) {
     for (input, output, status) in JOINED {

@@ -20,8 +20,8 @@ type Entry<'a> = (&'a [u8], &'a [u8]);
 // The keys of a table, with their values.
 type Table<'a, A> = Vec<Entry<'a>, A>;
 
-/// The answer to `join` with these words behind it: the join of two tables, parted by the one word `/`, or None where a word is bad or
-/// the keys of a table do not rise.
+/// The answer to `join` with these words after it: the join of two tables, parted by the one word `/`, or None where a word is bad or
+/// the keys of a table do not strictly increase.
 ///
 /// # Errors
 ///
@@ -49,7 +49,7 @@ pub fn answer_join<'a, A: Allocator + Copy>(
     }
 }
 
-// Whether the keys of both tables rise.
+// Whether the keys of both tables strictly increase.
 fn are_rising(left: &[Entry], right: &[Entry]) -> bool
     ensures { IsTrue result ↔ (Rising bytes_cmp (shown_table left.now)
         × Rising bytes_cmp (shown_table right.now)) }
@@ -57,7 +57,7 @@ fn are_rising(left: &[Entry], right: &[Entry]) -> bool
     rises(left) && rises(right)
 }
 
-// Whether the keys of a table rise.
+// Whether the keys of a table strictly increase.
 fn rises(table: &[Entry]) -> bool
     ensures { IsTrue result ↔ Rising bytes_cmp (shown_table table.now) }
 {
@@ -99,7 +99,7 @@ fn split_entry_word(bytes: &[u8]) -> Option<(Entry<'_>, &[u8])>
     }
 }
 
-// The bytes behind the first word, or None where it is not `/`.
+// The bytes after the first word, or None where it is not `/`.
 fn split_slash(bytes: &[u8]) -> Option<&[u8]>
     requires { NoSpaceAhead bytes.now }
     ensures { MatchOption result ((others : List (List ℕ)) → words bytes.now ≢ codes "/" ∷ others)

@@ -15,7 +15,7 @@ use eob_lists::laws::{is_normal, regroup};
 use line_words::{is_word_end, skip_spaces, split_name, split_names, split_word};
 use std::alloc::{AllocError, Allocator};
 
-/// The answer to `collect` with these words behind it, or None where one is no item.
+/// The answer to `collect` with these words after it, or None where one is no item.
 ///
 /// # Errors
 ///
@@ -32,7 +32,7 @@ pub fn answer_collect<'a, A: Allocator + Copy>(
     }
 }
 
-/// The answer to `walk` with these words behind it, or None where one is no item.
+/// The answer to `walk` with these words after it, or None where one is no item.
 ///
 /// # Errors
 ///
@@ -49,7 +49,7 @@ pub fn answer_walk<'a, A: Allocator + Copy>(
     }
 }
 
-/// The answer to `normal` with these words behind it, or None where one is no item.
+/// The answer to `normal` with these words after it, or None where one is no item.
 ///
 /// # Errors
 ///
@@ -66,7 +66,7 @@ pub fn answer_normal<'a, A: Allocator + Copy>(
     }
 }
 
-/// The answer to `ends` with these words behind it, or None where the first is no calls of ends or another is no item.
+/// The answer to `ends` with these words after it, or None where the first is no calls of ends or another is no item.
 ///
 /// # Errors
 ///

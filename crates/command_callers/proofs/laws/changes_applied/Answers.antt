@@ -16,7 +16,7 @@ use Rattle.command_callers.proofs.laws.changes_applied.Goals as goal
 pub returns : goal.returns
 unfolding distinct escaped field_at fields_text is_blank placed repeats
 returns c =
-    let differs = c.in_ok-difference.ensures refl in
+    let differs = c.in_ok-difference.ensures.csv refl in
     let old_known = known_text _ _ _ _ _ c.as_slice-text.ensures refl with_x_and_y refl in
     let new_known = known_text _ _ _ _ _ c.as_slice.ensures refl with_w_then_z refl in
     let bytes = diff_bytes differs (record { key = refl; renames = refl; order = refl }) id_a id_a (one_x ∷ two_y ∷ []) (three_w ∷ one_z ∷ []) old_known new_known

@@ -19,4 +19,4 @@ returns c =
     refl (refl, refl, refl, omega arith) tt id_a id_a (one_x ∷ two_y ∷ []) (three_w ∷ one_z ∷ [])
     (known_text _ _ _ _ _ c.as_slice.ensures refl with_x_and_y refl) (known_text _ _ _ _ _ c.as_slice-2.ensures refl with_w_then_z refl)
     ((codes "1" ∷ [], codes "x" ∷ []) ∷ (codes "2" ∷ [], codes "y" ∷ []) ∷ []) ((codes "1" ∷ [], codes "z" ∷ []) ∷ (codes "3" ∷ [], codes "w" ∷ []) ∷ [])
-    (tt, (refl, tt)) (tt, (refl, tt)) (IsPermutation-refl _) (IsPermutation-swap _ _ 0 1 (omega arith) (omega arith) refl)) c.diff.ensures
+    (tt, (refl, tt)) (tt, (refl, tt)) (IsPermutation-refl _) (IsPermutation-swap _ _ 0 1 (omega arith) (omega arith) refl)) c.diff.ensures.csv

@@ -10,4 +10,4 @@ pub returns : goal.returns
 unfolding repeats
 returns c =
     IfOk-weaker c.diff.result _ _ (λ answer told. λ rows reads. same_status (told refl) c.law_text_once.ensures.table (record { key = refl; renames = refl; order = refl }) id_a rows
-    (known_text _ _ _ id_a rows refl refl reads refl) refl) c.diff.ensures
+    (known_text _ _ _ id_a rows refl refl reads refl) refl) c.diff.ensures.csv

@@ -4,7 +4,7 @@ use Rattle.std.proofs.lemmas.Iterator.Consumers.{YieldsList-end}
 use Rattle.std.proofs.lemmas.List.{map-id}
 use Rattle.std.specs.Vec.Iter.{into_iter_len}
 use Rattle.eob_joins.specs.Tables.{kept}
-use Rattle.eob_joins.specs.Settled.{BecameUnless, KeptAs, stuck}
+use Rattle.eob_joins.specs.Settled.{BecameUnless, KeptAs, unresolved}
 use Rattle.eob_joins.proofs.SettledLemmas.{step_ok, step_err}
 use Rattle.eob_joins.proofs.settle.settled_rows.Goals as goal
 
@@ -46,4 +46,4 @@ returns-clause-found g c =
     let counted : into_iter_len c.into_iter-key-iterator.result ≡ length c.args.rows.items = grind arith in
     let given = YieldsList-from_vec c.args.rows.items made.0 counted in
     let whole = sym (map-id c.loop-key.yielded) ∙ (YieldsList-end given c.loop-key.yielded c.loop-key.key-iterator c.loop-key.yielded_by c.next.result c.next.new.self c.in-None.is c.next.ensures.steps).0 in
-    c.loop-key.invariant.1 ∙ ap (kept (stuck g.V.PartialEq.eq (g.S.Settle.can c.args.settle.now))) whole
+    c.loop-key.invariant.1 ∙ ap (kept (unresolved g.V.PartialEq.eq (g.S.Settle.can c.args.settle.now))) whole

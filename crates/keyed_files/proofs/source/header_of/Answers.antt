@@ -1,9 +1,9 @@
 use Rattle.std.proofs.Common.{◌≡◌, ◌∙◌, ◌-◌, ap, arith, length}
 use Rattle.std.proofs.lemmas.Result.{IfOk-weaker}
 use Rattle.csv.specs.Records.{fields_of}
-use Rattle.keyed_columns.specs.Going.{names_going}
+use Rattle.keyed_columns.specs.Going.{names_coming, names_going}
 use Rattle.keyed_columns.specs.Headers.{cells_before}
-use Rattle.keyed_columns.proofs.HeaderLemmas.{gone-read, header-read, names-said, spelled-read}
+use Rattle.keyed_columns.proofs.HeaderLemmas.{gone-read, header-read, if-both, names-said, spelled-read}
 use Rattle.keyed_columns.proofs.NumberLemmas.{header-counted}
 use Rattle.keyed_files.proofs.source.header_of.Goals as goal
 
@@ -18,9 +18,9 @@ returns-then-form c =
       spelled = IfOk-weaker c.of_record.result _ _
           (λ header said. spelled-read c.args.content c.args.form.has_header c.args.has_first c.cells_before-before.result fields header.spelling.spelled c.if-not-has_first.false c.if-form.true
           c.cells_before-before.ensures.value said) c.of_record.ensures.spelled;
-      gone = λ changes. IfOk-weaker c.of_record.result _ _
-          (λ header said. gone-read c.args.has_first c.args.form.has_header fields header.gone c.if-not-has_first.false c.if-form.true
-          (said ∙ ap (λ before. names_going before fields) (c.cells_before-before.ensures.value ∙ ap cells_before changes))) c.of_record.ensures.gone;
+      gone = λ changes. let one = c.cells_before-before.ensures.value ∙ ap cells_before changes in
+          if-both c.of_record.result _ _ _ (λ header goes comes. gone-read c.args.has_first c.args.form.has_header fields header.gone header.came c.if-not-has_first.false c.if-form.true
+          (goes ∙ ap (λ before. names_going before fields) one) (comes ∙ ap (λ before. names_coming before fields) one)) c.of_record.ensures.gone c.of_record.ensures.came;
     }
 
 pub returns-else-form-clause-names : goal.returns-else-form-clause-names

@@ -3,7 +3,7 @@ use Rattle.std.specs.List.{flat_map}
 use Rattle.line_words.specs.Growth.{Extends}
 use Rattle.line_words.proofs.parts.append_parts.Given as goal
 
--- what was there stays, and the parts so far stand behind it
+-- what was there stays, and the parts so far stand after it
 abbrev pub invariant-loop-part : goal.invariant-loop-part
 invariant-loop-part g l = record {
   grown : Extends l.fn.output.items l.output.items;

@@ -3,7 +3,7 @@ use Rattle.std.specs.List.{flat_map}
 use Rattle.line_words.specs.Growth.{Extends}
 use Rattle.line_words.proofs.parts.append_spaced.Given as goal
 
--- behind the first word, each word so far stands behind a space
+-- after the first word, each word so far stands after a space
 abbrev pub invariant-loop-word : goal.invariant-loop-word
 invariant-loop-word g l = record {
   grown : Extends l.initial.output.items l.output.items;

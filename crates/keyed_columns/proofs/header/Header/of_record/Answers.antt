@@ -3,15 +3,16 @@ use Rattle.std.specs.List.{flat_map}
 use Rattle.std.proofs.lemmas.List.{length-map, take_all}
 use Rattle.std.proofs.lemmas.Result.{IfOk-weaker}
 use Rattle.csv.specs.Records.{fields_of}
-use Rattle.keyed_columns.specs.Going.{going_behind}
+use Rattle.keyed_columns.specs.Going.{coming_behind, going_behind}
 use Rattle.keyed_columns.specs.Headers.{name_in, names_behind}
-use Rattle.keyed_columns.proofs.HeaderLemmas.{name-here, names-none, none-gone, one-goes, one-more, place-behind}
+use Rattle.keyed_columns.proofs.HeaderLemmas.{name-here, names-none, none-came, none-gone, one-comes, one-goes, one-more, place-behind}
 use Rattle.keyed_columns.proofs.header.Header.of_record.Goals as goal
 
 pub loop-place-init : goal.loop-place-init
 loop-place-init c = (
   λ once. names-none (names_behind c.args.before (fields_of c.args.row.now)) (c.args.before - c.args.before) _ (omega arith) c.new-told.ensures.names once,
   none-gone c.args.before (c.args.before - c.args.before) (fields_of c.args.row.now) _ (omega arith) c.new-told.ensures.gone,
+  none-came c.args.before (c.args.before - c.args.before) (fields_of c.args.row.now) _ (omega arith) c.new-told.ensures.came,
 )
 
 pub loop-place-preserved : goal.loop-place-preserved
@@ -28,6 +29,8 @@ loop-place-preserved c =
           (name-here before place fields _ le lt (rw c.cell_of.ensures at c.fate_of-fate.ensures.name)) c.in_ok-number.ensures.names so_far.0 so_far.1),
       one-goes before place _ fields _ _ _ _ _ _ le lt next c.cell_of.ensures c.fate_of-fate.ensures.goes c.in_ok-number.ensures.gone c.in_ok-note_fate.ensures.gone
           c.loop-place.invariant.1,
+      one-comes before place _ fields _ _ _ _ _ _ le lt next c.cell_of.ensures c.fate_of-fate.ensures.comes c.in_ok-number.ensures.came c.in_ok-note_fate.ensures.came
+          c.loop-place.invariant.2,
     )
 
 pub returns : goal.returns
@@ -44,4 +47,6 @@ returns c =
       spelled = IfOk-weaker c.into_header.result _ _ (λ header made. made ∙ c.in_ok-spelled.ensures) c.into_header.ensures.spelled;
       gone = IfOk-weaker c.into_header.result _ _
           (λ header made. made ∙ c.loop-place.invariant.1 ∙ ap (flat_map (going_behind before)) (take_all (c.loop-place.place - before) (drop before fields) whole)) c.into_header.ensures.gone;
+      came = IfOk-weaker c.into_header.result _ _
+          (λ header made. made ∙ c.loop-place.invariant.2 ∙ ap (flat_map (coming_behind before)) (take_all (c.loop-place.place - before) (drop before fields) whole)) c.into_header.ensures.came;
     }

@@ -1,4 +1,4 @@
-use Rattle.std.proofs.Common.{refl, subst, sym}
+use Rattle.std.proofs.Common.{subst, sym}
 use Rattle.std.proofs.lemmas.Result.{IfOk-weaker}
 use Rattle.keyed_columns.specs.Keys.{AreChangedColumnsBy}
 use Rattle.keyed_columns.specs.Spelled.{IsSpelledAs}
@@ -11,18 +11,19 @@ use Rattle.keyed_commands.proofs.commands.apply.apply.Goals as goal
 pub returns : goal.returns
 returns g c =
     let settings = c.args.settings in
-    let named = record c.in_ok-inputs.inputs { first = c.rename.new.self } in
+    let direction = c.args.direction in
+    let named = record c.in_ok-inputs.inputs { first = c.rename.new.self; next = c.turn.new.self } in
     let P : Columns → Type 0 = λ columns. AreChangedColumnsBy settings.key named.first.source.value.header.names named.next.source.value.header.names
     named.next.source.value.header.gone columns in
     IfOk-weaker c.apply_files.result _ _
-    (λ answer read. two-alike (λ f h t u. AppliesTexts settings f h t u answer)
+    (λ answer read. two-alike (λ f h t u. AppliesTexts settings direction f h t u answer)
     (text_of_stream g.R.Read.remaining settings.form c.args.old) _ (text_of_stream g.R.Read.remaining settings.form c.args.changes) _
     (form_of settings.form c.args.old) _ (form_of settings.form c.args.changes) _
     c.watch-old.ensures.text c.watch-changes.ensures.text c.watch-old.ensures.form c.watch-changes.ensures.form
-    (apply-streams (watched_left g.R.Read.remaining) settings c.watch-old.result c.watch-changes.result c.in_ok-inputs.inputs
-    (record c.in_ok-inputs.inputs { first = c.rename.new.self }) c.new-2.result answer c.in_ok-inputs.ensures.first c.in_ok-inputs.ensures.next
+    (apply-streams (watched_left g.R.Read.remaining) settings direction c.watch-old.result c.watch-changes.result c.in_ok-inputs.inputs
+    named c.new-2.result answer c.in_ok-inputs.ensures.first c.in_ok-inputs.ensures.next
     c.in_ok-inputs.ensures.gone
-    c.in_ok-rename.ensures refl c.new-2.ensures.form c.new-2.ensures.groups c.new-2.ensures.unordered c.new-2.ensures.order
+    c.in_ok-rename.ensures c.turn.ensures.same c.new-2.ensures.form c.new-2.ensures.groups c.new-2.ensures.unordered c.new-2.ensures.order
     (subst P (sym c.new-2.ensures.columns) c.in_ok-columns.ensures.columns)
     (subst (IsSpelledAs named.first.source.value.header.spelling.names named.first.source.value.header.spelling.spelled) (sym c.new-2.ensures.columns) c.in_ok-columns.ensures.spelled)
     read)) c.apply_files.ensures

@@ -4,6 +4,7 @@ use Rattle.std.proofs.lemmas.Result.{IfOk-weaker}
 use Rattle.keyed_requests.specs.AnswerForm.{in_style}
 use Rattle.keyed_tables.specs.Arranged.{noted}
 use Rattle.keyed_commands.specs.AppliedTexts.{AnswersApplied}
+use Rattle.keyed_commands.specs.Turned.{changes_in}
 use Rattle.keyed_commands.proofs.commands.apply.apply_files.Goals as goal
 
 pub returns : goal.returns
@@ -23,11 +24,11 @@ returns g c =
         style = style;
         keys = noted job.order;
         by_cells = is_none job.row_order.files;
-        applied = subst (λ j. AnswersApplied (in_style style j.form) j.columns.now (noted job.order) (is_none job.row_order.files) tables.0.pairs.items tables.1.pairs.items answer)
+        applied = subst (λ j. AnswersApplied (in_style style j.form) j.columns.now (noted job.order) (is_none job.row_order.files) tables.0.pairs.items (changes_in c.args.direction tables.1.pairs.items) answer)
             read.same
-            (subst (λ j. AnswersApplied j.form j.columns.now (noted j.order) (is_none j.row_order.files) tables.0.pairs.items tables.1.pairs.items answer)
+            (subst (λ j. AnswersApplied j.form j.columns.now (noted j.order) (is_none j.row_order.files) tables.0.pairs.items (changes_in c.args.direction tables.1.pairs.items) answer)
             c.in_style-job.ensures
-            (record { fits = rw is at c.apply_tables.ensures.fits; misfits = rw is at c.apply_tables.ensures.misfits }));
+            (record { fits = rw is at c.apply_in.ensures.fits; misfits = rw is at c.apply_in.ensures.misfits }));
         order = λ unordered. let after = read.unordered unordered in (after.keys, after.rows);
       };
     }) c.at.ensures

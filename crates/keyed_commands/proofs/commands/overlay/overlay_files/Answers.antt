@@ -3,7 +3,7 @@ use Rattle.std.specs.Prelude.{is_none}
 use Rattle.std.proofs.lemmas.Result.{IfOk-weaker}
 use Rattle.keyed_requests.specs.AnswerForm.{in_style}
 use Rattle.keyed_tables.specs.Arranged.{noted}
-use Rattle.keyed_commands.specs.Answers.{IsTableText}
+use Rattle.keyed_commands.specs.Answers.{IsTableFile}
 use Rattle.keyed_commands.specs.OverlayAnswers.{rows_laid}
 use Rattle.keyed_commands.proofs.commands.overlay.overlay_files.Goals as goal
 
@@ -25,9 +25,9 @@ returns g c =
         laid = read.laid.2;
         answers = record {
           style = style;
-          text = subst (λ j. IsTableText (in_style style j.form) j.columns.now (noted job.order) (is_none job.row_order.files) (rows_laid laid) answer.bytes.items)
+          text = subst (λ j. IsTableFile (in_style style j.form) j.columns.now (noted job.order) (is_none job.row_order.files) (rows_laid laid) answer.bytes.items)
               read.same
-              (subst (λ j. IsTableText j.form j.columns.now (noted j.order) (is_none j.row_order.files) (rows_laid laid) answer.bytes.items)
+              (subst (λ j. IsTableFile j.form j.columns.now (noted j.order) (is_none j.row_order.files) (rows_laid laid) answer.bytes.items)
               c.in_style-job.ensures (rw is at c.answer_laid.ensures.text));
           status = rw is at c.answer_laid.ensures.status;
           outcome = rw is at c.answer_laid.ensures.outcome;

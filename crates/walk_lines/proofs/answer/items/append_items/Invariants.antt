@@ -5,7 +5,7 @@ use Rattle.walk_lines.specs.Commands.{item_text}
 use Rattle.walk_lines.specs.Answers.{shown}
 use Rattle.walk_lines.proofs.answer.items.append_items.Given as goal
 
--- behind the first, each so far stands behind a space
+-- after the first, each so far stands after a space
 abbrev pub invariant-loop-item : goal.invariant-loop-item
 invariant-loop-item g l = record {
   grown : Extends l.initial.output.items l.output.items;

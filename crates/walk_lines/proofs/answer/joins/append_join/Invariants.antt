@@ -5,7 +5,7 @@ use Rattle.walk_lines.specs.Texts.{row_text}
 use Rattle.walk_lines.specs.Answers.{shown_row}
 use Rattle.walk_lines.proofs.answer.joins.append_join.Given as goal
 
--- behind the first, each so far stands behind a space
+-- after the first, each so far stands after a space
 abbrev pub invariant-loop-row : goal.invariant-loop-row
 invariant-loop-row g l = record {
   grown : Extends l.initial.output.items l.output.items;

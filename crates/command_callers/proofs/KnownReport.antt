@@ -1,0 +1,79 @@
+-- What `diff` tells of two texts that are known, where all columns are compared.
+use Rattle.std.proofs.Common.{◌≡◌, ◌∙◌, ◌++◌, ℕ, true, false, List, [], ◌∷◌, filter, map, IsPermutation, ap, subst, sym, true≢false}
+use Rattle.std.specs.Prelude.{⊤}
+use Rattle.eob_lists.proofs.MergeLemmas.{Up}
+use Rattle.eob_joins.proofs.TableLemmas.{by_test}
+use Rattle.keyed_requests.specs.declared.request.Form.{Form}
+use Rattle.keyed_requests.specs.declared.request.Picked.TheVariants.{All}
+use Rattle.keyed_requests.specs.declared.request.Settings.{Settings}
+use Rattle.keyed_columns.specs.ColumnNames.{HaveNames, column_names, has_name, is_beside}
+use Rattle.keyed_tables.specs.Gathered.{alone}
+use Rattle.keyed_commands.specs.Answers.{key_cmp, status_of}
+use Rattle.keyed_commands.specs.Reported.{ReportsTexts, names_among}
+use Rattle.keyed_commands.specs.TablesRead.{headers_differ}
+use Rattle.keyed_commands.specs.declared.answer.Answer.{Answer}
+use Rattle.command_callers.proofs.KnownDiff.{diff_key, same_tables}
+use Rattle.command_callers.proofs.KnownTables.{IsKnown, IsPlain, KeyedRows, columns_are, header_is, names_are, rows_by, table_is}
+
+-- the names of two tables, and those beside the key
+abbrev pub report_names : (old new : List (List ℕ)) → List (List ℕ)
+report_names old new = column_names (old ∷ new ∷ [])
+
+abbrev pub report_rest : (old new : List (List ℕ)) → List (List ℕ)
+report_rest old new = filter (is_beside (diff_key old new)) (report_names old new)
+
+-- the names of a header that are compared
+abbrev pub names_compared : (old new header : List (List ℕ)) → List (List ℕ)
+names_compared old new header = filter (has_name (diff_key old new ++ report_rest old new)) header
+
+module _ {settings : Settings} {old_form new_form : Form} {old_text new_text : List ℕ} {answer : Answer}
+    (r : ReportsTexts settings All old_form new_form old_text new_text answer) (plain : IsPlain settings)
+    (old_fields new_fields : List (List ℕ)) (old_records new_records : List (List (List ℕ)))
+    (old_known : IsKnown old_form old_text old_fields old_records) (new_known : IsKnown new_form new_text new_fields new_records)
+    (old new : KeyedRows) (old_up : Up key_cmp (λ k. ⊤) old) (new_up : Up key_cmp (λ k. ⊤) new)
+    (old_moved : IsPermutation (rows_by old_fields (diff_key old_fields new_fields) (report_rest old_fields new_fields) old_records) old)
+    (new_moved : IsPermutation (rows_by new_fields (diff_key old_fields new_fields) (report_rest old_fields new_fields) new_records) new) where
+  old_names : r.names ≡ old_fields
+  old_names = names_are settings plain r.header r.names r.named ∙ header_is old_form old_text old_fields old_records old_known settings.groups r.header r.names r.columns r.old r.old_says
+
+  new_names : r.next_header ≡ new_fields
+  new_names = header_is new_form new_text new_fields new_records new_known settings.groups r.next_header r.next_header r.columns r.new r.new_says
+
+  columns_known : HaveNames (diff_key old_fields new_fields) (report_names old_fields new_fields) r.columns
+  columns_known =
+      subst (λ n. HaveNames (diff_key n new_fields) (report_names n new_fields) r.columns) old_names
+      (subst (λ n. HaveNames (diff_key r.names n) (report_names r.names n) r.columns) new_names
+      (subst (HaveNames (diff_key r.names r.next_header) (report_names r.names r.next_header)) (sym r.columned.2)
+      (columns_are settings.key (r.names ∷ r.next_header ∷ []) (r.names ∷ r.next_header ∷ []) r.columned.0 plain.key r.columned.1)))
+
+  old_table : r.old ≡ map alone old
+  old_table =
+      table_is old_form old_text old_fields old_records old_known settings.groups r.header r.names r.columns r.old r.old_says
+      old_fields (diff_key old_fields new_fields) (report_rest old_fields new_fields) old old_names columns_known.key columns_known.rest old_moved old_up
+
+  new_table : r.new ≡ map alone new
+  new_table =
+      table_is new_form new_text new_fields new_records new_known settings.groups r.next_header r.next_header r.columns r.new r.new_says
+      new_fields (diff_key old_fields new_fields) (report_rest old_fields new_fields) new new_names columns_known.key columns_known.rest new_moved new_up
+
+  among : (header fields : List (List ℕ)) → header ≡ fields → names_among r.columns header ≡ names_compared old_fields new_fields fields
+  among header fields is =
+      ap (λ key. filter (has_name (key ++ r.columns.rest)) header) columns_known.key
+      ∙ ap (λ rest. filter (has_name (diff_key old_fields new_fields ++ rest)) header) columns_known.rest
+      ∙ ap (names_compared old_fields new_fields) is
+
+  -- the status where the tables are not the same, and where they are and no column comes or goes
+  pub report_differs : same_tables (map alone old) (map alone old) ≡ true → same_tables (map alone old) (map alone new) ≡ false → answer.status ≡ 1
+  report_differs itself differ =
+      by_test r.status.0
+      (λ t. absurd (true≢false (sym itself ∙ ap (same_tables (map alone old)) (sym old_table ∙ (r.status.1.0 t).0 ∙ new_table) ∙ differ)))
+      (λ f. r.status.2 ∙ ap status_of f)
+
+  pub report_same : map alone old ≡ map alone new
+      → headers_differ (names_compared old_fields new_fields old_fields) (names_compared old_fields new_fields new_fields) ≡ false → answer.status ≡ 0
+  report_same same headers =
+      r.status.2 ∙ ap status_of (r.status.1.1 (
+        old_table ∙ same ∙ sym new_table,
+        ap (λ n. headers_differ n (names_among r.columns r.next_header)) (among r.names old_fields old_names)
+            ∙ ap (λ n. headers_differ (names_compared old_fields new_fields old_fields) n) (among r.next_header new_fields new_names) ∙ headers,
+      ))

@@ -1,0 +1,18 @@
+use Rattle.std.proofs.Common.{[], ◌∷◌, refl}
+use Rattle.std.proofs.lemmas.List.Sorted.{IsPermutation-refl}
+use Rattle.std.proofs.lemmas.Result.{IfOk-weaker}
+use Rattle.std.specs.Prelude.{codes}
+use Rattle.csv.specs.Records.{field_at}
+use Rattle.keyed_columns.specs.ColumnNames.{distinct}
+use Rattle.keyed_columns.specs.Names.{repeats}
+use Rattle.command_callers.proofs.KnownReport.{report_differs}
+use Rattle.command_callers.proofs.KnownTables.{known_text}
+use Rattle.command_callers.proofs.LiteralTexts.{id_a, one_x, one_y, with_x, with_y}
+use Rattle.command_callers.proofs.reported_row.Goals as goal
+
+pub returns : goal.returns
+unfolding distinct field_at repeats
+returns c =
+    IfOk-weaker c.diff.result _ _ (λ answer told. report_differs (told tt refl) (record { key = refl; renames = refl; order = refl }) id_a id_a (one_x ∷ []) (one_y ∷ [])
+    (known_text _ _ _ _ _ c.as_slice.ensures refl with_x refl) (known_text _ _ _ _ _ c.as_slice-2.ensures refl with_y refl) ((codes "1" ∷ [], codes "x" ∷ []) ∷ []) ((codes "1" ∷ [], codes "y" ∷ []) ∷ []) (tt, tt) (tt, tt)
+    (IsPermutation-refl _) (IsPermutation-refl _) refl refl) c.diff.ensures.report

@@ -1,2 +1,0 @@
-pub mod MadeLemmas
-pub mod PartLemmas

@@ -1,0 +1,29 @@
+use Rattle.std.proofs.Common.{◌≡◌, ◌∙◌, ap, ap₂, subst}
+use Rattle.std.proofs.lemmas.Result.{IfOk-weaker}
+use Rattle.keyed_columns.specs.Names.{compared}
+use Rattle.keyed_commands.specs.Reported.{names_among}
+use Rattle.keyed_commands.specs.TablesRead.{IsStatusBetween}
+use Rattle.keyed_commands.proofs.ReadLemmas.{status-between}
+use Rattle.keyed_commands.proofs.commands.diff.diff_files_as_report.Goals as goal
+
+pub returns : goal.returns
+returns g c =
+    let tables = c.in_ok-tables.tables in
+    let job = c.read_both.new.self in
+    let read = c.in_ok-tables.ensures in
+    let before = c.args.versions.now.first.source.value.header.names in
+    let after = c.args.versions.now.next.source.value.header.names in
+    let first = rw c.in_ok-before.ensures at c.names_among-before.ensures in
+    let next = rw c.in_ok-after.ensures at c.names_among-after.ensures in
+    let headers = c.new-columns.ensures ∙ ap₂ (λ p q. compared p q)
+    (first ∙ ap (names_among job.columns.now) (c.header.ensures ∙ ap (λ header. header.names) read.first_header))
+    (next ∙ ap (names_among job.columns.now) (c.header-2.ensures ∙ ap (λ header. header.names) read.next_header)) in
+    IfOk-weaker c.at-3.result _ _
+    (λ answer is whole. record {
+      old = tables.0.pairs.items;
+      new = tables.1.pairs.items;
+      old_read = read.first;
+      new_read = read.next;
+      status = subst (λ j. IsStatusBetween (names_among j.columns.now before) (names_among j.columns.now after) tables.0.pairs.items tables.1.pairs.items answer.status) read.same
+          (status-between c.new-columns.result _ _ _ _ answer.status headers (let told = rw is at c.diff_as_report-answer.ensures in told whole));
+    }) c.at-3.ensures

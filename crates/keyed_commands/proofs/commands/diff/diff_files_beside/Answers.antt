@@ -1,0 +1,45 @@
+use Rattle.std.proofs.Common.{◌≡◌, ◌∙◌, ap, ap₂, subst}
+use Rattle.std.specs.Prelude.{◌||◌, is_none}
+use Rattle.std.proofs.lemmas.Result.{IfOk-weaker}
+use Rattle.keyed_columns.specs.ChangedColumns.{marked_names}
+use Rattle.keyed_columns.specs.Names.{compared, has_lone}
+use Rattle.keyed_tables.specs.Arranged.{noted}
+use Rattle.keyed_commands.specs.Answers.{columns_differ}
+use Rattle.keyed_commands.specs.Beside.{AnswersBeside}
+use Rattle.keyed_commands.specs.TablesRead.{headers_differ}
+use Rattle.keyed_commands.proofs.commands.diff.diff_files_beside.Goals as goal
+
+pub returns : goal.returns
+returns g c =
+    let tables = c.in_ok-tables.tables in
+    let marked = c.in_ok-marked.marked in
+    let job = c.read_both.new.self in
+    let read = c.in_ok-tables.ensures in
+    let before = c.args.versions.now.first.source.value.header.names in
+    let after = c.args.versions.now.next.source.value.header.names in
+    let headers = c.column_changes.ensures ∙ ap₂ (λ before after. compared before after) (ap (λ header. header.names) read.first_header) (ap (λ header. header.names) read.next_header) in
+    let marks = c.in_ok-marked.ensures ∙ ap₂ marked_names (ap (λ header. header.names) read.first_header) (ap (λ header. header.names) read.next_header) in
+    let differ : columns_differ c.column_changes.result ≡ headers_differ before after = ap (λ p. has_lone p.0 p.1 || has_lone p.1 p.0) headers in
+    IfOk-weaker c.at-2.result _ _
+    (λ answer is. record {
+      old = tables.0.pairs.items;
+      new = tables.1.pairs.items;
+      old_read = read.first;
+      new_read = read.next;
+      notes = read.notes;
+      beside = record {
+        compared = c.in_ok-compared.compared.items;
+        are = rw (c.header-before.ensures, c.header-after.ensures) at (rw c.in_ok-compared.ensures at c.compared_columns-compared.ensures);
+        keys = noted job.order;
+        by_cells = is_none job.row_order.files;
+        changes = subst (λ j. AnswersBeside j.form j.columns.now (noted job.order) (is_none job.row_order.files) c.in_ok-compared.compared.items (marked_names before after) (headers_differ before after)
+            tables.0.pairs.items tables.1.pairs.items answer) read.same
+            (subst (λ m. AnswersBeside job.form job.columns.now (noted job.order) (is_none job.row_order.files) c.in_ok-compared.compared.items m (headers_differ before after)
+            tables.0.pairs.items tables.1.pairs.items answer) marks
+            (subst (λ d. AnswersBeside job.form job.columns.now (noted job.order) (is_none job.row_order.files) c.in_ok-compared.compared.items marked d
+            tables.0.pairs.items tables.1.pairs.items answer) differ
+            (subst (λ k. AnswersBeside job.form job.columns.now (noted job.order) (is_none job.row_order.files) k marked (columns_differ c.column_changes.result)
+            tables.0.pairs.items tables.1.pairs.items answer) c.deref.ensures.value (rw is at c.diff_beside-answer.ensures))));
+        order = λ unordered. let after = read.unordered unordered in (after.keys, after.rows);
+      };
+    }) c.at-2.ensures
