@@ -97,12 +97,17 @@ impl TextNotes {
     /// Returns `AllocError` if a request for memory was refused.
     pub fn end(&mut self) -> Result<(), AllocError> {
         if !self.line.is_empty() {
-            self.style.has_end = self.line.last() == Some(&b'\r');
+            self.style.has_end = self.line.last() == Some(&b'\r') || self.is_mark_alone();
             self.take_end(&[])?;
         }
         self.uneven.extend_from_slice(&self.row)?;
         self.row.clear();
         Ok(())
+    }
+
+    // Whether nothing but a byte order mark was read, which is no line.
+    fn is_mark_alone(&self) -> bool {
+        self.known == Known::Nothing && self.row.is_empty() && self.line.as_slice() == MARK
     }
 
     // Takes the bytes up to the end of a line, after those of the line that were taken.
