@@ -16,7 +16,7 @@ module _ {S A : Type 0} (steps : S → Option A → S → Type 0) where
       → GivesList s xs
   gives_list left s xs e gives p t from whole = (gives p t).4 whole ∙ ap left from ∙ e
 
--- no keys are distinct, and they rise
+-- no keys are distinct, and they strictly increase
 pub no_key_twice : {K : Type 0} (eq : K → K → Bool) → IsDistinct eq []
 unfolding IsDistinct
 no_key_twice eq = tt

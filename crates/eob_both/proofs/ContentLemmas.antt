@@ -283,7 +283,7 @@ module _ {K : Type 0} (cmp : K → K → Ordering) (total : IsTotalOrder cmp) wh
   pub AreRisingMembers-nil : (ks : List K) → ks ≡ [] → IsStrictlySortedBy cmp ks → AreRisingMembers cmp [] ks
   AreRisingMembers-nil ks e rising = record { rising = rising; same = λ k. ap (list_any (is_at (cmp k))) e; count = ap length e }
 
-  -- a list of rising members, with one item more
+  -- a list of strictly increasing members, with one item more
   pub AreRisingMembers-push : (xs ks ls : List K) (x : K) → IsStrictlySortedBy cmp ls → ((q : K) → list_any (is_at (cmp q)) ls ≡ cond (is_at (cmp x) q) true (list_any (is_at (cmp q)) ks)) → AreRisingMembers cmp xs ks → AreRisingMembers cmp (xs ++ x ∷ []) ls
   AreRisingMembers-push xs ks ls x rising said h =
       let same = members-push (eq_by_cmp cmp) tied xs ks ls x said h.same in
@@ -293,7 +293,7 @@ module _ {K : Type 0} (cmp : K → K → Ordering) (total : IsTotalOrder cmp) wh
     pub IsRisingMap-nil : (es : List (K × V)) → es ≡ [] → IsStrictlySortedBy cmp (keys_of es) → IsRisingMap cmp [] es
     IsRisingMap-nil es e rising = record { rising = rising; last = λ k. ap (lookup (is_at (cmp k))) e; count = ap length e }
 
-    -- a rising map of last places, with one entry more
+    -- a strictly increasing map of last places, with one entry more
     pub IsRisingMap-push : (kvs es fs : List (K × V)) (e : K × V) → IsStrictlySortedBy cmp (keys_of fs) → ((q : K) → lookup (is_at (cmp q)) fs ≡ cond (is_at (cmp e.0) q) (Some e.1) (lookup (is_at (cmp q)) es)) → IsRisingMap cmp kvs es → IsRisingMap cmp (kvs ++ e ∷ []) fs
     IsRisingMap-push kvs es fs e rising said h =
         let last : (q : K) → lookup (is_at (cmp q)) fs ≡ last_value (eq_by_cmp cmp) (kvs ++ e ∷ []) q = λ q. said q ∙ (rw (h.last q) (sym (last_value-push (eq_by_cmp cmp) tied kvs e q))) in

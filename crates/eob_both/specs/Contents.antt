@@ -82,28 +82,28 @@ module _ {K : Type 0} (eq : K → K → Bool) where
     pub count : length fs ≡ length es
 
 module _ {K : Type 0} (cmp : K → K → Ordering) where
-  -- ks has the items of xs, each once and in rising order, and no other
+  -- ks has the items of xs, each once and in strictly increasing order, and no other
   pub record AreRisingMembers (xs ks : List K) : Type 0 where
     pub rising : IsStrictlySortedBy cmp ks
     pub same : (k : K) → list_any (is_at (cmp k)) ks ≡ is_member (eq_by_cmp cmp) xs k
     pub count : length ks ≡ distinct_count (eq_by_cmp cmp) xs
 
 module _ {K V : Type 0} (cmp : K → K → Ordering) where
-  -- es binds each key of kvs once, to the value of its last place, and no other key, and its keys rise
+  -- es binds each key of kvs once, to the value of its last place, and no other key, and its keys strictly increase
   pub record IsRisingMap (kvs es : List (K × V)) : Type 0 where
     pub rising : IsStrictlySortedBy cmp (keys_of es)
     pub last : (k : K) → lookup (is_at (cmp k)) es ≡ last_value (eq_by_cmp cmp) kvs k
     pub count : length es ≡ distinct_count (eq_by_cmp cmp) (keys_of kvs)
 
--- equal contents, in rising order
+-- equal contents, in strictly increasing order
 module _ {K : Type 0} (cmp : K → K → Ordering) where
-  -- ls has the items of ks, each once and in rising order, and no other
+  -- ls has the items of ks, each once and in strictly increasing order, and no other
   pub record AreSameRisingMembers (ks ls : List K) : Type 0 where
     pub rising : IsStrictlySortedBy cmp ls
     pub same : (k : K) → list_any (is_at (cmp k)) ls ≡ list_any (is_at (cmp k)) ks
     pub count : length ls ≡ length ks
 
-  -- fs binds the keys of es to the same values, each key once, and no other key, and its keys rise
+  -- fs binds the keys of es to the same values, each key once, and no other key, and its keys strictly increase
   pub record IsSameRisingMap {V : Type 0} (es fs : List (K × V)) : Type 0 where
     pub rising : IsStrictlySortedBy cmp (keys_of fs)
     pub same : (k : K) → lookup (is_at (cmp k)) fs ≡ lookup (is_at (cmp k)) es

@@ -137,7 +137,7 @@ pub fn overlay_index_maps<
     Ok(rows)
 }
 
-/// Where the keys of two maps are dealt out to numbered parts by any function that gives equal keys one number, the join of two parts
+/// Where the keys of two maps are partitioned into numbered parts by any function that gives equal keys one number, the join of two parts
 /// of a number has under each key of that number what the join of the whole maps has, and no other key. So maps may be joined part by
 /// part, such as on many machines, each with the keys of one hash. Call it before the parts are joined.
 ///

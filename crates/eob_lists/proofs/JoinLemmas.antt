@@ -89,7 +89,7 @@ module _ {K : Type 0} (cmp : K → K → Ordering) where
     greater : (x y : K) → cmp x y ≡ Less → cmp y x ≡ Greater
     greater x y h = o.antisymm y x ∙ ap ordering_reverse h
 
-    -- under its own key each pair of a rising list has its own value
+    -- under its own key each pair of a strictly increasing list has its own value
     own_after : {V : Type 0} (j : K) (v : V) (xs : List (K × V)) → Up cmp (λ k. cmp j k ≡ Less) xs → (whole : List (K × V))
         → All (λ x. value_under cmp whole x.0 ≡ Some x.1) xs → All (λ x. value_under cmp ((j, v) ∷ whole) x.0 ≡ Some x.1) xs
     own_after j v [] h whole own = All-nil (λ x. value_under cmp ((j, v) ∷ whole) x.0 ≡ Some x.1)
@@ -117,7 +117,7 @@ module _ {K : Type 0} (cmp : K → K → Ordering) where
           | inr f ↦ rw (← alike, f) at e
         ]
 
-    -- rising lists with the same values under each key have equal keys and the same values, place by place
+    -- strictly increasing lists with the same values under each key have equal keys and the same values, place by place
     pub same_values : {V : Type 0} (P Q : K → Type 0) (xs ys : List (K × V)) → Up cmp P xs → Up cmp Q ys
         → ((k : K) → value_under cmp xs k ≡ value_under cmp ys k) → AllZip (λ x y. (cmp x.0 y.0 ≡ Equal) × (x.1 ≡ y.1)) xs ys
     same_values P Q [] [] g h e = tt

@@ -55,7 +55,7 @@ module _ {S A X : Type 0} (view : A → X) (rest : S → List X) where
   side_taken s t None e = e.0
   side_taken s t (Some x) e = e
 
--- a beginning of a rising list rises
+-- a beginning of a strictly increasing list is one too
 up_before : {K V : Type 0} (cmp : K → K → Ordering) (P : K → Type 0) (xs ys : List (K × V)) → Up cmp P (xs ++ ys) → Up cmp P xs
 up_before cmp P [] ys h = tt
 up_before cmp P (x ∷ xs) ys h = (h.0, up_before cmp _ xs ys h.1)

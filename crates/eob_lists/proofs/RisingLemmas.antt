@@ -1,4 +1,4 @@
--- When a list of keyed pairs rises, and joins of lists of references.
+-- When a list of keyed pairs strictly increases, and joins of lists of references.
 use Rattle.std.proofs.Common.{◌≡◌, ◌∙◌, ◌⊎◌, List, [], ◌∷◌, Bool, true, false, cond, map, Contains, Option, Some, None, option_map, inl, inr, refl, sym, ap, ap₂, subst}
 use Rattle.std.specs.Prelude.{⊤}
 use Rattle.std.specs.Borrow.{Bor}

@@ -1,4 +1,4 @@
--- Lists of keyed pairs whose keys rise, and their full outer join by key.
+-- Lists of keyed pairs whose keys strictly increase, and their full outer join by key.
 use Rattle.std.specs.Prelude.{◌≡◌, ◌⊎◌, ◌↔◌, IsSome, List, [], ◌∷◌, length, Option, Some, None, All, Contains}
 use Rattle.std.specs.List.{AllAdjacentBelow}
 use Rattle.std.specs.Map.{keys_of, lookup}
@@ -22,7 +22,7 @@ module _ {K : Type 0} (cmp : K → K → Ordering) where
   abbrev pub SameKeys : {A B : Type 0} → List (K × A) → List (K × B) → Type 0
   SameKeys p q = (k : K) → IsSome (value_under p k) ↔ IsSome (value_under q k)
 
-  -- the keys of zs rise; what zs has under a key has as its left place what p has under it, and as its right place what q has;
+  -- the keys of zs strictly increase; what zs has under a key has as its left place what p has under it, and as its right place what q has;
   -- and each key of zs is one of p or of q
   pub record IsJoin {A B : Type 0} (p : List (K × A)) (q : List (K × B))
       (zs : List (K × EitherOrBoth A B)) : Type 0 where

@@ -1,4 +1,4 @@
--- What follows for every full outer join of two lists whose keys rise.
+-- What follows for every full outer join of two lists whose keys strictly increase.
 use Rattle.std.specs.Prelude.{◌≡◌, ◌↔◌, ℕ, Bool, ◌+◌, true, IsSome, MatchOption, Option, Some, None, List, length, map, All}
 use Rattle.std.specs.Prelude.{count_by, is_none, is_some}
 use Rattle.std.specs.Borrow.{Bor}
@@ -96,26 +96,26 @@ module _ {K : Type 0} (cmp : K → K → Ordering) where
         → IsJoin cmp (map deref_pair p) (map deref_pair q) (map deref_joined zs)
 
   module _ (V : Type 0) where
-    -- a list rises exactly where each key is less than the next
+    -- a list strictly increases exactly where each key is less than the next
     abbrev pub RisingLaw : Type 0
     RisingLaw = (xs : List (K × V))
         → Rising cmp xs ↔ AllAdjacentBelow (λ x y. cmp x.0 y.0 ≡ Less) xs (length xs)
 
-    -- the entries of an ordered map rise
+    -- the entries of an ordered map strictly increase
     abbrev pub SortedRisesLaw : Type 0
     SortedRisesLaw = (xs : List (K × V)) → IsStrictlySortedBy cmp (keys_of xs) → Rising cmp xs
 
-    -- a list of references rises where what it shows does
+    -- a list of references strictly increases where what it shows does
     abbrev pub ShownRisesLaw : Type 0
     ShownRisesLaw = (xs : List (Bor K × Bor V)) → Rising cmp (map deref_pair xs)
         → Rising (λ j k. cmp j.now k.now) xs
 
-    -- the keys of a rising list are sorted, and so distinct, in the standard library's words
+    -- the keys of a strictly increasing list are sorted, and so distinct, in the standard library's words
     abbrev pub RisingKeysLaw : Type 0
     RisingKeysLaw = (xs : List (K × V)) → Rising cmp xs
         → IsStrictlySortedBy cmp (keys_of xs) × IsDistinct (eq_by_cmp cmp) (keys_of xs)
 
-    -- a map into which the pairs of a rising list are put in turn has under each key what the list has
+    -- a map into which the pairs of a strictly increasing list are put in turn has under each key what the list has
     abbrev pub RisingMapLaw : Type 0
     RisingMapLaw = (xs : List (K × V)) → Rising cmp xs → (k : K)
         → update_all (eq_by_cmp cmp) (λ _. None) xs k ≡ value_under cmp xs k

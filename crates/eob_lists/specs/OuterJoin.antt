@@ -64,7 +64,7 @@ module _ {I J K A B : Type 0} where
         → JoinedPairs I J (K × A) (K × B) → Type 0
     join_steps s r t = StepsFrom s.left s.right s r t
 
--- p gave the items of a and of b: their join, where the keys of both rise; and where it ended both had ended
+-- p gave the items of a and of b: their join, where the keys of both strictly increase; and where it ended both had ended
 abbrev pub IsJoinRun : {W S T K A B : Type 0} {steps : W → Option (K × EitherOrBoth A B) → W → Type 0}
     {firsts : S → Option (K × A) → S → Type 0} {seconds : T → Option (K × B) → T → Type 0}
     → (K → K → Ordering) → Run steps → Run firsts → Run seconds → Type 0
@@ -139,8 +139,8 @@ BeginsJoinLaw {K} cmp A B = (xs : List (K × A)) (ys : List (K × B)) (zs : List
     → BeginsJoin cmp xs ys zs ↔ ((rest : List (K × EitherOrBoth A B)) × IsJoin cmp xs ys (zs ++ rest))
 
 -- what a run p of a walk over references gave of the join of xs and ys: no more rows than both lists have; each shows what the two
--- lists have under its key; their keys rise, and they are a beginning of the join; where p ended they are all of it, a row for each
--- key of either list
+-- lists have under its key; their keys strictly increase, and they are a beginning of the join; where p ended they are all of it, a row
+-- for each key of either list
 pub record ShowsJoin {W K A B : Type 0} {steps : W → Option (Bor K × EitherOrBoth (Bor A) (Bor B)) → W → Type 0}
     (cmp : K → K → Ordering) (xs : List (K × A)) (ys : List (K × B)) (p : Run steps) : Type 0 where
   pub bound : p.len ≤ length xs + length ys

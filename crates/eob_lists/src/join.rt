@@ -1,4 +1,4 @@
-//! The full outer join by key of two lists of keyed pairs whose keys rise: at once here, item by item in [`OuterJoin`].
+//! The full outer join by key of two lists of keyed pairs whose keys strictly increase: at once here, item by item in [`OuterJoin`].
 //!
 //! Each key of either list stands once in the join, in order, with the values that the two lists have under it. What follows of
 //! every join stands in the functions `law_join_*`, which do nothing.

@@ -57,7 +57,7 @@ pub names-none : (names : List (List ℕ)) (i : ℕ) (found : List (List ℕ)) �
     → (found ≡ take i names) × (repeats (take i names) (drop i names) ≡ false)
 names-none names i found none is once = rw none (is, once)
 
--- a name is put behind those before it
+-- a name is put after those before it
 pub one-more : (names : List (List ℕ)) (i j : ℕ) (old new : List (List ℕ)) (name : List ℕ) → i < length names → j ≡ i + 1 → name ≡ get_or names i []
     → (list_any (pointwise nat_eq name) old ≡ false → new ≡ old ++ (name ∷ [])) → old ≡ take i names → repeats (take i names) (drop i names) ≡ false
     → (new ≡ take j names) × (repeats (take j names) (drop j names) ≡ false)
@@ -108,7 +108,7 @@ with-going fate.Goes name gone = refl
 with-going fate.Comes name gone = sym (append-nil gone)
 with-going fate.Stays name gone = sym (append-nil gone)
 
--- what is kept of one more cell stands behind what is kept of those before it
+-- what is kept of one more cell stands after what is kept of those before it
 one-kept : (step : List ℕ → List (List ℕ)) (before place next : ℕ) (fields old new : List (List ℕ)) (cell : List ℕ) → before ≤ place → place < length fields
     → next ≡ (place - before) + 1 → cell ≡ unwrap_or (field_at fields place) [] → new ≡ old ++ step cell
     → old ≡ flat_map step (take (place - before) (drop before fields)) → new ≡ flat_map step (take next (drop before fields))

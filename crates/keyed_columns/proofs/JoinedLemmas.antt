@@ -41,7 +41,7 @@ not-true : (b : Bool) → not b ≡ true → b ≡ false
 not-true true e = absurd (cc e)
 not-true false e = refl
 
--- a name that is new is put behind names of which no two are the same
+-- a name that is new is put after names of which no two are the same
 pub once-more : (there : List (List ℕ)) (name : List ℕ) → repeats [] there ≡ false → not (has_name there name) ≡ true → repeats [] (there ++ name ∷ []) ≡ false
 once-more there name once new = repeats-last [] there name ∙ ap₂ (λ a b. a || b) once (not-true (has_name there name) new)
 

@@ -93,7 +93,7 @@ module _ (old new : TwoNames) (byte : ℕ) where
         begun = ap begins_well other ∙ ap not e;
       }
 
--- a byte is put behind the name that is read
+-- a byte is put after the name that is read
 pub put-first : (old new : TwoNames) (byte : ℕ) → old.other ≡ None → new.other ≡ None → new.first.items ≡ old.first.items ++ (byte ∷ [])
     → read_of new ≡ read_of old ++ doubled (byte ∷ [])
 put-first old new byte was none is =

@@ -169,7 +169,7 @@ inserted_new (name ∷ names) before h =
 pub distinct-once : (names : List (List ℕ)) → repeats [] names ≡ false → distinct names ≡ names
 distinct-once names h = sym (distinct-inserted names) ∙ inserted_new names [] h
 
--- the place of a name behind others
+-- the place of a name after others
 module _ (name : List ℕ) (rest : List (List ℕ)) where
   behind_if : (x : List ℕ) (before : List (List ℕ)) → pointwise nat_eq name x ≡ false
       → position_or_len (pointwise nat_eq name) (before ++ (name ∷ rest)) ≡ length before

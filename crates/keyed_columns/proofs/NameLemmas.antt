@@ -29,7 +29,7 @@ module _ {X Y : Type 0} (f : X → Y) where
   pub insert-map : (eq : Y → Y → Bool) (xs : List X) (x : X) → map f (insert_key (λ x y. eq (f x) (f y)) xs x) ≡ insert_key eq (map f xs) (f x)
   insert-map eq xs x = insert_if (list_any (λ y. eq (f x) (f y)) xs) xs x ∙ rw (list_any-map (eq (f x)) xs) refl
 
--- a name that is none of those there is put behind them
+-- a name that is none of those there is put after them
 not-true : (b : Bool) → not b ≡ true → b ≡ false
 not-true true e = absurd (true≢false (sym e))
 not-true false e = refl

@@ -22,7 +22,7 @@ number-is-new : (m a n : ℕ) → a + n ≤ m → m < 2 ^ 64 → list_any (point
 number-is-new m a zero le small = refl
 number-is-new m a (suc n) le small = rw (apart m a (omega (arith, le)) small) (number-is-new m (a + 1) n (omega (arith, le)) small)
 
--- one more number is put behind those before it
+-- one more number is put after those before it
 pub one-more-number : (n : ℕ) (old new : List (List ℕ)) (name : List ℕ) → n + 1 < 2 ^ 64 → name ≡ decimal (n + 1) → old ≡ numbered_names n
     → new ≡ insert_key (pointwise nat_eq) old name → new ≡ numbered_names (n + 1)
 one-more-number n old new name small is before puts =

@@ -6,7 +6,7 @@ use Rattle.std.proofs.lemmas.List.{drop-drop, drop_min}
 use Rattle.keyed_columns.specs.Placed.{cell_placed, placed, rest_behind}
 use Rattle.keyed_columns.specs.declared.columns.Place.{Place}
 
--- what is left behind the n-th of the items that come
+-- what is left after the n-th of the items that come
 pub nth-left : {A : Type 0} (xs : List (Bor A)) (s t u : List A) (r : Option (Bor A)) (n : ℕ) → Yields (YieldsFirstRef (λ left. left)) s xs t
     → YieldsFirstRef (λ left. left) t r u → MatchOption r (length xs ≤ n) (λ _. length xs ≡ n) → u ≡ drop (suc n) s
 nth-left [] s t u None n y p h = p.1 ∙ sym (ap (drop (suc n)) (y ∙ p.0))
@@ -23,7 +23,7 @@ slice_get-drop (suc p) k n [] e = refl
 slice_get-drop (suc p) k zero (x ∷ xs) e = absurd (omega arith)
 slice_get-drop (suc p) k (suc n) (x ∷ xs) e = let s : n ≡ p + k = omega arith in slice_get-drop p k n xs s
 
--- what is left behind a place, also behind one that no list has
+-- what is left after a place, also after one that no list has
 pub left-behind : {A : Type 0} (cells next new : List A) (p k n : ℕ) → next ≡ drop p cells → new ≡ drop (suc k) next → n ≡ p + k → length cells < 2 ^ 64
     → new ≡ drop (min (n + 1) (2 ^ 64 - 1)) cells
 left-behind cells next new p k n at is e bound =

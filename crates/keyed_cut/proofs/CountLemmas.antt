@@ -10,11 +10,11 @@ use Rattle.keyed_files.specs.Reading.{GivesRecord, HasGiven, key_in, last_record
 use Rattle.keyed_files.specs.declared.source.Source.{Source}
 use Rattle.keyed_parts.specs.Parts.{part_in}
 use Rattle.keyed_cut.specs.Counted.{AreCounted, CountsEach, CountsOn, CountsRest, CountsRowAt}
-use Rattle.keyed_cut.specs.Dealt.{key_cmp}
+use Rattle.keyed_cut.specs.Partitioned.{key_cmp}
 use Rattle.keyed_cut.specs.declared.sinks.Count.{Count}
 use Rattle.keyed_cut.specs.declared.sinks.Counts.{Counts}
 use Rattle.keyed_cut.specs.declared.tables.Table.{Table}
-use Rattle.keyed_cut.proofs.DealLemmas.{set-here, set-there}
+use Rattle.keyed_cut.proofs.PartitionLemmas.{set-here, set-there}
 
 -- how many pass, where one more comes that does or does not
 module _ {X : Type 0} (p : X → Bool) (xs : List X) (x : X) where

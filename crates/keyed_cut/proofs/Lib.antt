@@ -1,3 +1,3 @@
 pub mod CountLemmas
-pub mod DealLemmas
+pub mod PartitionLemmas
 pub mod SinkLemmas

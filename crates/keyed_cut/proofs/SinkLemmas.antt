@@ -2,7 +2,7 @@
 use Rattle.std.proofs.Common.{◌≡◌, ◌∙◌, ℕ, zero, suc, ◌+◌, List, [], ◌∷◌, ◌++◌, add-one, length, refl, sym, ap}
 use Rattle.std.specs.Prelude.{unwrap_or}
 use Rattle.csv.specs.Records.{field_at}
-use Rattle.keyed_cut.specs.Dealt.{fitted}
+use Rattle.keyed_cut.specs.Partitioned.{fitted}
 
 -- a row that has as many cells is put as it is
 fitted-all : (cells : List (List ℕ)) → fitted (length cells) cells ≡ cells

@@ -5,7 +5,7 @@ use Rattle.keyed_files.specs.Reading.{HasGiven, key_in}
 use Rattle.keyed_files.specs.declared.source.Source.{Source}
 use Rattle.keyed_parts.specs.Parts.{part_in}
 use Rattle.keyed_text.specs.Texts.{AreRows}
-use Rattle.keyed_cut.specs.Dealt.{key_cmp}
+use Rattle.keyed_cut.specs.Partitioned.{key_cmp}
 use Rattle.keyed_cut.specs.declared.sinks.Count.{Count}
 use Rattle.keyed_cut.specs.declared.sinks.Counts.{Counts}
 use Rattle.keyed_cut.specs.declared.tables.Table.{Table}

@@ -1,7 +1,7 @@
 //! Tables read twice and written into the files of their parts.
 ghost use Rattle.std.specs.Prelude.{◌<◌, [], IfOk, OnOk, length};
 ghost use Rattle.keyed_cut.specs.Counted.{AreCounted, CountsEach, CountsRest};
-ghost use Rattle.keyed_cut.specs.Dealt.{DealsRest, key_cmp};
+ghost use Rattle.keyed_cut.specs.Partitioned.{PartitionsRest, key_cmp};
 
 use crate::fault::{CutFault, CutReason};
 use crate::listing::listing_text;
@@ -85,7 +85,8 @@ fn write_parts<'a, R: Files + AllocGlobal>(
     })
 }
 
-// Deals the rows of all tables into the files of their parts, all by the same boundaries. Each table has as many as at its first reading.
+// Partitions the rows of all tables into the files of their parts, all by the same boundaries. Each table has as many as at its first
+// reading.
 fn cut_tables<'a, R: Files + AllocGlobal>(
     rt: &R,
     cut: Cut<'a>,
@@ -125,7 +126,7 @@ fn rows_of(counts: &Counts) -> u64 {
     rows
 }
 
-// Deals the rows of a table into the files of its parts.
+// Partitions the rows of a table into the files of its parts.
 fn cut_table<'a, R: Files + AllocGlobal>(
     rt: &R,
     target: Target<'a>,
@@ -137,12 +138,12 @@ fn cut_table<'a, R: Files + AllocGlobal>(
     let alloc = rt.alloc();
     let header = table.part_header(alloc)?;
     let mut sinks = make_sinks(rt, target, bounds, header, table.count_cells())?;
-    deal_rows(alloc, target, bounds, table, &mut sinks)?;
+    partition_rows(alloc, target, bounds, table, &mut sinks)?;
     Ok(sinks.end(alloc, target)?)
 }
 
 // Puts the rows that a table has left after those of the parts of their keys. No input has more of them than a number counts.
-fn deal_rows<'a, F: Read + Drop, W: Write + Drop>(
+fn partition_rows<'a, F: Read + Drop, W: Write + Drop>(
     alloc: Global,
     target: Target<'a>,
     bounds: &Boundaries<Key>,
@@ -151,7 +152,7 @@ fn deal_rows<'a, F: Read + Drop, W: Write + Drop>(
 ) -> Result<(), CutFault<'a>>
     requires many { length bounds.now.keys.items < length sinks.old.writers.items }
     requires counts { AreCounted key_cmp bounds.now.keys.items [] sinks.old.counts }
-    ensures dealt { OnOk result (DealsRest F.remaining W.contents bounds.now.keys.items table.old.places
+    ensures partitioned { OnOk result (PartitionsRest F.remaining W.contents bounds.now.keys.items table.old.places
         sinks.old.columns table.old.opened.source.value sinks.old.writers.items sinks.new.writers.items) }
     ensures counted { OnOk result (CountsRest F.remaining bounds.now.keys.items table.old sinks.new.counts) }
 {

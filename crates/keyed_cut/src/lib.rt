@@ -2,8 +2,8 @@
 //! or side by side, and what they print, one after the other, is what they print of the whole (`law_cut_joins` of `eob_joins`).
 //!
 //! `write_cut` reads each table twice, in memory that does not grow: once for a sample of keys, from which boundaries are taken, and once
-//! to deal the rows. That each row goes into the part of its key, after the rows there, and into no other part, is proved of `deal_rows`;
-//! that the rows of all tables are counted by the same boundaries, of `cut_tables`.
+//! to partition the rows. That each row goes into the part of its key, after the rows there, and into no other part, is proved of
+//! `partition_rows`; that the rows of all tables are counted by the same boundaries, of `cut_tables`.
 #![tactic(auto)]
 
 mod cutting;

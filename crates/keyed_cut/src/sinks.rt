@@ -1,4 +1,4 @@
-//! The files of the parts of a table, while its rows are dealt into them.
+//! The files of the parts of a table, while its rows are partitioned into them.
 ghost use Rattle.std.specs.Prelude.{◌≡◌, ◌↔◌, ◌<◌, ◌+◌, ◌-◌, ◌^◌, ◌∷◌, ◌++◌, [], IfOk, IsTrue, OnOk};
 ghost use Rattle.std.specs.Prelude.{length, min};
 ghost use Rattle.std.specs.Prelude.{unwrap_or};
@@ -6,7 +6,7 @@ ghost use Rattle.csv.specs.Records.{field_at, fields_of};
 ghost use Rattle.keyed_text.specs.Streams.{PutsCells, PutsRows};
 ghost use Rattle.keyed_parts.specs.Parts.{part_in};
 ghost use Rattle.keyed_cut.specs.Counted.{AreCounted, CountsRowAt};
-ghost use Rattle.keyed_cut.specs.Dealt.{PutsRowAt, fitted, key_cmp};
+ghost use Rattle.keyed_cut.specs.Partitioned.{PutsRowAt, fitted, key_cmp};
 
 use crate::fault::{CutFault, not_made};
 use crate::names::part_name;

@@ -6,7 +6,7 @@ use Rattle.keyed_lines.specs.declared.compared.Becomes.{Becomes}
 use Rattle.keyed_lines.specs.declared.compared.Becomes.TheVariants.{Kept, Removed, Added}
 use Rattle.keyed_lines.specs.declared.compared.Line.{Line}
 
--- lines, one behind the other
+-- lines, one after the other
 abbrev pub joined : List (Bor (List ℕ)) → List ℕ
 joined lines = flat_map (λ line. line.now) lines
 

@@ -103,7 +103,7 @@ positional-zeros before digits (suc k) le =
     let d : digit_at before digits k ≡ 0 = digit_at-zero before digits k (omega (arith, le)) in
     omega (arith, h, d)
 
--- the digits behind them are those of the list
+-- the digits after them are those of the list
 pub positional-within : (before : ℕ) (digits : List ℕ) (j : ℕ) → j ≤ length digits
     → positional (digit_at before digits) (j + before) ≡ digits_value (take j digits)
 positional-within before digits zero le =
@@ -121,7 +121,7 @@ positional-within before digits (suc j) le =
     = omega (arith, h, d, m) in
     rw (e, f) r
 
--- each place behind them is a zero
+-- each place after them is a zero
 pub positional-behind : (before : ℕ) (digits : List ℕ) (e : ℕ)
     → positional (digit_at before digits) (e + (length digits + before)) ≡ digits_value digits * 10 ^ e
 positional-behind before digits zero =

@@ -23,7 +23,7 @@ module _ {K : Type 0} (cmp : K → K → Ordering) where
   PartsBelowLaw V W = (bounds : List K) (rows : List (K × V)) (others : List (K × W)) (i j : ℕ) → i < j
       → All (λ k. All (λ l. cmp k l ≡ Less) (keys_of (rows_in bounds j others))) (keys_of (rows_in bounds i rows))
 
-  -- what is dealt in turn is dealt
-  abbrev pub DealtInTurnLaw : Type 0 → Type 0
-  DealtInTurnLaw V = (bounds : List K) (i : ℕ) (rows more : List (K × V))
+  -- what is partitioned in turn is partitioned
+  abbrev pub PartitionedInTurnLaw : Type 0 → Type 0
+  PartitionedInTurnLaw V = (bounds : List K) (i : ℕ) (rows more : List (K × V))
       → rows_in bounds i (rows ++ more) ≡ rows_in bounds i rows ++ rows_in bounds i more

@@ -1,5 +1,5 @@
 //! What holds of the parts that boundaries make, as contracts of functions that do nothing: a caller calls one to learn it.
-ghost use Rattle.keyed_parts.specs.Parts.{DealtInTurnLaw, PartOrderLaw, PartsBelowLaw};
+ghost use Rattle.keyed_parts.specs.Parts.{PartitionedInTurnLaw, PartOrderLaw, PartsBelowLaw};
 
 /// A key of a lesser part is less, whatever the boundaries are.
 ///
@@ -25,11 +25,11 @@ pub fn law_parts_below<K: Ord, V, W>()
     ensures { PartsBelowLaw K.cmp V W }
 {}
 
-/// Rows that are dealt in turn, some first and then others, are dealt: the rows of a part are those of the first and behind them those of
-/// the others. So a table can be dealt while it is read.
+/// Rows that are partitioned in turn, some first and then others, are partitioned: the rows of a part are those of the first and after
+/// them those of the others. So a table can be partitioned while it is read.
 ///
 /// ```
-/// law_dealt_in_turn::<u32, char>();
+/// law_partitioned_in_turn::<u32, char>();
 /// let bounds = Boundaries::new(vec![in alloc; 10]?);
 /// let mut high = Vec::new(alloc);
 /// for row in [(12, 'a'), (3, 'b'), (10, 'c')] {
@@ -39,6 +39,6 @@ pub fn law_parts_below<K: Ord, V, W>()
 /// }
 /// assert_eq!(rt; high, vec![in alloc; (12, 'a'), (10, 'c')]?);
 /// ```
-pub fn law_dealt_in_turn<K: Ord, V>()
-    ensures { DealtInTurnLaw K.cmp V }
+pub fn law_partitioned_in_turn<K: Ord, V>()
+    ensures { PartitionedInTurnLaw K.cmp V }
 {}

@@ -2,7 +2,8 @@
 //! part by part, by `law_cut_joins` of `eob_joins`.
 //!
 //! `Boundaries` are keys in order; there is one part more than there are boundaries. The part of a key is how many boundaries are not above
-//! it. `Sample` chooses keys from which boundaries are taken. How tables are read, dealt and written stands above this crate, in `keyed_cut`.
+//! it. `Sample` chooses keys from which boundaries are taken. How tables are read, partitioned and written stands above this
+//! crate, in `keyed_cut`.
 #![tactic(auto)]
 
 mod boundaries;
@@ -10,5 +11,5 @@ mod laws;
 mod sample;
 
 pub use boundaries::Boundaries;
-pub use laws::{law_dealt_in_turn, law_part_order, law_parts_below};
+pub use laws::{law_part_order, law_partitioned_in_turn, law_parts_below};
 pub use sample::Sample;

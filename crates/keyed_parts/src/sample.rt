@@ -12,7 +12,7 @@ use std::num::{nearest_u64_to_f64, saturating_f64_to_u64};
 // What the generator begins with: two samples of the same keys are the same.
 const SEED: u64 = 1;
 
-// The logarithm of a key's lot, by which it is kept, and where the key stands. The least lot is on top.
+// The logarithm of a key's priority, by which it is kept, and where the key stands. The least priority is on top.
 type Ticket = (Reverse<OrderedFloat<f64>>, usize);
 
 // A key that is kept, with its weight and how many bytes it takes.
@@ -26,9 +26,10 @@ struct Kept<K> {
 /// A sample of keys that are shown one by one, each kept with a chance that grows with its weight. Where boundaries are taken from it, the
 /// parts have about the same weight; how exactly is a matter of luck, and nothing rests on it.
 ///
-/// A key of weight w draws the lot u^(1/w), and the greatest lots are kept; keys are passed over by jumps of weight, so that few numbers
-/// are drawn (A-ExpJ of Efraimidis and Spirakis). Logarithms of lots are compared, so that none becomes zero. A key that is kept stands for
-/// its weight by the chance that it had: for its own weight where all are kept, and for about as much as any other where few are.
+/// A key of weight w draws the priority u^(1/w), and the greatest priorities are kept; keys are passed over by jumps of weight, so that few
+/// numbers are drawn (A-ExpJ of Efraimidis and Spirakis). Logarithms of priorities are compared, so that none becomes zero. A key that is
+/// kept stands for its weight by the chance that it had: for its own weight where all are kept, and for about as much as any other where
+/// few are.
 ///
 /// ```
 /// let mut sample = Sample::new(alloc, 2, 100);
@@ -89,10 +90,10 @@ impl<K: Drop> Sample<K> {
     pub fn take(&mut self, key: K, weight: u64, bytes: u64) -> Result<(), AllocError> {
         let weight = nearest_u64_to_f64(weight.max(1));
         if self.tickets.len() < self.room {
-            let lot = self.unit().ln() / weight;
+            let priority = self.unit().ln() / weight;
             let place = self.keys.len();
             self.keys.push(None)?;
-            self.put(lot, place, Kept { key, weight, bytes })?;
+            self.put(priority, place, Kept { key, weight, bytes })?;
             self.jump();
             return Ok(());
         }
@@ -102,10 +103,10 @@ impl<K: Drop> Sample<K> {
             return Ok(());
         }
         if let Some((least, place)) = self.give_up() {
-            // A lot that is at least the one that goes.
+            // A priority that is at least the one that goes.
             let low = (least * weight).exp();
-            let lot = (low + (1.0 - low) * self.unit()).ln() / weight;
-            self.put(lot, place, Kept { key, weight, bytes })?;
+            let priority = (low + (1.0 - low) * self.unit()).ln() / weight;
+            self.put(priority, place, Kept { key, weight, bytes })?;
             self.jump();
         }
         Ok(())
@@ -117,13 +118,13 @@ impl<K: Drop> Sample<K> {
         1.0 - below
     }
 
-    // Keeps a key. The greatest lots of a sample are a sample too, so that the least may go where keys are long.
-    fn put(&mut self, lot: f64, place: usize, kept: Kept<K>) -> Result<(), AllocError> {
+    // Keeps a key. The greatest priorities of a sample are a sample too, so that the least may go where keys are long.
+    fn put(&mut self, priority: f64, place: usize, kept: Kept<K>) -> Result<(), AllocError> {
         self.bytes = self.bytes.saturating_add(kept.bytes);
         if let Some(slot) = self.keys.get_mut(place) {
             *slot = Some(kept);
         }
-        self.tickets.push((Reverse(OrderedFloat(lot)), place))?;
+        self.tickets.push((Reverse(OrderedFloat(priority)), place))?;
         for _ in 0..self.tickets.len() {
             if self.bytes <= self.most || self.tickets.len() <= 1 {
                 break;
@@ -135,15 +136,15 @@ impl<K: Drop> Sample<K> {
         Ok(())
     }
 
-    // Gives up the key with the least lot, and returns this and where the key stood.
+    // Gives up the key with the least priority, and returns this and where the key stood.
     fn give_up(&mut self) -> Option<(f64, usize)> {
-        let (Reverse(OrderedFloat(lot)), place) = self.tickets.pop()?;
+        let (Reverse(OrderedFloat(priority)), place) = self.tickets.pop()?;
         if let Some(slot) = self.keys.get_mut(place) {
             if let Some(kept) = slot.take() {
                 self.bytes = self.bytes.saturating_sub(kept.bytes);
             }
         }
-        Some((lot, place))
+        Some((priority, place))
     }
 
     // Draws how much weight is passed over next.
@@ -153,7 +154,7 @@ impl<K: Drop> Sample<K> {
         }
     }
 
-    // The logarithm of the least lot that is kept.
+    // The logarithm of the least priority that is kept.
     fn least(&self) -> Option<f64> {
         match self.tickets.peek() {
             Some((Reverse(OrderedFloat(least)), _)) => Some(*least),
@@ -162,8 +163,9 @@ impl<K: Drop> Sample<K> {
     }
 }
 
-// The weight of all keys for which one of this weight stands, where those with a lot below the least one are given up: its own by the
-// chance 1 - least^weight that its lot is greater. Where the two are so small that the chance is zero, that is as much as there may be.
+// The weight of all keys for which one of this weight stands, where those with a priority below the least one are given up: its own by
+// the chance 1 - least^weight that its priority is greater. Where the two are so small that the chance is zero, that is as much as there
+// may be.
 fn share_of(weight: f64, least: Option<f64>) -> u64 {
     let share = match least {
         Some(least) => weight / (0.0 - (weight * least).exp_m1()),
@@ -210,7 +212,7 @@ impl<K: Ord + Clone + Drop> Sample<K> {
 }
 
 // The keys at which parts of about the same weight begin, of keys in order, each with its share of the whole. A key of which the greater
-// half lies below where a part should begin stands before it; a part that would begin behind the last key begins at it.
+// half lies below where a part should begin stands before it; a part that would begin after the last key begins at it.
 fn cut_evenly<K: Clone + Drop>(
     alloc: Global,
     shares: &[(K, u64)],

@@ -11,7 +11,7 @@ use native.Mathlib.Numerals.{unary_clauses}
 use Rattle.std.proofs.Math.Seq.{take-append_seam, drop-append_seam}
 use Rattle.keyed_rows.specs.Layout.{length_code, cell_code, code, head_len, first_len, first_cell, rest_of, cells_by, cells_of, IsBlock}
 
--- what a block says that begins with the length n, and has t behind it
+-- what a block says that begins with the length n, and has t after it
 record Begins (n : ℕ) (block t : List ℕ) : Type 0 where
   len : first_len block ≡ n
   rest : drop (head_len block) block ≡ t
@@ -171,7 +171,7 @@ cells_few block = few_by (length block) block
 pub cells_fit : (block : List ℕ) → IsBlock block → length (cells_of block) < 2 ^ 64
 cells_fit block k = omega (arith, cells_few block, k.fits)
 
--- ---- what is put behind a block
+-- ---- what is put after a block
 
 pub length_code_short : (n : ℕ) → n < 255 → length_code n ≡ n ∷ []
 unfolding length_code
@@ -248,7 +248,7 @@ same_blocks a b k l =
     let bytes = bytes_decides a b in
     same_from_decides _ _ bytes ((λ t. same_cells a b k l (cells.0 t)), (λ e. cells.1 (ap cells_of e)))
 
--- ---- bytes that are put behind a block in two parts, and cells one by one
+-- ---- bytes that are put after a block in two parts, and cells one by one
 
 pub put_twice : (old first second : List ℕ) {middle new whole : List ℕ} → middle ≡ old ++ first → new ≡ middle ++ second → whole ≡ first ++ second → new ≡ old ++ whole
 put_twice old first second e f g = f ∙ ap (λ t. t ++ second) e ∙ append_assoc old first second ∙ sym (ap (λ t. old ++ t) g)

@@ -126,7 +126,7 @@ pub(crate) fn at(block: &[u8], place: usize) -> Option<&[u8]>
     }
 }
 
-// Puts a length behind a block.
+// Puts a length after a block.
 #[tactic(auto, using(crate::proofs::Facts::length_code_short, crate::proofs::Facts::length_code_long))]
 fn put_length(block: &mut Vec<u8>, count: usize) -> Result<(), AllocError>
     ensures put { OnOk result (block.new.items ≡ block.old.items ++ length_code count) }
@@ -142,7 +142,7 @@ fn put_length(block: &mut Vec<u8>, count: usize) -> Result<(), AllocError>
     }
 }
 
-// Puts a cell behind a block, and part of it where a request for memory was refused.
+// Puts a cell after a block, and part of it where a request for memory was refused.
 #[tactic(auto, using(crate::proofs::Facts::cell_code_is))]
 fn put_cell(block: &mut Vec<u8>, cell: &[u8]) -> Result<(), AllocError>
     ensures put { OnOk result (block.new.items ≡ block.old.items ++ cell_code cell.now) }
@@ -153,7 +153,7 @@ fn put_cell(block: &mut Vec<u8>, cell: &[u8]) -> Result<(), AllocError>
     Ok(())
 }
 
-// Puts a cell behind a block.
+// Puts a cell after a block.
 pub(crate) fn append(block: &mut Vec<u8>, cell: &[u8]) -> Result<(), AllocError>
     ensures put { OnOk result (block.new.items ≡ block.old.items ++ cell_code cell.now) }
     ensures kept { OnErr result (block.new.items ≡ block.old.items) }

@@ -81,7 +81,7 @@ impl Cells {
         Ok(Cells { block })
     }
 
-    /// Puts a cell behind the others.
+    /// Puts a cell after the others.
     ///
     /// # Errors
     ///

@@ -66,7 +66,7 @@ impl Group {
         }
     }
 
-    /// Returns the group of one row, whose memory is given back as said, unless a row comes behind it. Takes no memory.
+    /// Returns the group of one row, whose memory is given back as said, unless a row comes after it. Takes no memory.
     ///
     /// ```
     /// let group = Group::with_release(Cells::from_slices(alloc, &[b"red"])?, Release::AtDrop);
@@ -83,7 +83,7 @@ impl Group {
         }
     }
 
-    /// Returns the group with a row more, behind the others.
+    /// Returns the group with a row more, after the others.
     ///
     /// # Errors
     ///

@@ -35,7 +35,7 @@ const ROOM: usize = 30;
 /// ```
 #[derive(Drop)]
 pub struct Key {
-    // The first eight bytes of the first cell as a number, with zeros behind a shorter one: a key with a lesser number is less.
+    // The first eight bytes of the first cell as a number, with zeros after a shorter one: a key with a lesser number is less.
     first: u64,
     kept: Kept,
 }
@@ -178,7 +178,7 @@ fn first_of(cells: &Cells) -> u64
     }
 }
 
-// The first eight bytes, with zeros behind a cell that is shorter.
+// The first eight bytes, with zeros after a cell that is shorter.
 fn first_bytes(cell: &[u8]) -> u64
     ensures { Begins cell.now result }
 {
@@ -194,7 +194,7 @@ fn first_bytes(cell: &[u8]) -> u64
     ])
 }
 
-// The byte at a place, or zero behind the last.
+// The byte at a place, or zero after the last.
 fn byte_at(cell: &[u8], place: usize) -> u8
     ensures { result ≡ get_or cell.now place 0 }
 {

@@ -1,4 +1,4 @@
--- The place of a text behind its bytes: one byte at a time, and of bytes with no quote among them.
+-- The place of a text after its bytes: one byte at a time, and of bytes with no quote among them.
 use Rattle.std.proofs.Common.{◌≡◌, ◌∙◌, ◌+◌, ◌-◌, ◌<◌, ◌≤◌, ◌==◌, ℕ, suc, List, [], ◌∷◌, ◌++◌, Option, Some, None, false, true, drop, get_or, length, length-take, refl, sym, ap, arith, inl, inr, slice_get, slice_index_or, take}
 use Rattle.std.proofs.lemmas.Bool.{cases_Bool, eqb-true}
 use Rattle.std.proofs.lemmas.List.{drop_all, drop_more, get_or-take, take-append-drop, take_all, length-drop}
@@ -79,7 +79,7 @@ unfolding place_behind
 quoted-run m [] free = refl
 quoted-run m (b ∷ rest) free = rw (free-head b rest free) (quoted-run m rest (free-tail b rest free))
 
--- behind a closing quote
+-- after a closing quote
 pub closed-none : (m : Marks) (bytes : List ℕ) → length bytes ≡ 0 → place_behind m at.Closed bytes ≡ Some at.Closed
 unfolding place_behind
 closed-none m [] none = refl

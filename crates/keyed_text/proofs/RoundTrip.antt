@@ -44,7 +44,7 @@ needs-none : (q : CellQuotes) (needs : Bool) → by_style (quote_style q) needs 
 needs-none WhereNeeded needs e = e
 needs-none Everywhere needs e = cc e
 
--- the end of a row: its first byte, what stands behind that, and the state of a reader between the two
+-- the end of a row: its first byte, what stands after that, and the state of a reader between the two
 abbrev pub head-end : LineEnd → ℕ
 head-end Lf = 10
 head-end CrLf = 13
@@ -65,11 +65,11 @@ pub head-unquoted : (e : LineEnd) → (head-end e == 34) ≡ false
 head-unquoted Lf = refl
 head-unquoted CrLf = refl
 
--- what a read of a record gives that ends so, behind which this stands
+-- what a read of a record gives that ends so, after which this stands
 abbrev pub read-of : LineEnd → List (List ℕ) → List ℕ → Read
 read-of e fields tail = (fields, after-head e, behind-end e ++ tail)
 
--- behind the end of a record a reader reads as at the start of one
+-- after the end of a record a reader reads as at the start of one
 pub behind-run : (cfg : Config) (e : LineEnd) (tail : List ℕ)
     → next_record cfg (after-head e) [] [] (behind-end e ++ tail) ≡ next_record cfg st.StartRecord [] [] tail
 unfolding next_record

@@ -99,7 +99,7 @@ not-longer a b c xs e =
     let long : length xs ≡ length (a ∷ b ∷ c ∷ xs) = ap length e in
     omega (arith, long)
 
--- a cell that begins with no mark, and behind it a byte that goes on with none
+-- a cell that begins with no mark, and after it a byte that goes on with none
 strip-cell : (x : List ℕ) (h : ℕ) (t : List ℕ) → strip_bom x ≡ x → (h == 239) ≡ false → (h == 187) ≡ false → (h == 191) ≡ false
     → strip_bom (x ++ (h ∷ t)) ≡ x ++ (h ∷ t)
 unfolding strip_bom
@@ -179,7 +179,7 @@ module _ (s : Style) (d : ℕ) (m : Option ℕ) (parts : PartsCells d) (begins :
       (from, text, (refl, refl), same ∙ ap₂ (λ state left. next_record (config_by d m) state [] [] left) are.2.0 are.2.1 ∙ are.3)
   records-alike from text tail (row ∷ rows) same are = (are.0, are.1, (are.2.0, same ∙ are.2.1, are.2.2, are.2.3), are.3)
 
-  -- rows are read from a state of a text, and others behind them, where this reads as the text of the rows with that of the others behind it
+  -- rows are read from a state of a text, and others after them, where this reads as the text of the rows with that of the others after it
   reads-from : (rows more : List (List (List ℕ))) (tail : List ℕ) (from : State) (text : List ℕ)
       → next_record (config_by d m) from [] [] text ≡ next_record (config_by d m) st.StartRecord [] [] (text-of rows ++ tail)
       → AreRecords (config_by d m) st.StartRecord tail more → All HasCells rows → AreRecords (config_by d m) from text (rows ++ more)
@@ -217,7 +217,7 @@ module _ (s : Style) (d : ℕ) (m : Option ℕ) (parts : PartsCells d) (begins :
   abbrev in-quotes : List ℕ → Bool
   in-quotes x = by_style (quote_style s.quotes) (needs_quotes (writer_in s d m) x)
 
-  -- what stands behind the first cell of a row
+  -- what stands after the first cell of a row
   abbrev behind : List ℕ → List (List ℕ) → List ℕ → List ℕ
   behind x row more = fields_text (writer_in s d m) row ++ (((if is_blank (writer_in s d m) (x ∷ row) then 34 ∷ 34 ∷ [] else []) ++ end_text (terminator_of s.line_end)) ++ more)
 
@@ -258,7 +258,7 @@ module _ (s : Style) (d : ℕ) (m : Option ℕ) (parts : PartsCells d) (begins :
   rows-plain [] rows h e = absurd (h refl)
   rows-plain (x ∷ row) rows h e = row-plain x row (text-of rows) e
 
-  -- rows with an end each, behind which the last one is written without
+  -- rows with an end each, after which the last one is written without
   text-last : (rows : List (List (List ℕ))) (last : List (List ℕ))
       → text-of (rows ++ (last ∷ [])) ≡ (text-of rows ++ open_row (writer_in s d m) last) ++ end_text (terminator_of s.line_end)
   text-last rows last =

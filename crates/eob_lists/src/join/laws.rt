@@ -55,29 +55,29 @@ pub fn law_join_overlaid<K: Ord, V>(joined: &[(K, EitherOrBoth<V, V>)])
         ≡ option_or (value_under K.cmp q k) (value_under K.cmp p k) }
 {}
 
-/// A list rises exactly where each key is less than the next.
+/// A list strictly increases exactly where each key is less than the next.
 pub fn law_rising<K: Ord, V>()
     ensures { RisingLaw K.cmp V }
 {}
 
-/// A list whose keys are sorted strictly rises, as the entries of an ordered map do.
+/// A list whose keys are strictly sorted, as those of an ordered map are, strictly increases.
 pub fn law_sorted_rises<K: Ord, V>()
     ensures { SortedRisesLaw K.cmp V }
 {}
 
-/// The keys of a rising list are sorted, and so distinct, in the words of the standard library's ordered maps.
+/// The keys of a strictly increasing list are sorted, and so distinct, in the words of the standard library's ordered maps.
 pub fn law_rising_keys<K: Ord, V>()
     ensures { RisingKeysLaw K.cmp V }
 {}
 
-/// A rising list that is collected into an ordered map is found there: the map has under each key what the list has. Called before
-/// `collect`.
+/// A strictly increasing list that is collected into an ordered map is found there: the map has under each key what the list has.
+/// Called before `collect`.
 pub fn law_rising_map<K: Ord, V>()
     ensures { RisingMapLaw K.cmp V }
 {}
 
-/// A rising list that is collected into a hashed map, or into one in the order of insertion, is found there: the map has under each
-/// key what the list has. Called before `collect`.
+/// A strictly increasing list that is collected into a hashed map, or into one in the order of insertion, is found there: the map has
+/// under each key what the list has. Called before `collect`.
 pub fn law_rising_hash_map<K: Ord, V>()
     ensures { RisingEqMapLaw K.cmp V K.eq }
 {}
@@ -94,7 +94,7 @@ pub fn law_begins_join<K: Ord, A, B>()
     ensures { BeginsJoinLaw K.cmp A B }
 {}
 
-/// A list of references rises where what it shows does.
+/// A list of references strictly increases where what it shows does.
 pub fn law_shown_rises<K: Ord, V>()
     ensures { ShownRisesLaw K.cmp V }
 {}

@@ -113,7 +113,7 @@ where
 /// ```
 /// let left = [(1, 'a'), (3, 'b')];
 /// let right = [(3, 'y')];
-/// // The checker does not read from a table that its keys rise, so a test tells it.
+/// // The checker does not read from a table that its keys strictly increase, so a test tells it.
 /// assert!(rt; is_rising(&left));
 /// assert!(rt; is_rising(&right));
 /// let mut rows = outer_join_slices(&left, &right);

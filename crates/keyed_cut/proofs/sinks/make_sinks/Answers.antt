@@ -1,6 +1,6 @@
 use Rattle.std.proofs.Common.{◌∙◌, ◌+◌, ap, length, refl, rules}
 use Rattle.std.proofs.lemmas.List.{length_push}
-use Rattle.keyed_cut.specs.Dealt.{key_cmp}
+use Rattle.keyed_cut.specs.Partitioned.{key_cmp}
 use Rattle.keyed_cut.proofs.CountLemmas.{counted-none, none-more}
 use Rattle.keyed_cut.proofs.sinks.make_sinks.Goals as goal
 

@@ -2,7 +2,7 @@ use Rattle.std.proofs.Common.{◌≡◌, ◌∙◌, [], ◌∷◌, refl, subst}
 use Rattle.std.proofs.lemmas.Option.{get_or_from_slice_get}
 use Rattle.csv.specs.Records.{fields_of}
 use Rattle.keyed_text.specs.Streams.{PutsRows}
-use Rattle.keyed_cut.specs.Dealt.{fitted}
+use Rattle.keyed_cut.specs.Partitioned.{fitted}
 use Rattle.keyed_cut.proofs.sinks.put_at.Goals as goal
 
 pub returns : goal.returns

@@ -1,7 +1,7 @@
 use Rattle.std.proofs.Common.{◌≡◌, arith}
 use Rattle.csv.specs.Records.{fields_of}
 use Rattle.keyed_text.proofs.WriteLemmas.{cells-more, cells-none}
-use Rattle.keyed_cut.specs.Dealt.{fitted}
+use Rattle.keyed_cut.specs.Partitioned.{fitted}
 use Rattle.keyed_cut.proofs.SinkLemmas.{fitted-more}
 use Rattle.keyed_cut.proofs.sinks.put_cells.Goals as goal
 

@@ -1,6 +1,6 @@
 use Rattle.csv.specs.Records.{fields_of}
 use Rattle.keyed_text.specs.Streams.{PutsCells}
-use Rattle.keyed_cut.specs.Dealt.{fitted}
+use Rattle.keyed_cut.specs.Partitioned.{fitted}
 use Rattle.keyed_cut.proofs.sinks.put_cells.Given as goal
 
 abbrev pub invariant-loop-place : goal.invariant-loop-place

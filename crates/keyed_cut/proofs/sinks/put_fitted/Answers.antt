@@ -1,6 +1,6 @@
 use Rattle.csv.specs.Records.{fields_of}
 use Rattle.keyed_text.proofs.WriteLemmas.{cells-row}
-use Rattle.keyed_cut.specs.Dealt.{fitted}
+use Rattle.keyed_cut.specs.Partitioned.{fitted}
 use Rattle.keyed_cut.proofs.SinkLemmas.{fitted-by}
 use Rattle.keyed_cut.proofs.sinks.put_fitted.Goals as goal
 

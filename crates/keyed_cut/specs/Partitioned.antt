@@ -24,7 +24,7 @@ pub record PutsRowAt {W : Type 0} (contents : W → Option (List ℕ)) (i : ℕ)
   pub others : new ≡ slice_set old i writer
 
 -- of the writers of parts each has, after what it had, the rows whose key is in its part, in their order, and no other
-pub record PutsDealt {K W : Type 0} (cmp : K → K → Ordering) (contents : W → Option (List ℕ)) (bounds : List K) (rows : List (K × List (List ℕ))) (old new : List (RowWriter W)) : Type 0 where
+pub record PutsPartitioned {K W : Type 0} (cmp : K → K → Ordering) (contents : W → Option (List ℕ)) (bounds : List K) (rows : List (K × List (List ℕ))) (old new : List (RowWriter W)) : Type 0 where
   pub count : length new ≡ length old
   pub part : (i : ℕ) (before after : RowWriter W) → slice_get old i ≡ Some before → slice_get new i ≡ Some after
       → PutsRows contents before after (map (λ row. row.1) (rows_in cmp bounds i rows))
@@ -40,14 +40,14 @@ by_key places n records = map (λ fields. (key_in places fields, fitted n fields
 module _ {R W : Type 0} (remaining : R → Option (List ℕ)) (contents : W → Option (List ℕ)) (bounds : List (List (List ℕ))) (places : Places) (n : ℕ) where
   -- a source is read on: of each text of which it had given some records, it gave more, and each of these is put after the rows of the part
   -- of its key
-  abbrev pub DealsOn : Source R → Source R → List (RowWriter W) → List (RowWriter W) → Type 0
-  DealsOn source now old new = (d : ℕ) (c : Option ℕ) (text : List ℕ) (given : List (List (List ℕ)))
+  abbrev pub PartitionsOn : Source R → Source R → List (RowWriter W) → List (RowWriter W) → Type 0
+  PartitionsOn source now old new = (d : ℕ) (c : Option ℕ) (text : List ℕ) (given : List (List (List ℕ)))
       → HasGiven d c remaining text given source
-      → (records : List (List (List ℕ))) × HasGiven d c remaining text (given ++ records) now × PutsDealt key_cmp contents bounds (by_key places n records) old new
+      → (records : List (List (List ℕ))) × HasGiven d c remaining text (given ++ records) now × PutsPartitioned key_cmp contents bounds (by_key places n records) old new
 
   -- a source is read to the end: after the records that it had given, these come, and no more, and each is put after the rows of the part
   -- of its key
-  abbrev pub DealsRest : Source R → List (RowWriter W) → List (RowWriter W) → Type 0
-  DealsRest source old new = (d : ℕ) (c : Option ℕ) (text : List ℕ) (given : List (List (List ℕ)))
+  abbrev pub PartitionsRest : Source R → List (RowWriter W) → List (RowWriter W) → Type 0
+  PartitionsRest source old new = (d : ℕ) (c : Option ℕ) (text : List ℕ) (given : List (List (List ℕ)))
       → HasGiven d c remaining text given source
-      → (records : List (List (List ℕ))) × AreRows d c text (given ++ records) × PutsDealt key_cmp contents bounds (by_key places n records) old new
+      → (records : List (List (List ℕ))) × AreRows d c text (given ++ records) × PutsPartitioned key_cmp contents bounds (by_key places n records) old new

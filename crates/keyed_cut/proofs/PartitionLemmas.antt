@@ -1,4 +1,4 @@
--- Rows that are put one by one after those of their parts are dealt.
+-- Rows that are put one by one after those of their parts are partitioned.
 use Rattle.std.proofs.Common.{◌≡◌, ◌∙◌, ◌==◌, ℕ, zero, suc, ◌<◌, true, false, List, [], ◌∷◌, ◌++◌, Option, Some, length, map, get_or, slice_set, arith, refl, sym, ap, subst, append_assoc, inl, inr}
 use Rattle.std.specs.Prelude.{slice_get}
 use Rattle.std.specs.declared.cmp.Ordering.{Ordering}
@@ -13,7 +13,7 @@ use Rattle.keyed_parts.specs.Parts.{part_in, rows_in}
 use Rattle.keyed_text.specs.Streams.{PutsRows}
 use Rattle.keyed_text.specs.declared.row_writer.RowWriter.{RowWriter}
 use Rattle.keyed_text.proofs.WriteLemmas.{rows-more, rows-none}
-use Rattle.keyed_cut.specs.Dealt.{DealsOn, DealsRest, PutsDealt, PutsRowAt, by_key, fitted, key_cmp}
+use Rattle.keyed_cut.specs.Partitioned.{PartitionsOn, PartitionsRest, PutsPartitioned, PutsRowAt, by_key, fitted, key_cmp}
 
 -- what stands at a place that is set, and at another
 pub set-here : {X : Type 0} (xs : List X) (i : ℕ) (x : X) → i < length xs → slice_get (slice_set xs i x) i ≡ Some x
@@ -37,8 +37,8 @@ module _ {K W : Type 0} (cmp : K → K → Ordering) (contents : W → Option (L
       ∙ map-append (λ row. row.1) (rows_in cmp bounds i rows) (rows_in cmp bounds i more)
 
   -- no row yet
-  pub dealt-none : (writers : List (RowWriter W)) → PutsDealt cmp contents bounds [] writers writers
-  dealt-none writers = record {
+  pub partitioned-none : (writers : List (RowWriter W)) → PutsPartitioned cmp contents bounds [] writers writers
+  partitioned-none writers = record {
     count = refl;
     part = λ i before after there here.
         subst (λ w. PutsRows contents before w []) (same_Some before after (sym there ∙ here)) (rows-none contents before);
@@ -71,39 +71,39 @@ module _ {K W : Type 0} (cmp : K → K → Ordering) (contents : W → Option (L
     in-any : PutsRows contents before after (cells_in i all)
     in-any = elim (eqb_tells place i) as (λ _. PutsRows contents before after (cells_in i all)) [ inl w ↦ in-part w.0 w.1 | inr w ↦ in-other w.0 w.1 ]
 
-  pub dealt-and : (rows : List (K × List (List ℕ))) (key : K) (cells : List (List ℕ)) (old mid new : List (RowWriter W))
-      → PutsDealt cmp contents bounds rows old mid → PutsRowAt contents (part_in cmp bounds key) cells mid new
-      → PutsDealt cmp contents bounds (rows ++ ((key, cells) ∷ [])) old new
-  dealt-and rows key cells old mid new dealt put = record {
-    count = ap length put.others ∙ length-set mid (part_in cmp bounds key) put.writer ∙ dealt.count;
+  pub partitioned-and : (rows : List (K × List (List ℕ))) (key : K) (cells : List (List ℕ)) (old mid new : List (RowWriter W))
+      → PutsPartitioned cmp contents bounds rows old mid → PutsRowAt contents (part_in cmp bounds key) cells mid new
+      → PutsPartitioned cmp contents bounds (rows ++ ((key, cells) ∷ [])) old new
+  partitioned-and rows key cells old mid new partitioned put = record {
+    count = ap length put.others ∙ length-set mid (part_in cmp bounds key) put.writer ∙ partitioned.count;
     part = λ i before after there here.
-        let at : slice_get mid i ≡ Some (get_or mid i before) = slice_get-get_or mid i before (omega (arith, dealt.count, slice_get_within old i before there)) in
-        in-any rows key cells mid new put i before (get_or mid i before) after at here (dealt.part i before (get_or mid i before) there at);
+        let at : slice_get mid i ≡ Some (get_or mid i before) = slice_get-get_or mid i before (omega (arith, partitioned.count, slice_get_within old i before there)) in
+        in-any rows key cells mid new put i before (get_or mid i before) after at here (partitioned.part i before (get_or mid i before) there at);
   }
 
 -- records that are read of a source and put: none yet, one more, and all
 module _ {R W : Type 0} (remaining : R → Option (List ℕ)) (contents : W → Option (List ℕ)) (bounds : List (List (List ℕ))) (places : Places) (n : ℕ) (source : Source R) where
-  pub deals-none : (writers : List (RowWriter W)) → DealsOn remaining contents bounds places n source source writers writers
+  pub deals-none : (writers : List (RowWriter W)) → PartitionsOn remaining contents bounds places n source source writers writers
   deals-none writers = λ d c text given h.
-      ([], subst (λ l. HasGiven d c remaining text l source) (sym (append-nil given)) h, dealt-none key_cmp contents bounds writers)
+      ([], subst (λ l. HasGiven d c remaining text l source) (sym (append-nil given)) h, partitioned-none key_cmp contents bounds writers)
 
-  pub deals-and : (now next : Source R) (key : List (List ℕ)) (old mid new : List (RowWriter W)) → DealsOn remaining contents bounds places n source now old mid
+  pub deals-and : (now next : Source R) (key : List (List ℕ)) (old mid new : List (RowWriter W)) → PartitionsOn remaining contents bounds places n source now old mid
       → GivesRecord remaining now next true → key ≡ key_in places (last_record next)
-      → PutsRowAt contents (part_in key_cmp bounds key) (fitted n (last_record next)) mid new → DealsOn remaining contents bounds places n source next old new
+      → PutsRowAt contents (part_in key_cmp bounds key) (fitted n (last_record next)) mid new → PartitionsOn remaining contents bounds places n source next old new
   deals-and now next key old mid new so gives is put = λ d c text given h.
       let before = so d c text given h in
       let fields = last_record next in
       let has = subst (λ l. HasGiven d c remaining text l next) (append_assoc given before.0 (fields ∷ [])) (gives d c text (given ++ before.0) before.1) in
-      let dealt = dealt-and key_cmp contents bounds (by_key places n before.0) (key_in places fields) (fitted n fields) old mid new before.2
+      let partitioned = partitioned-and key_cmp contents bounds (by_key places n before.0) (key_in places fields) (fitted n fields) old mid new before.2
       (subst (λ k. PutsRowAt contents (part_in key_cmp bounds k) (fitted n fields) mid new) is put) in (
         before.0 ++ (fields ∷ []),
         has,
-        subst (λ l. PutsDealt key_cmp contents bounds l old new)
-            (sym (map-append (λ fields. (key_in places fields, fitted n fields)) before.0 (fields ∷ []))) dealt,
+        subst (λ l. PutsPartitioned key_cmp contents bounds l old new)
+            (sym (map-append (λ fields. (key_in places fields, fitted n fields)) before.0 (fields ∷ []))) partitioned,
       )
 
-  pub deals-all : (now next : Source R) (old new : List (RowWriter W)) → DealsOn remaining contents bounds places n source now old new
-      → GivesRecord remaining now next false → DealsRest remaining contents bounds places n source old new
+  pub deals-all : (now next : Source R) (old new : List (RowWriter W)) → PartitionsOn remaining contents bounds places n source now old new
+      → GivesRecord remaining now next false → PartitionsRest remaining contents bounds places n source old new
   deals-all now next old new so gives = λ d c text given h.
       let before = so d c text given h in
       (before.0, gives d c text (given ++ before.0) before.1, before.2)

@@ -3,10 +3,10 @@ use Rattle.std.proofs.lemmas.List.{length-set}
 use Rattle.csv.specs.Records.{fields_of}
 use Rattle.keyed_files.specs.Reading.{key_in, last_record}
 use Rattle.keyed_parts.specs.Parts.{part_in}
-use Rattle.keyed_cut.specs.Dealt.{PutsRowAt, fitted, key_cmp}
+use Rattle.keyed_cut.specs.Partitioned.{PutsRowAt, fitted, key_cmp}
 use Rattle.keyed_cut.proofs.CountLemmas.{counts-all, counts-and, counts-none}
-use Rattle.keyed_cut.proofs.DealLemmas.{deals-all, deals-and, deals-none}
-use Rattle.keyed_cut.proofs.cutting.deal_rows.Goals as goal
+use Rattle.keyed_cut.proofs.PartitionLemmas.{deals-all, deals-and, deals-none}
+use Rattle.keyed_cut.proofs.cutting.partition_rows.Goals as goal
 
 pub loop-init : goal.loop-init
 loop-init g c = record {
@@ -19,8 +19,8 @@ loop-init g c = record {
   places = refl;
 }
 
-pub returns-in-None-clause-dealt : goal.returns-in-None-clause-dealt
-returns-in-None-clause-dealt g c =
+pub returns-in-None-clause-partitioned : goal.returns-in-None-clause-partitioned
+returns-in-None-clause-partitioned g c =
     deals-all g.F.Read.remaining g.W.Write.contents c.args.bounds.now.keys.items c.args.table.now.places c.args.sinks.now.columns
     c.args.table.now.opened.source.value c.loop.table.opened.source.value c.next_key.new.self.opened.source.value c.args.sinks.now.writers.items
     c.loop.sinks.writers.items c.loop.invariant.deals (rw c.in-None.is at c.in_ok-key.ensures.gives)
