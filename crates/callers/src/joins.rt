@@ -1,5 +1,5 @@
 //! Joins of lists, and what a law tells of them: under which key which value stands, in a map or in a table of one's own.
-ghost use Rattle.std.specs.Prelude.{◌≡◌, IfOk, map, List, Some};
+ghost use Rattle.std.specs.Prelude.{◌≡◌, ◌∷◌, [], IfOk, map, List, Some};
 ghost use Rattle.std.specs.BTreeMap.{get};
 ghost use Rattle.std.specs.HashMap.{get_by};
 ghost use Rattle.std.specs.Option.{option_or};
@@ -18,7 +18,10 @@ use either_or_both::join::{
     law_join_overlaid, law_rising_hash_map, law_rising_keys, law_rising_map, outer_join,
     outer_join_lazily,
 };
-use eob_joins::{GroupRow, Merged, group_join, law_join_self, law_merge, law_ordered_rises};
+use eob_joins::{
+    GroupRow, Marked, Merged, Parted, group_join, law_join_self, law_merge, law_ordered_rises,
+    part_marked,
+};
 use indexmap::IndexMap;
 use std::alloc::{AllocError, Global};
 use std::collections::BTreeMap;
@@ -131,6 +134,21 @@ pub fn group_rising<K: Ord + Drop, A: Drop, B: Drop>(
     law_ordered_rises::<K, A>();
     law_ordered_rises::<K, B>();
     group_join(alloc, left, right)
+}
+
+/// Of rows that are written out, one of them in conflict, that one is apart from those that are merged, which stay in their order.
+pub fn rows_apart(alloc: Global) -> Result<Parted<u32, u8>, AllocError>
+    ensures settled { IfOk result (λ parted. parted.settled.items ≡ (1, 10) ∷ (3, 30) ∷ []) }
+    ensures unresolved { IfOk result
+        (λ parted. parted.unresolved.items ≡ (2, EitherOrBoth.Both 20 (EitherOrBoth.Left 21)) ∷ []) }
+{
+    let in_conflict = EitherOrBoth::Both(20, EitherOrBoth::Left(21));
+    let rows = vec![in alloc;
+        (1, Marked::Settled(10)),
+        (2, Marked::Unresolved(in_conflict)),
+        (3, Marked::Settled(30)),
+    ]?;
+    part_marked(alloc, rows)
 }
 
 /// What a merge gives, by look-ups, whatever three versions were merged.

@@ -1,11 +1,11 @@
 //! A merge of three versions of a table in which a rule may settle a row that both sides changed.
-ghost use Rattle.std.specs.Prelude.{◌≡◌, ◌==◌, Bool, IfOk, Option, length};
+ghost use Rattle.std.specs.Prelude.{Bool, IfOk, Option};
 ghost use Rattle.eob_lists.specs.Join.{Rising};
-ghost use Rattle.eob_joins.specs.Tables.{kept};
-ghost use Rattle.eob_joins.specs.Settled.{BecameUnless, IsMergeWith, KeptAs, Outcome, Settles};
-ghost use Rattle.eob_joins.specs.Settled.{unresolved};
+ghost use Rattle.eob_joins.specs.Marked.{GivesNothing, IsPartedMerge, can_nothing};
+ghost use Rattle.eob_joins.specs.Settled.{IsMergeWith, Settles};
 
-use crate::versions::{Merged, Versions, is_in_conflict, join_versions, merged_value};
+use crate::marked::{mark_versions, part_marked};
+use crate::versions::{Merged, Versions};
 use std::alloc::{AllocError, Allocator};
 
 /// A rule that may settle a row that both sides changed, and not alike.
@@ -25,6 +25,28 @@ pub trait Settle<V> {
     /// `AllocError` where a request for memory was refused: then the row is dropped.
     fn settle(&self, row: Versions<V>) -> Result<Result<V, Versions<V>>, AllocError>
         ensures { IfOk result (Settles (can self.now) (gives self.now) row) };
+}
+
+/// The rule that settles nothing.
+///
+/// # Examples
+///
+/// ```
+/// let row = Both('a', Both('b', 'c'));
+/// assert_eq!(rt; NoRule.settle(row)?, Err(Both('a', Both('b', 'c'))));
+/// ```
+pub struct NoRule;
+
+impl<V> Settle<V> for NoRule {
+    ghost can = { λ rule. can_nothing };
+
+    ghost gives = { λ rule. GivesNothing };
+
+    fn settle(&self, row: Versions<V>) -> Result<Result<V, Versions<V>>, AllocError>
+        ensures { IfOk result (Settles can_nothing GivesNothing row) }
+    {
+        Ok(Err(row))
+    }
 }
 
 /// Returns two versions of a table merged over their base, as [`merge_versions`](crate::merge_versions) does, where a rule may settle a
@@ -60,59 +82,25 @@ pub fn merge_versions_with<K: Ord + Drop, V: Eq + Drop, S: Settle<V>, M: Allocat
     ensures { IfOk result (λ m. IsMergeWith K.cmp V.eq (S.can settle.now) (S.gives settle.now) base.items
         ours.items theirs.items m) }
 {
-    let rows = join_versions(alloc, base, ours, theirs)?;
-    let (whole, found) = settled_rows(alloc, rows, settle)?;
-    if are_none(&found) {
-        Ok(Merged::Whole(whole))
-    } else {
-        Ok(Merged::Conflicts(found))
-    }
+    let merge = merged_with(alloc, base, ours, theirs, settle)?;
+    Ok(merge)
 }
 
-// Whether there are no rows.
-fn are_none<T>(rows: &[T]) -> bool
-    ensures { result ≡ (length rows.now == 0) }
-{
-    rows.is_empty()
-}
-
-type Rows<K, V, M> = Vec<(K, V), M>;
-
-// The rows that are not unresolved, each with what became of it, and those that are.
-fn settled_rows<K: Drop, V: Eq + Drop, S: Settle<V>, M: Allocator + Copy>(
+// The merged table, or the rows that the rule can't settle, by the rows of the join.
+pub(crate) fn merged_with<K: Ord + Drop, V: Eq + Drop, S: Settle<V>, M: Allocator + Copy>(
     alloc: M,
-    rows: Rows<K, Versions<V>, M>,
+    base: Vec<(K, V), M>,
+    ours: Vec<(K, V), M>,
+    theirs: Vec<(K, V), M>,
     settle: &S,
-) -> Result<(Rows<K, V, M>, Rows<K, Versions<V>, M>), AllocError>
-    ensures whole { IfOk result (λ r. KeptAs (BecameUnless V.eq (S.can settle.now) (S.gives settle.now))
-        rows.items r.0.items) }
-    ensures found { IfOk result (λ r. r.1.items ≡ kept (unresolved V.eq (S.can settle.now)) rows.items) }
+) -> Result<Merged<K, V, M>, AllocError>
+    requires base { Rising K.cmp base.items }
+    requires ours { Rising K.cmp ours.items }
+    requires theirs { Rising K.cmp theirs.items }
+    ensures { IfOk result (λ m. IsPartedMerge K.cmp V.eq (S.can settle.now) (S.gives settle.now) base.items
+        ours.items theirs.items m) }
 {
-    let mut whole = Vec::new(alloc);
-    let mut found = Vec::new(alloc);
-    for (key, values) in rows {
-        match settled(values, settle)? {
-            Ok(Some(value)) => whole.push((key, value))?,
-            Ok(None) => {}
-            Err(values) => found.push((key, values))?,
-        }
-    }
-    Ok((whole, found))
-}
-
-// What came of a row.
-fn settled<V: Eq + Drop, S: Settle<V>>(
-    values: Versions<V>,
-    settle: &S,
-) -> Result<Result<Option<V>, Versions<V>>, AllocError>
-    ensures { IfOk result (Outcome V.eq (S.can settle.now) (S.gives settle.now) values) }
-{
-    if is_in_conflict(&values) {
-        match settle.settle(values)? {
-            Ok(value) => Ok(Ok(Some(value))),
-            Err(values) => Ok(Err(values)),
-        }
-    } else {
-        Ok(Ok(merged_value(values)))
-    }
+    let rows = mark_versions(alloc, base, ours, theirs, settle)?;
+    let parted = part_marked(alloc, rows)?;
+    Ok(parted.merged())
 }

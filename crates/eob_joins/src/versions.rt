@@ -1,14 +1,13 @@
 //! Three versions of a table, as a merge of two lines of work needs them: the base, ours and theirs, joined by key, what became of each
 //! row, and the merged table or the rows in conflict.
-ghost use Rattle.std.specs.Prelude.{◌≡◌, IfErr, IfOk, option_map};
+ghost use Rattle.std.specs.Prelude.{◌≡◌, IfOk};
 ghost use Rattle.eob_lists.specs.Join.{Rising};
-ghost use Rattle.std.specs.List.{list_any};
-ghost use Rattle.eob_joins.specs.Tables.{kept};
-ghost use Rattle.eob_joins.specs.Versions.{AreConflicts, IsMerge, IsMergeByKey, IsMergedTable, IsVersionJoin};
+ghost use Rattle.eob_joins.specs.Versions.{IsMerge, IsMergeByKey, IsVersionJoin};
 ghost use Rattle.eob_joins.specs.Versions.{MergeLaw, MergedPlaceLaw, VersionsLaw};
-ghost use Rattle.eob_joins.specs.Versions.{clash, clashes, merged, row_verdict, verdict};
+ghost use Rattle.eob_joins.specs.Versions.{row_verdict, verdict};
 
 use crate::layers::entries;
+use crate::settle::{NoRule, merged_with};
 use eob_lists::EitherOrBoth;
 use eob_lists::join::outer_join;
 use std::alloc::{AllocError, Allocator, Global};
@@ -169,7 +168,7 @@ pub fn merge_versions<K: Ord + Drop, V: Eq + Drop, M: Allocator + Copy>(
     ensures rows { IfOk result (λ m. IsMerge K.cmp V.eq base.items ours.items theirs.items m) }
     ensures values { IfOk result (λ m. IsMergeByKey K.cmp V.eq base.items ours.items theirs.items m) }
 {
-    let merge = whole_or_conflicts(alloc, base, ours, theirs)?;
+    let merge = merged_with(alloc, base, ours, theirs, &NoRule)?;
     Ok(merge)
 }
 
@@ -206,126 +205,6 @@ pub fn merge_version_maps<K: Ord + Drop, V: Eq + Drop, M: Allocator + Copy>(
     let theirs = entries(alloc, theirs)?;
     let merge = merge_versions(alloc, base, ours, theirs)?;
     Ok(merge)
-}
-
-// The merged table of three versions, or the rows in conflict.
-fn whole_or_conflicts<K: Ord + Drop, V: Eq + Drop, M: Allocator + Copy>(
-    alloc: M,
-    base: Vec<(K, V), M>,
-    ours: Vec<(K, V), M>,
-    theirs: Vec<(K, V), M>,
-) -> Result<Merged<K, V, M>, AllocError>
-    requires base { Rising K.cmp base.items }
-    requires ours { Rising K.cmp ours.items }
-    requires theirs { Rising K.cmp theirs.items }
-    ensures { IfOk result (λ m. IsMerge K.cmp V.eq base.items ours.items theirs.items m) }
-{
-    let rows = join_versions(alloc, base, ours, theirs)?;
-    if has_conflict(&rows) {
-        let found = conflicts(alloc, rows)?;
-        Ok(Merged::Conflicts(found))
-    } else {
-        let whole = merged_rows(alloc, rows)?;
-        Ok(Merged::Whole(whole))
-    }
-}
-
-// Whether a row is in conflict.
-pub(crate) fn is_in_conflict<V: Eq>(row: &Versions<V>) -> bool
-    ensures { result ≡ clashes V.eq row.now }
-{
-    match judge(row) {
-        Verdict::Conflict => true,
-        Verdict::Unchanged | Verdict::Ours | Verdict::Theirs | Verdict::Alike => false,
-    }
-}
-
-// Whether one of the rows is in conflict.
-fn has_conflict<K, V: Eq>(rows: &[(K, Versions<V>)]) -> bool
-    ensures { result ≡ list_any (λ z. clashes V.eq z.1) rows.now }
-{
-    rows.iter().any(|row| is_in_conflict(&row.1))
-}
-
-// The rows that are in conflict.
-fn conflicts<K: Drop, V: Eq + Drop, M: Allocator + Copy>(
-    alloc: M,
-    rows: Vec<(K, Versions<V>), M>,
-) -> Result<Vec<(K, Versions<V>), M>, AllocError>
-    ensures { IfOk result (λ found. found.items ≡ kept (clash V.eq) rows.items) }
-{
-    let mut found = Vec::new(alloc);
-    for row in rows {
-        match conflict_row(row) {
-            Some(kept) => found.push(kept)?,
-            None => {}
-        }
-    }
-    Ok(found)
-}
-
-// A row that is in conflict.
-fn conflict_row<K: Drop, V: Eq + Drop>(row: (K, Versions<V>)) -> Option<(K, Versions<V>)>
-    ensures { result ≡ option_map (λ w. (row.0, w)) (clash V.eq row.1) }
-{
-    if is_in_conflict(&row.1) {
-        Some(row)
-    } else {
-        None
-    }
-}
-
-// The merged rows.
-fn merged_rows<K: Drop, V: Eq + Drop, M: Allocator + Copy>(
-    alloc: M,
-    rows: Vec<(K, Versions<V>), M>,
-) -> Result<Vec<(K, V), M>, AllocError>
-    ensures { IfOk result (λ whole. whole.items ≡ kept (merged V.eq) rows.items) }
-{
-    let mut whole = Vec::new(alloc);
-    for row in rows {
-        match merged_row(row) {
-            Some(kept) => whole.push(kept)?,
-            None => {}
-        }
-    }
-    Ok(whole)
-}
-
-// A merged row.
-fn merged_row<K: Drop, V: Eq + Drop>(row: (K, Versions<V>)) -> Option<(K, V)>
-    ensures { result ≡ option_map (λ w. (row.0, w)) (merged V.eq row.1) }
-{
-    let (key, values) = row;
-    match merged_value(values) {
-        Some(value) => Some((key, value)),
-        None => None,
-    }
-}
-
-// The merged value of a row, where it is not in conflict: theirs where ours is the base, and else ours.
-pub(crate) fn merged_value<V: Eq + Drop>(values: Versions<V>) -> Option<V>
-    ensures { result ≡ merged V.eq values }
-{
-    match values {
-        EitherOrBoth::Left(_base) => None,
-        EitherOrBoth::Both(base, sides) => match sides {
-            EitherOrBoth::Left(ours) => { if base == ours { None } else { Some(ours) } }
-            EitherOrBoth::Both(ours, theirs) => {
-                if base == ours {
-                    Some(theirs)
-                } else {
-                    Some(ours)
-                }
-            }
-            EitherOrBoth::Right(_theirs) => None,
-        },
-        EitherOrBoth::Right(sides) => match sides {
-            EitherOrBoth::Left(ours) => Some(ours),
-            EitherOrBoth::Both(ours, _theirs) => Some(ours),
-            EitherOrBoth::Right(theirs) => Some(theirs),
-        },
-    }
 }
 
 /// The join of three versions has under each key what the three have there.

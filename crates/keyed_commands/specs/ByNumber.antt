@@ -14,8 +14,8 @@ use Rattle.keyed_requests.specs.declared.merging.Unit.TheVariants as unit
 use Rattle.keyed_numbers.specs.Decimals.{same_cell}
 use Rattle.keyed_numbers.specs.declared.alike.Alike.{Alike}
 use Rattle.keyed_tables.specs.RowsByCell.{one_row}
-use Rattle.keyed_tables.specs.declared.marked.Marked.{Marked}
-use Rattle.keyed_tables.specs.declared.marked.Marked.TheVariants.{Settled, Unresolved}
+use Rattle.eob_joins.specs.declared.marked.Marked.{Marked}
+use Rattle.eob_joins.specs.declared.marked.Marked.TheVariants.{Settled, Unresolved}
 
 -- what stands of a key in conflict: its rows where it is settled, if it has any, and else its versions
 abbrev pub mark_of : EitherOrBoth (List (List (List ℕ))) (EitherOrBoth (List (List (List ℕ))) (List (List (List ℕ))))

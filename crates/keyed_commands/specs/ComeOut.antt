@@ -6,8 +6,8 @@ use Rattle.std.specs.List.Sorted.{IsPermutation}
 use Rattle.either_or_both.specs.Prelude.{left_place, right_place}
 use Rattle.eob_both.specs.declared.either_or_both.EitherOrBoth.{EitherOrBoth}
 use Rattle.keyed_tables.specs.Arranged.{AreArranged}
-use Rattle.keyed_tables.specs.declared.marked.Marked.{Marked}
-use Rattle.keyed_tables.specs.declared.marked.Marked.TheVariants.{Settled, Unresolved}
+use Rattle.eob_joins.specs.declared.marked.Marked.{Marked}
+use Rattle.eob_joins.specs.declared.marked.Marked.TheVariants.{Settled, Unresolved}
 
 -- the same rows in another order
 abbrev pub AlikeRows : List (List (List ℕ)) → List (List (List ℕ)) → Type 0

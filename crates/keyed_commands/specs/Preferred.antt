@@ -6,8 +6,8 @@ use Rattle.keyed_requests.specs.declared.merging.Side.{Side}
 use Rattle.keyed_requests.specs.declared.merging.Side.TheVariants as side
 use Rattle.keyed_requests.specs.declared.merging.Unit.{Unit}
 use Rattle.keyed_numbers.specs.declared.alike.Alike.{Alike}
-use Rattle.keyed_tables.specs.declared.marked.Marked.{Marked}
-use Rattle.keyed_tables.specs.declared.marked.Marked.TheVariants.{Settled, Unresolved}
+use Rattle.eob_joins.specs.declared.marked.Marked.{Marked}
+use Rattle.eob_joins.specs.declared.marked.Marked.TheVariants.{Settled, Unresolved}
 use Rattle.keyed_commands.specs.ConflictCells.{ThreeGroups, told_by}
 
 -- the rows that a side has under a key, if it has any

@@ -4,19 +4,18 @@ ghost use Rattle.std.specs.List.{list_all};
 ghost use Rattle.std.specs.Option.{option_and_then};
 ghost use Rattle.eob_both.specs.Places.{item_left, item_right, left_place, right_place};
 ghost use Rattle.eob_joins.specs.Cells.{same_length};
+ghost use Rattle.eob_joins.specs.declared.marked.Marked.TheVariants.{Settled, Unresolved};
 ghost use Rattle.keyed_numbers.specs.Decimals.{same_cell};
 ghost use Rattle.keyed_tables.specs.RowsByCell.{one_row, only_row};
-ghost use Rattle.keyed_tables.specs.declared.marked.Marked.TheVariants.{Settled, Unresolved};
 ghost use Rattle.keyed_commands.specs.ByNumber.{changed_by_number, is_same_change, mark_of, same_place};
 ghost use Rattle.keyed_commands.specs.ByNumber.{same_row, same_rows, settled_by, settled_by_number};
 ghost use Rattle.keyed_commands.specs.ByNumber.{settled_cell, settled_cells, settled_mark, settled_row};
 
 use either_or_both::EitherOrBoth;
-use eob_joins::{Change, Versions};
+use eob_joins::{Change, Marked, Versions};
 use keyed_numbers::{Alike, is_same_cell};
 use keyed_requests::Unit;
 use keyed_rows::{Cells, Group, Key};
-use keyed_tables::Marked;
 use std::alloc::{AllocError, Global};
 
 /// The changes by which a cell is another one, as the cells of its column are compared, or a row comes or goes.

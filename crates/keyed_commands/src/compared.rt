@@ -3,7 +3,8 @@ ghost use Rattle.std.specs.Prelude.{◌≡◌, ◌||◌, IfOk, OnOk, map, true, 
 ghost use Rattle.std.specs.List.{list_all};
 ghost use Rattle.keyed_columns.specs.ColumnNames.{has_name};
 ghost use Rattle.keyed_columns.specs.KeyText.{AreNamesIn};
-ghost use Rattle.keyed_commands.specs.Beside.{AreCompared, changed_beside, is_compared, is_same_change, same_beside, same_cells, same_rows_beside};
+ghost use Rattle.keyed_commands.specs.Beside.{AreCompared, changed_beside, is_compared, is_same_change};
+ghost use Rattle.keyed_commands.specs.Beside.{same_beside, same_cells, same_rows_beside};
 
 use either_or_both::EitherOrBoth;
 use eob_joins::Change;

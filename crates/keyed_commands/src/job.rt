@@ -245,7 +245,8 @@ impl Job<'_, Columns> {
             tables.old.first.source.value pair.0.pairs.items) }
         ensures next { IfOk result (λ pair. ReadsTable R.remaining self.old.groups self.old.columns.now
             tables.old.next.source.value pair.1.pairs.items) }
-        ensures notes { OnOk result (NotesBoth R.remaining content.Rows self.old.columns.now self.old.columns.now
+        ensures notes { OnOk result
+            (NotesBoth R.remaining content.Rows self.old.columns.now self.old.columns.now
             tables.old.first.source.value tables.old.next.source.value
             noted_with (noted self.old.order) (noted self.new.order)) }
         ensures same { self.new ≡ record self.old { order = self.new.order; row_order = self.new.row_order } }
@@ -272,7 +273,8 @@ impl Job<'_, Columns> {
             sides.old.first.source.value pair.0.pairs.items) }
         ensures theirs { IfOk result (λ pair. ReadsTable R.remaining self.old.groups self.old.columns.now
             sides.old.next.source.value pair.1.pairs.items) }
-        ensures notes { OnOk result (NotesBoth R.remaining content.Rows self.old.columns.now self.old.columns.now
+        ensures notes { OnOk result
+            (NotesBoth R.remaining content.Rows self.old.columns.now self.old.columns.now
             sides.old.first.source.value sides.old.next.source.value
             placed_with (noted self.old.order) (noted self.new.order)) }
         ensures same { self.new ≡ record self.old { order = self.new.order; row_order = self.new.row_order } }
@@ -296,7 +298,8 @@ impl Job<'_, Columns> {
             inputs.old.first.source.value pair.0.pairs.items) }
         ensures changes { IfOk result (λ pair. ReadsChanges R.remaining self.old.groups self.old.columns.now
             inputs.old.next.source.value pair.1.pairs.items) }
-        ensures notes { OnOk result (NotesBoth R.remaining content.Changes self.old.columns.now self.old.columns.now
+        ensures notes { OnOk result
+            (NotesBoth R.remaining content.Changes self.old.columns.now self.old.columns.now
             inputs.old.first.source.value inputs.old.next.source.value
             noted_with (noted self.old.order) (noted self.new.order)) }
         ensures same { self.new ≡ record self.old { order = self.new.order; row_order = self.new.row_order } }
@@ -314,7 +317,8 @@ impl Job<'_, Columns> {
     ) -> Result<Changes, Fault<'a>>
         ensures changes { IfOk result (λ read. ReadsChanges R.remaining self.old.groups self.old.columns.now
             changes.old.source.value read.pairs.items) }
-        ensures notes { OnOk result (OfKeys R.remaining content.Changes self.old.columns.now changes.old.source.value
+        ensures notes { OnOk result
+            (OfKeys R.remaining content.Changes self.old.columns.now changes.old.source.value
             (λ keys. noted self.new.order ≡ noted_with (noted self.old.order) keys)) }
         ensures same { self.new ≡ record self.old { order = self.new.order; row_order = self.new.row_order } }
         ensures unordered { OnOk result (IsUnordered self.old → IsUnordered self.new) }

@@ -4,12 +4,11 @@ ghost use Rattle.keyed_commands.specs.ComeOut.{AlikeMarked};
 use crate::conflict_cells::{Telling, told_conflict};
 use crate::job::Job;
 use crate::row_order::{Grouped, RowOrder};
-use eob_joins::Versions;
+use eob_joins::{Marked, Versions};
 use keyed_columns::Columns;
 use keyed_faults::Reason;
 use keyed_files::{Written, begin_table, quote_first};
 use keyed_rows::{Group, Key};
-use keyed_tables::{Marked, Parted};
 use std::alloc::{AllocError, Global};
 
 impl Grouped for Marked<Group> {
@@ -35,29 +34,6 @@ fn is_unresolved(row: &Marked<Group>) -> bool {
         Marked::Settled(_) => false,
         Marked::Unresolved(_) => true,
     }
-}
-
-/// The merged rows, and those that are in conflict.
-///
-/// # Errors
-///
-/// Returns `AllocError` if a request for memory was refused.
-pub fn parted(
-    alloc: Global,
-    rows: Vec<(Key, Marked<Group>)>,
-) -> Result<Parted<Key, Group>, AllocError> {
-    let mut settled = Vec::new(alloc);
-    let mut unresolved = Vec::new(alloc);
-    for (key, row) in rows {
-        match row {
-            Marked::Settled(group) => settled.push((key, group))?,
-            Marked::Unresolved(versions) => unresolved.push((key, versions))?,
-        }
-    }
-    Ok(Parted {
-        settled,
-        unresolved,
-    })
 }
 
 /// The table as CSV, with the versions of each row in conflict between marks. Where rows are merged by cell, these differ in the cells in

@@ -4,10 +4,9 @@ ghost use Rattle.keyed_commands.specs.Preferred.{row_by_side, rows_by_side, vers
 
 use crate::by_number::{ours_of, theirs_of};
 use crate::conflict_cells::{Telling, told_conflict};
-use eob_joins::Versions;
+use eob_joins::{Marked, Versions};
 use keyed_requests::Side;
 use keyed_rows::{Group, Key};
-use keyed_tables::Marked;
 use std::alloc::{AllocError, Global};
 
 /// The rows of the merged table, those in conflict as this side has them: where rows are merged by cell, with its cells where these are in

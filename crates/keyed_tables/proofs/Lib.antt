@@ -5,6 +5,5 @@ pub mod GatherLemmas
 pub mod KeyLemmas
 pub mod OrderLemmas
 pub mod OverlayLemmas
-pub mod PartedLemmas
 pub mod PlaceLemmas
 pub mod RepeatLemmas

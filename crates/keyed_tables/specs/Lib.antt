@@ -1,8 +1,6 @@
 pub mod Arranged
 pub mod Gathered
 pub mod Laid
-pub mod Marked
-pub mod Parted
 pub mod Placed
 pub mod Repeated
 pub mod RisingRows

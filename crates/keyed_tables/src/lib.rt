@@ -15,10 +15,10 @@ mod table;
 mod versions;
 
 pub use gather::{grouped_rows, unique_rows};
-pub use marked::{Marked, marked_merge_by_cell_of, marked_merge_of};
+pub use marked::{marked_merge_by_cell_of, marked_merge_of};
 pub use order::Order;
 pub use overlay::{filled_over, laid_over};
-pub use parted::{Parted, parted_merge_by_cell_of, parted_merge_of};
+pub use parted::{parted_merge_by_cell_of, parted_merge_of};
 pub use placed::law_placed;
 pub use table::Rows;
 pub use versions::{changes_of, paired, patched};

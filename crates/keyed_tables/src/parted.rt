@@ -1,24 +1,15 @@
 //! Three versions of a table merged, with the rows in conflict apart from those that are merged.
-ghost use Rattle.std.specs.Prelude.{◌≡◌, IfOk};
-ghost use Rattle.eob_joins.specs.Settled.{BecameUnless, IsMergeWith, KeptAs, unresolved};
-ghost use Rattle.eob_joins.specs.Tables.{kept};
+ghost use Rattle.std.specs.Prelude.{IfOk};
+ghost use Rattle.eob_joins.specs.Marked.{IsPartedMerge, merged_of};
+ghost use Rattle.eob_joins.specs.Settled.{IsMergeWith};
 ghost use Rattle.eob_joins.specs.Versions.{IsMergeByKey};
-ghost use Rattle.keyed_tables.specs.Parted.{merged_of};
 ghost use Rattle.keyed_tables.specs.RowsByCell.{GivesRow, can_by_row};
 
 use crate::by_cell::RowByCell;
-use crate::marked::{Marked, NoRule, marked_row};
 use crate::table::Rows;
-use eob_joins::{Settle, Versions, join_versions};
+use eob_joins::{NoRule, Parted, Settle, mark_versions, part_marked};
 use keyed_rows::{Group, Key};
 use std::alloc::{AllocError, Global};
-
-/// What a merge makes of three versions of a table: the rows that are merged, and those in conflict, each in the order of their keys.
-#[derive(Debug, Drop)]
-pub struct Parted<K, V> {
-    pub settled: Vec<(K, V)>,
-    pub unresolved: Vec<(K, Versions<V>)>,
-}
 
 /// The merged rows, which have whatever one side alone changed as that side has it; and the rows that both sides changed, to rows that are
 /// not the same.
@@ -68,36 +59,12 @@ fn parted_merge<K: Ord + Drop, V: Eq + Drop, S: Settle<V>>(
     theirs: Rows<K, V>,
     rule: &S,
 ) -> Result<Parted<K, V>, AllocError>
-    ensures { IfOk result (λ parted. IsMergeWith K.cmp V.eq (S.can rule.now) (S.gives rule.now)
+    ensures rows { IfOk result (λ parted. IsPartedMerge K.cmp V.eq (S.can rule.now) (S.gives rule.now)
+        base.pairs.items ours.pairs.items theirs.pairs.items (merged_of parted)) }
+    ensures values { IfOk result (λ parted. IsMergeWith K.cmp V.eq (S.can rule.now) (S.gives rule.now)
         base.pairs.items ours.pairs.items theirs.pairs.items (merged_of parted)) }
 {
-    let all = join_versions(alloc, base.pairs, ours.pairs, theirs.pairs)?;
-    let parted = parted_rows(alloc, all, rule)?;
+    let rows = mark_versions(alloc, base.pairs, ours.pairs, theirs.pairs, rule)?;
+    let parted = part_marked(alloc, rows)?;
     Ok(parted)
-}
-
-// What becomes of the rows of a join, in their order.
-fn parted_rows<K: Drop, V: Eq + Drop, S: Settle<V>>(
-    alloc: Global,
-    all: Vec<(K, Versions<V>)>,
-    rule: &S,
-) -> Result<Parted<K, V>, AllocError>
-    ensures settled { IfOk result (λ parted. KeptAs (BecameUnless V.eq (S.can rule.now) (S.gives rule.now))
-        all.items parted.settled.items) }
-    ensures unresolved { IfOk result
-        (λ parted. parted.unresolved.items ≡ kept (unresolved V.eq (S.can rule.now)) all.items) }
-{
-    let mut settled = Vec::new(alloc);
-    let mut unresolved = Vec::new(alloc);
-    for (key, versions) in all {
-        match marked_row(versions, rule)? {
-            Some(Marked::Settled(value)) => settled.push((key, value))?,
-            Some(Marked::Unresolved(versions)) => unresolved.push((key, versions))?,
-            None => {}
-        }
-    }
-    Ok(Parted {
-        settled,
-        unresolved,
-    })
 }

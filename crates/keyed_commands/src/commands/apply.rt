@@ -72,7 +72,8 @@ fn apply_in(
     old: Table,
     changes: Changes,
 ) -> Result<Answer, Reason>
-    ensures fits { IfOk result (λ answer. AllFit key_cmp old.pairs.items (changes_in direction changes.pairs.items)
+    ensures fits { IfOk result (λ answer.
+        AllFit key_cmp old.pairs.items (changes_in direction changes.pairs.items)
         → AnswersPatched job.now.form job.now.columns.now (noted job.now.order)
         (is_none job.now.row_order.files) old.pairs.items (changes_in direction changes.pairs.items) answer) }
     ensures misfits { IfOk result (λ answer.

@@ -80,7 +80,8 @@ fn columns_compared<'a, R>(
     how: Comparing<'_>,
     versions: &Two<'a, R>,
 ) -> Result<Columns, Fault<'a>>
-    ensures { IfOk result (AreComparedColumns how.entry.view.columns settings.entry.key (headers_of versions.now)) }
+    ensures { IfOk result
+        (AreComparedColumns how.entry.view.columns settings.entry.key (headers_of versions.now)) }
 {
     let all = versions.columns(alloc, settings.key)?;
     let tolerances = at(versions.next.file, Tolerances::new(alloc, how.sameness))?;
@@ -215,7 +216,8 @@ fn diff_files_as_report<'a, R: Read + Drop>(
     how: Comparing<'_>,
     versions: &mut Two<'a, R>,
 ) -> Result<Answer, Fault<'a>>
-    ensures { IfOk result (λ answer. how.entry.sameness ≡ None → ReportsSources R.remaining job.entry versions.old answer) }
+    ensures { IfOk result (λ answer. how.entry.sameness ≡ None
+        → ReportsSources R.remaining job.entry versions.old answer) }
 {
     let tables = job.read_both(versions)?;
     let before = names_among(job.alloc, versions.first.header(), job.columns);

@@ -1,18 +1,19 @@
 //! The answer to `merge`, of streams: two versions of a table merged over their base, or a report of the rows in conflict.
-ghost use Rattle.std.specs.Prelude.{◌≡◌, ◌==◌, IfOk, OnOk, is_none, length};
+ghost use Rattle.std.specs.Prelude.{◌≡◌, IfOk, OnOk, is_none};
+ghost use Rattle.eob_joins.specs.Marked.{merged_of};
 ghost use Rattle.keyed_columns.specs.Keys.{AreMergedColumnsBy};
 ghost use Rattle.keyed_columns.specs.Spelled.{IsSpelledAs};
 ghost use Rattle.keyed_columns.specs.declared.content.Content.TheVariants.{Rows};
 ghost use Rattle.keyed_files.specs.Opening.{first_header, next_header};
 ghost use Rattle.keyed_tables.specs.Arranged.{noted};
-ghost use Rattle.keyed_tables.specs.Parted.{merged_of};
 ghost use Rattle.keyed_commands.specs.AppliedTexts.{watched_left};
 ghost use Rattle.keyed_commands.specs.MergedTexts.{AnswersBy, IsReported, MergesSources, MergesStreams};
 ghost use Rattle.keyed_commands.specs.Preferred.{rows_by_side};
 ghost use Rattle.keyed_commands.specs.FileOrder.{NotesBoth, placed_with};
 ghost use Rattle.keyed_commands.specs.TablesRead.{IsUnordered, ReadsTable};
 ghost use Rattle.keyed_commands.specs.Answers.{AnswersMerge, AnswersMerged, AnswersMergedByCell, HasConflict};
-ghost use Rattle.keyed_commands.specs.Answers.{AnswersTable, HasNoConflict, HasNoneUnresolved, HasUnresolved, Stops};
+ghost use Rattle.keyed_commands.specs.Answers.{AnswersTable, HasNoConflict, HasNoneUnresolved};
+ghost use Rattle.keyed_commands.specs.Answers.{HasUnresolved, Stops};
 
 use crate::answer::{Answer, Outcome, stopped};
 use crate::by_number::settled_by_number;
@@ -21,9 +22,10 @@ use crate::conflicts::render_conflicts;
 use crate::job::{Job, Table};
 use crate::lost_cells::lose_cells;
 use crate::made_table::answer_of_rows;
-use crate::marks::{has_conflict, parted, write_marked};
+use crate::marks::{has_conflict, write_marked};
 use crate::preferred::rows_by_side;
 use crate::styles::{Noting, Watched, spelling_of, style_under, watch};
+use eob_joins::{Marked, Parted, part_marked};
 use keyed_columns::{Columns, Content, Tolerances, columns_of, merged_columns};
 use keyed_faults::{Fault, Reason, at};
 use keyed_files::{Opened, Stream, Two};
@@ -31,8 +33,7 @@ use keyed_reports::Report;
 use keyed_requests::{Conflicts, Merging, Settings, Side, Unit};
 use keyed_rows::{Group, Key};
 use keyed_tables::{
-    Marked, Parted, marked_merge_by_cell_of, marked_merge_of, parted_merge_by_cell_of,
-    parted_merge_of,
+    marked_merge_by_cell_of, marked_merge_of, parted_merge_by_cell_of, parted_merge_of,
 };
 use std::alloc::{AllocError, Global};
 use std::io::Read;
@@ -189,7 +190,7 @@ fn merge_by_number(
     match conflicts {
         Conflicts::Marks => mark_conflicts(job, how, rows),
         Conflicts::Prefer(side) => merge_by_side(job, how, side, rows),
-        Conflicts::Report => answer_of_merge(job, how, parted(job.alloc, rows)?),
+        Conflicts::Report => answer_of_merge(job, how, part_marked(job.alloc, rows)?),
     }
 }
 
@@ -207,7 +208,7 @@ fn mark_conflicts(
             outcome: Outcome::Made,
         });
     }
-    answer_of_merge(job, how, parted(job.alloc, rows)?)
+    answer_of_merge(job, how, part_marked(job.alloc, rows)?)
 }
 
 // The merged table, with rows in conflict as this side has them.
@@ -218,7 +219,8 @@ fn merge_by_side(
     rows: Vec<(Key, Marked<Group>)>,
 ) -> Result<Answer, Reason>
     ensures { IfOk result (AnswersTable job.now.form job.now.columns.now (noted job.now.order)
-        (is_none job.now.row_order.files) (rows_by_side how.entry.unit how.entry.alikes.now side rows.items)) }
+        (is_none job.now.row_order.files)
+        (rows_by_side how.entry.unit how.entry.alikes.now side rows.items)) }
 {
     let settled = rows_by_side(job.alloc, how, side, rows)?;
     let answer = answer_of_rows(job, "merged", settled)?;
@@ -283,7 +285,8 @@ fn merge_by_cell(
     ours: Table,
     theirs: Table,
 ) -> Result<Answer, Reason>
-    ensures whole { IfOk result (λ answer. HasNoneUnresolved base.pairs.items ours.pairs.items theirs.pairs.items
+    ensures whole { IfOk result (λ answer.
+        HasNoneUnresolved base.pairs.items ours.pairs.items theirs.pairs.items
         → AnswersMergedByCell job.now.form job.now.columns.now (noted job.now.order)
         (is_none job.now.row_order.files) base.pairs.items ours.pairs.items theirs.pairs.items answer) }
     ensures conflict { IfOk result (λ answer.
@@ -303,20 +306,13 @@ fn answer_of_merge(
     ensures { IfOk result (AnswersMerge job.now.form job.now.columns.now (noted job.now.order)
         (is_none job.now.row_order.files) (merged_of parted)) }
 {
-    if is_whole(&parted) {
+    if parted.is_whole() {
         let answer = answer_of_rows(job, "merged", parted.settled)?;
         Ok(answer)
     } else {
         let answer = report_conflicts(job, how, parted)?;
         Ok(answer)
     }
-}
-
-// Whether no row is in conflict.
-fn is_whole(parted: &Parted<Key, Group>) -> bool
-    ensures { result ≡ (length parted.now.unresolved.items == 0) }
-{
-    parted.unresolved.is_empty()
 }
 
 // Rows in conflict as a report, and with them the merged rows that have cells in columns that go.

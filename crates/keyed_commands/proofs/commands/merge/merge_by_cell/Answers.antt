@@ -1,5 +1,5 @@
 use Rattle.keyed_tables.specs.Arranged.{noted}
-use Rattle.keyed_tables.specs.Parted.{merged_of}
+use Rattle.eob_joins.specs.Marked.{merged_of}
 use Rattle.std.proofs.Common.{is_none}
 use Rattle.keyed_commands.proofs.AnswerLemmas.{settled_unresolved, settled_whole}
 use Rattle.keyed_commands.proofs.commands.merge.merge_by_cell.Goals as goal

@@ -1,5 +1,5 @@
 use Rattle.keyed_tables.specs.Arranged.{noted}
-use Rattle.keyed_tables.specs.Parted.{merged_of}
+use Rattle.eob_joins.specs.Marked.{merged_of}
 use Rattle.std.proofs.Common.{is_none}
 use Rattle.keyed_commands.proofs.AnswerLemmas.{merged_clash, merged_whole}
 use Rattle.keyed_commands.proofs.commands.merge.merge_by_row.Goals as goal

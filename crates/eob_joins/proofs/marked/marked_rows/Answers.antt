@@ -5,8 +5,8 @@ use Rattle.std.proofs.lemmas.List.{map-id}
 use Rattle.std.specs.Vec.Iter.{into_iter_len}
 use Rattle.eob_joins.proofs.SettledLemmas.{kept_as-push}
 use Rattle.eob_joins.specs.Settled.{KeptAs}
-use Rattle.keyed_tables.specs.Marked.{MarkedAs}
-use Rattle.keyed_tables.proofs.marked.marked_rows.Goals as goal
+use Rattle.eob_joins.specs.Marked.{MarkedAs}
+use Rattle.eob_joins.proofs.marked.marked_rows.Goals as goal
 
 pub loop-key-preserved-in-Continue-branch-3 : goal.loop-key-preserved-in-Continue-branch-3
 loop-key-preserved-in-Continue-branch-3 g c =
