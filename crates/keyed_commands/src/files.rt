@@ -1,9 +1,10 @@
 //! From the files that a request names to its answer.
 ghost use Rattle.std.specs.Prelude.{◌≡◌, ◌++◌, ◌∷◌, [], IfOk, OnOk};
 ghost use Rattle.std.specs.Io.KnownBytes.{Appends};
-ghost use Rattle.either_or_both.specs.Prelude.{of_held};
-ghost use Rattle.keyed_commands.specs.Requested.{AnswersRequest, AppliesNamed, DiffsNamed, IsStreamOf, JoinsNamed};
-ghost use Rattle.keyed_commands.specs.Requested.{LooksUpNamed, MergesNamed, WritesRequest};
+ghost use Rattle.keyed_commands.specs.Requested.{AnswersRequest, AppliesNamed, AreStreamsOf, DiffsNamed};
+ghost use Rattle.keyed_commands.specs.Requested.{IsStreamOf, JoinsNamed, LooksUpNamed, MergesNamed};
+ghost use Rattle.keyed_commands.specs.Requested.{OverlaysNamed, WritesAnswer, WritesCommand};
+ghost use Rattle.keyed_commands.specs.Requested.{WritesWanted};
 
 use crate::answer::Answer;
 use crate::commands::apply::apply;
@@ -19,7 +20,7 @@ use keyed_faults::{Fault, Reason, at};
 use keyed_files::Stream;
 use keyed_requests::{
     Command, Comparing, Delimiter, Direction, Joining, Layout, Lookup as LookupRequest, Merging,
-    Overlay as OverlayRequest, Request, Settings, SortedRequest, Wanted,
+    NamedFile, Overlay as OverlayRequest, Request, Settings, SortedRequest, Wanted,
 };
 use std::alloc::AllocError;
 use std::io::Write;
@@ -35,28 +36,60 @@ pub fn write_command<'a, R: Files + Input + AllocGlobal, W: Write>(
     rt: &R,
     command: Command<'a>,
     output: &mut W,
-) -> Result<Finished, Fault<'a>> {
-    let status = match command {
+) -> Result<Finished, Fault<'a>>
+    ensures { IfOk result (λ finished. WritesCommand R.File.remaining R.Reader.remaining
+        command.entry (W.contents output.old) (W.contents output.new) finished.status) }
+{
+    match command {
         Command::Whole {
             settings,
             request,
             wanted,
-        } => match wanted {
-            Wanted::Answer => write_request(rt, settings, request, output)?,
-            Wanted::Status => answer_request(rt, settings, request)?.status,
-        },
+        } => write_wanted(rt, settings, request, wanted, output),
         Command::Sorted {
             layout,
             request,
             wanted,
         } => match wanted {
-            Wanted::Answer => return stream_request(rt, layout, request, output),
-            Wanted::Status => stream_request(rt, layout, request, &mut io::sink())?.status,
+            Wanted::Answer => stream_request(rt, layout, request, output),
+            Wanted::Status => {
+                let finished = stream_request(rt, layout, request, &mut io::sink())?;
+                Ok(Finished::of(finished.status))
+            }
         },
-        Command::Lookup { layout, request } => write_lookup(rt, layout, request, output)?,
-        Command::Overlay { settings, request } => write_overlay(rt, settings, request, output)?,
-    };
-    Ok(Finished::of(status))
+        Command::Lookup { layout, request } => {
+            let status = write_lookup(rt, layout, request, output)?;
+            Ok(Finished::of(status))
+        }
+        Command::Overlay { settings, request } => {
+            let status = write_overlay(rt, settings, request, output)?;
+            Ok(Finished::of(status))
+        }
+    }
+}
+
+// Writes the answer to a request, or finds its status alone.
+fn write_wanted<'a, R: Files + Input + AllocGlobal, W: Write>(
+    rt: &R,
+    settings: Settings<'a>,
+    request: Request<'a>,
+    wanted: Wanted,
+    output: &mut W,
+) -> Result<Finished, Fault<'a>>
+    ensures { IfOk result (λ finished. WritesWanted
+        (AnswersRequest R.File.remaining R.Reader.remaining settings.entry request.entry) wanted
+        (W.contents output.old) (W.contents output.new) finished.status) }
+{
+    match wanted {
+        Wanted::Answer => {
+            let status = write_request(rt, settings, request, output)?;
+            Ok(Finished::of(status))
+        }
+        Wanted::Status => {
+            let answer = answer_request(rt, settings, request)?;
+            Ok(Finished::of(answer.status))
+        }
+    }
 }
 
 // Writes the rows of a table looked up in another while they are read.
@@ -67,8 +100,8 @@ fn write_lookup<'a, R: Files + Input + AllocGlobal, W: Write>(
     output: &mut W,
 ) -> Result<u8, Fault<'a>>
     ensures status { IfOk result (λ status. status ≡ 0) }
-    ensures text { OnOk result (LooksUpNamed (of_held R.File.remaining R.Reader.remaining) layout.entry request.entry
-        (W.contents output.old) (W.contents output.new)) }
+    ensures text { OnOk result (LooksUpNamed R.File.remaining R.Reader.remaining layout.entry
+        request.entry (W.contents output.old) (W.contents output.new)) }
 {
     request.check_stdin()?;
     let left = stream_of(rt, request.left, None);
@@ -82,9 +115,14 @@ fn write_overlay<'a, R: Files + Input + AllocGlobal, W: Write>(
     settings: Settings<'a>,
     request: OverlayRequest<'a>,
     output: &mut W,
-) -> Result<u8, Fault<'a>> {
+) -> Result<u8, Fault<'a>>
+    ensures { IfOk result (WritesAnswer
+        (OverlaysNamed R.File.remaining R.Reader.remaining settings.entry request.entry)
+        (W.contents output.old) (W.contents output.new)) }
+{
     let answer = answer_overlay(rt, settings, request)?;
-    write_answer(output, &answer)
+    let status = write_answer(output, &answer)?;
+    Ok(status)
 }
 
 /// The table that is made of those that are laid one over the other, of the files that are named.
@@ -96,15 +134,30 @@ pub fn answer_overlay<'a, R: Files + Input + AllocGlobal>(
     rt: &R,
     settings: Settings<'a>,
     request: OverlayRequest<'a>,
-) -> Result<Answer, Fault<'a>> {
+) -> Result<Answer, Fault<'a>>
+    ensures { IfOk result
+        (OverlaysNamed R.File.remaining R.Reader.remaining settings.entry request.entry) }
+{
     let alloc = rt.alloc();
     request.check_stdin(alloc)?;
-    let mut tables = Vec::new(alloc);
-    for named in request.files {
+    let tables = streams_of(rt, request.files)?;
+    let answer = overlay(alloc, settings, request.layer, tables)?;
+    Ok(answer)
+}
+
+// The files of these names, or the standard input, each with the byte between its cells.
+fn streams_of<'a, R: Files + Input + AllocGlobal>(
+    rt: &R,
+    files: Vec<NamedFile<'a>>,
+) -> Result<Vec<Stream<'a, Reader<R>>>, Fault<'a>>
+    ensures { IfOk result (λ streams. AreStreamsOf files.entry.items streams.items) }
+{
+    let mut streams = Vec::new(rt.alloc());
+    for named in files {
         let stream = stream_of(rt, named.file, Some(named.delimiter));
-        at(named.file, put(&mut tables, stream))?;
+        at(named.file, put(&mut streams, stream))?;
     }
-    overlay(alloc, settings, request.layer, tables)
+    Ok(streams)
 }
 
 /// Puts an item after the others. The error of `push` holds the item, and so is none that a fault can be of.
@@ -130,7 +183,8 @@ pub fn write_request<'a, R: Files + Input + AllocGlobal, W: Write>(
     request: Request<'a>,
     output: &mut W,
 ) -> Result<u8, Fault<'a>>
-    ensures { IfOk result (WritesRequest (of_held R.File.remaining R.Reader.remaining) settings.entry request.entry
+    ensures { IfOk result (WritesAnswer
+        (AnswersRequest R.File.remaining R.Reader.remaining settings.entry request.entry)
         (W.contents output.old) (W.contents output.new)) }
 {
     let answer = answer_request(rt, settings, request)?;
@@ -140,7 +194,8 @@ pub fn write_request<'a, R: Files + Input + AllocGlobal, W: Write>(
 
 // Writes the text of an answer, and returns its status.
 fn write_answer<'a, W: Write>(output: &mut W, answer: &Answer) -> Result<u8, Fault<'a>>
-    ensures text { OnOk result (Appends (W.contents output.old) (W.contents output.new) answer.now.bytes.items) }
+    ensures text { OnOk result
+        (Appends (W.contents output.old) (W.contents output.new) answer.now.bytes.items) }
     ensures status { IfOk result (λ status. status ≡ answer.now.status) }
 {
     let written = write_whole(output, &answer.bytes);
@@ -199,7 +254,8 @@ pub fn answer_request<'a, R: Files + Input + AllocGlobal>(
     settings: Settings<'a>,
     request: Request<'a>,
 ) -> Result<Answer, Fault<'a>>
-    ensures { IfOk result (AnswersRequest (of_held R.File.remaining R.Reader.remaining) settings.entry request.entry) }
+    ensures { IfOk result
+        (AnswersRequest R.File.remaining R.Reader.remaining settings.entry request.entry) }
 {
     request.check_stdin()?;
     match request {
@@ -227,7 +283,8 @@ fn answer_diff<'a, R: Files + Input + AllocGlobal>(
     old: &'a str,
     new: &'a str,
 ) -> Result<Answer, Fault<'a>>
-    ensures { IfOk result (DiffsNamed (of_held R.File.remaining R.Reader.remaining) settings.entry old.entry new.entry how.entry) }
+    ensures { IfOk result (DiffsNamed R.File.remaining R.Reader.remaining settings.entry
+        old.entry new.entry how.entry) }
 {
     let old = stream_of(rt, old, None);
     let new = stream_of(rt, new, settings.form.reading.next);
@@ -242,7 +299,8 @@ fn answer_apply<'a, R: Files + Input + AllocGlobal>(
     old: &'a str,
     changes: &'a str,
 ) -> Result<Answer, Fault<'a>>
-    ensures { IfOk result (AppliesNamed (of_held R.File.remaining R.Reader.remaining) settings.entry old.entry changes.entry direction) }
+    ensures { IfOk result (AppliesNamed R.File.remaining R.Reader.remaining settings.entry
+        old.entry changes.entry direction) }
 {
     let old = stream_of(rt, old, None);
     let changes = stream_of(rt, changes, settings.form.reading.next);
@@ -258,8 +316,8 @@ fn answer_merge<'a, R: Files + Input + AllocGlobal>(
     ours: &'a str,
     theirs: &'a str,
 ) -> Result<Answer, Fault<'a>>
-    ensures { IfOk result (MergesNamed (of_held R.File.remaining R.Reader.remaining) settings.entry base.entry ours.entry
-        theirs.entry how.entry) }
+    ensures { IfOk result (MergesNamed R.File.remaining R.Reader.remaining settings.entry
+        base.entry ours.entry theirs.entry how.entry) }
 {
     let base = stream_of(rt, base, None);
     let ours = stream_of(rt, ours, settings.form.reading.next);
@@ -275,7 +333,8 @@ fn answer_join<'a, R: Files + Input + AllocGlobal>(
     left: &'a str,
     right: &'a str,
 ) -> Result<Answer, Fault<'a>>
-    ensures { IfOk result (JoinsNamed (of_held R.File.remaining R.Reader.remaining) settings.entry left.entry right.entry how.entry) }
+    ensures { IfOk result (JoinsNamed R.File.remaining R.Reader.remaining settings.entry
+        left.entry right.entry how.entry) }
 {
     let left = stream_of(rt, left, None);
     let right = stream_of(rt, right, settings.form.reading.next);

@@ -14,7 +14,9 @@ pub struct Finished {
 
 impl Finished {
     /// A command with this status, and no counts to be said.
-    pub fn of(status: u8) -> Self {
+    pub fn of(status: u8) -> Self
+        ensures { result.status ≡ status }
+    {
         Finished {
             status,
             counts: None,
