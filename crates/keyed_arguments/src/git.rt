@@ -167,7 +167,7 @@ fn options_of(alloc: Global, matches: &ArgMatches<'_>) -> Result<Vec<String>, Al
     for (name, _) in &FLAGS {
         put_flag(alloc, &mut words, matches, name)?;
     }
-    for name in ["numbers", "ignore-case", "trim"] {
+    for name in ["numbers", "decimal-comma", "ignore-case", "trim"] {
         put_flag(alloc, &mut words, matches, name)?;
     }
     put_text(alloc, &mut words, matches, "tolerance")?;

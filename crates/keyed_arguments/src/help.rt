@@ -11,6 +11,7 @@ pub fn group_of(option: &str) -> Option<&'static str> {
         | "reverse"
         | "numbers"
         | "tolerance"
+        | "decimal-comma"
         | "ignore-case"
         | "trim"
         | "kind"

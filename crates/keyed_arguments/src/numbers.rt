@@ -3,8 +3,12 @@
 use crate::{ParseError, flag, put, text};
 use clap::{Arg, ArgMatches};
 use keyed_columns::Tolerances;
+use keyed_numbers::DecimalMark;
 use keyed_requests::Sameness;
 use std::alloc::{AllocError, Global};
+
+// The option by which numbers have a comma.
+const COMMA: &str = "decimal-comma";
 
 // The options that take no text, each with its help.
 static FLAGS: [(&str, &str); 3] = [
@@ -35,7 +39,9 @@ pub fn put_numbers(alloc: Global, args: &mut Vec<Arg<'_>>) -> Result<(), AllocEr
     put(
         args,
         text(alloc, "tolerance", "X|COLUMN=X[,COLUMN=X..]", tolerance),
-    )
+    )?;
+    let comma = "With --numbers, a comma and no point stands in the numbers of cells: 1,50 is 1,5";
+    put(args, flag(alloc, COMMA, comma))
 }
 
 /// The first of the options that take no text that is given.
@@ -58,11 +64,13 @@ pub fn sameness_of<'a>(
     matches: &ArgMatches<'a>,
 ) -> Result<Option<Sameness<'a>>, ParseError> {
     let tolerance = tolerance_of(matches)?;
+    let mark = mark_of(matches)?;
     if first_given(matches).is_none() {
         return Ok(None);
     }
     let sameness = Some(Sameness {
         tolerance,
+        mark,
         trims: matches.get_flag("trim"),
         folds_case: matches.get_flag("ignore-case"),
     });
@@ -71,6 +79,18 @@ pub fn sameness_of<'a>(
         Err(reason) => Err(ParseError::Names {
             option: "tolerance",
             reason,
+        }),
+    }
+}
+
+// What stands in numbers before their fractions, where these are compared by value.
+fn mark_of(matches: &ArgMatches<'_>) -> Result<DecimalMark, ParseError> {
+    match (matches.get_flag(COMMA), matches.get_flag("numbers")) {
+        (false, _) => Ok(DecimalMark::Point),
+        (true, true) => Ok(DecimalMark::Comma),
+        (true, false) => Err(ParseError::Value {
+            option: COMMA,
+            wrong: "needs --numbers",
         }),
     }
 }

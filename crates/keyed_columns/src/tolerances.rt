@@ -153,6 +153,7 @@ impl<'a> Tolerances<'a> {
                 Some(_) => self.tolerance_of(name),
                 None => None,
             },
+            mark: self.sameness.mark,
             trims: self.sameness.trims,
             folds_case: self.sameness.folds_case,
         }

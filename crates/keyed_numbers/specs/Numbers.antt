@@ -63,15 +63,20 @@ number_of_parts is_negative whole fraction power =
     (Some (record { is_negative = is_negative; digits = whole ++ fraction; top = power + length whole })) None
 
 -- the same with a power of ten, if that is one
-abbrev pub number_with_power : Bool → List ℕ → Option ℕ → Option Number
-number_with_power is_negative digits None = None
-number_with_power is_negative digits (Some power) = number_of_parts is_negative
-    (before_first (is_either 46 46) digits) (or_none (behind_first (is_either 46 46) digits)) power
+abbrev pub number_with_power : ℕ → Bool → List ℕ → Option ℕ → Option Number
+number_with_power point is_negative digits None = None
+number_with_power point is_negative digits (Some power) = number_of_parts is_negative
+    (before_first (is_either point point) digits) (or_none (behind_first (is_either point point) digits)) power
 
--- The number that a text is, if it is one: a sign or none, digits with a point or without, and an e or E with a power of ten or neither.
-abbrev pub number_in : List ℕ → Option Number
-number_in bytes = number_with_power (has_minus bytes) (before_first (is_either 101 69) (unsigned bytes))
+-- The number that a text is, if it is one: a sign or none, digits with a point or without, and an e or E with a power of ten or neither. The
+-- byte that is the point is given.
+abbrev pub number_by : ℕ → List ℕ → Option Number
+number_by point bytes = number_with_power point (has_minus bytes) (before_first (is_either 101 69) (unsigned bytes))
     (power_of (behind_first (is_either 101 69) (unsigned bytes)))
+
+-- the same with a full stop for the point
+abbrev pub number_in : List ℕ → Option Number
+number_in bytes = number_by 46 bytes
 
 -- How many units a number has without its sign, of which one is at the n-th place below this top. It is a whole number where the last digit
 -- stands no deeper.

@@ -4,7 +4,8 @@ ghost use Rattle.std.specs.Prelude.{IfSome, None, ◌&&◌, nat_lt};
 ghost use Rattle.std.specs.List.{before_first, position};
 ghost use Rattle.keyed_numbers.specs.Digits.{digits_value, value_of};
 ghost use Rattle.keyed_numbers.specs.Numbers.{are_digits, are_zeros, behind_first, has_minus, is_below_zero};
-ghost use Rattle.keyed_numbers.specs.Numbers.{is_either, number_in, power_in, power_of, unsigned};
+ghost use Rattle.keyed_numbers.specs.Numbers.{is_either, number_by, number_in, power_in, power_of};
+ghost use Rattle.keyed_numbers.specs.Numbers.{unsigned};
 ghost use Rattle.keyed_numbers.specs.Decimals.{number_of};
 
 // The power of ten that stands for 10 to the power 0: powers are counted from -9,999, which is the least.
@@ -42,10 +43,21 @@ impl<'a> Decimal<'a> {
     pub fn parse(bytes: &'a [u8]) -> Option<Self>
         ensures { option_map number_of result ≡ number_in bytes.now }
     {
+        Self::parse_with(b'.', bytes)
+    }
+
+    /// The same of a number with this byte for its point.
+    ///
+    /// ```
+    /// assert!(rt; Decimal::parse_with(b',', b"-1,50").is_some() && Decimal::parse_with(b',', b"1.5").is_none());
+    /// ```
+    pub fn parse_with(point: u8, bytes: &'a [u8]) -> Option<Self>
+        ensures { option_map number_of result ≡ number_by point bytes.now }
+    {
         let (is_negative, unsigned) = without_sign(bytes);
         let (digits, power) = parted(unsigned, b'e', b'E');
         let power = power_of(power)?;
-        let (whole, fraction) = parted(digits, b'.', b'.');
+        let (whole, fraction) = parted(digits, point, point);
         let fraction = fraction.unwrap_or(b"");
         if are_digits(whole) && are_digits(fraction) && has_any(whole, fraction) {
             Some(Decimal {

@@ -9,6 +9,6 @@ mod decimal;
 mod near;
 mod text;
 
-pub use alike::Alike;
+pub use alike::{Alike, DecimalMark};
 pub use decimal::Decimal;
 pub use near::is_same_cell;

@@ -6,7 +6,7 @@ ghost use Rattle.keyed_numbers.specs.Decimals.{are_same_by_value, number_of, sam
 ghost use Rattle.keyed_numbers.specs.AlignedDigits.{digit_of};
 
 use crate::aligned::{Aligned, Sum, is_at_most};
-use crate::alike::Alike;
+use crate::alike::{Alike, DecimalMark};
 use crate::decimal::Decimal;
 use crate::text::{is_same_text, seen, trimmed};
 
@@ -15,6 +15,8 @@ use crate::text::{is_same_text, seen, trimmed};
 /// once case is folded where that is how it is done.
 ///
 /// ```
+/// let with_comma = Alike { tolerance: Some(Decimal::ZERO), mark: DecimalMark::Comma, ..Alike::AS_THEY_STAND };
+/// assert!(rt; is_same_cell(with_comma, b"1,50", b"1,5") && !is_same_cell(with_comma, b"1.50", b"1.5"));
 /// let by_value = Alike { tolerance: Some(Decimal::ZERO), ..Alike::AS_THEY_STAND };
 /// assert!(rt; is_same_cell(by_value, b"1.50 ", b"+1.5") && !is_same_cell(Alike::AS_THEY_STAND, b"1.50", b"1.5"));
 /// let as_words = Alike { trims: true, folds_case: true, ..Alike::AS_THEY_STAND };
@@ -27,18 +29,24 @@ pub fn is_same_cell(alike: Alike<'_>, cell: &[u8], other: &[u8]) -> bool
         alike.folds_case,
         seen(alike.trims, cell),
         seen(alike.trims, other),
-    ) || are_same_by_value(alike.tolerance, cell, other)
+    ) || are_same_by_value(alike.mark, alike.tolerance, cell, other)
 }
 
 // Whether two cells are numbers that are the same by value, where a tolerance is given.
-fn are_same_by_value(tolerance: Option<Decimal<'_>>, cell: &[u8], other: &[u8]) -> bool
-    ensures { result ≡ are_same_by_value tolerance.entry cell.now other.now }
+fn are_same_by_value(
+    mark: DecimalMark,
+    tolerance: Option<Decimal<'_>>,
+    cell: &[u8],
+    other: &[u8],
+) -> bool
+    ensures { result ≡ are_same_by_value mark tolerance.entry cell.now other.now }
 {
     let Some(tolerance) = tolerance else {
         return false;
     };
-    match Decimal::parse(trimmed(cell)) {
-        Some(number) => match Decimal::parse(trimmed(other)) {
+    let point = mark.byte();
+    match Decimal::parse_with(point, trimmed(cell)) {
+        Some(number) => match Decimal::parse_with(point, trimmed(other)) {
             Some(next) => is_near(tolerance, number, next),
             None => false,
         },

@@ -2,6 +2,7 @@
 
 use crate::plain::words_of;
 use keyed_arguments::{Line, Progress, Terminal, parse};
+use keyed_numbers::DecimalMark;
 use keyed_requests::{
     Asked, Colours, ColumnsShown, Command, Comment, Comparing, Conflicts, Delimiter, Direction,
     Finding, Form, Format, Heading, JoinNames, Joining, Kind, Layer, Lengths, Look, Lookup,
@@ -117,8 +118,14 @@ impl Picker {
     }
 
     fn sameness(&mut self) -> Option<Sameness<'static>> {
+        let tolerance = self.maybe(&TOLERANCES);
         let sameness = Sameness {
-            tolerance: self.maybe(&TOLERANCES),
+            tolerance,
+            mark: if tolerance.is_some() && self.coin() {
+                DecimalMark::Comma
+            } else {
+                DecimalMark::Point
+            },
             trims: self.coin(),
             folds_case: self.coin(),
         };

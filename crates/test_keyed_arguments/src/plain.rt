@@ -1,6 +1,7 @@
 //! The plain spelling of what a command line asks for: each option by its whole name, with its value in the same word, and the files last.
 
 use keyed_arguments::{Line, Progress};
+use keyed_numbers::DecimalMark;
 use keyed_requests::{
     Asked, ColumnsShown, Command, Comparing, Conflicts, Direction, Finding, Form, Format, Heading,
     JoinNames, Joining, Kind, Layer, Layout, Lengths, Look, Lookup, LookupKind, Merging, Overlay,
@@ -326,6 +327,7 @@ impl Words {
         };
         self.put_flag("numbers", sameness.tolerance.is_some())?;
         self.put_value("tolerance", sameness.tolerance)?;
+        self.put_flag("decimal-comma", matches!(sameness.mark, DecimalMark::Comma))?;
         self.put_flag("trim", sameness.trims)?;
         self.put_flag("ignore-case", sameness.folds_case)
     }
