@@ -11,8 +11,8 @@ pub type Text = (&'static str, &'static str, &'static str);
 pub static KEY: [Text; 1] = [(
     "key",
     "COLUMN[,COLUMN..]",
-    "The columns that say which row it is, as id, or region,id [default: the first column]; \
-     LEFT=RIGHT where a column has two names",
+    "The columns that say which row it is, by name or place, as id, or region,id, or 1,3 \
+     [default: the first column]; LEFT=RIGHT where a column has two names",
 )];
 
 /// The other options of all commands that take a text.

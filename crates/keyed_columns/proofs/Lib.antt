@@ -1,3 +1,4 @@
+pub mod PlaceNameLemmas
 pub mod ColumnLemmas
 pub mod HeaderLemmas
 pub mod JoinedLemmas

@@ -1,13 +1,15 @@
 -- The names of the columns that are the key of tables.
-use Rattle.std.specs.Prelude.{◌≡◌, ◌||◌, ℕ, Bool, false, true, List, [], ◌∷◌, Option, None, Some, filter, length, take}
+use Rattle.std.specs.Prelude.{◌≡◌, ◌||◌, ℕ, Bool, false, true, List, [], ◌∷◌, Option, None, Some, filter, length, map, nat_eq, take, if◌then◌else◌}
 use Rattle.std.specs.Borrow.{Bor}
+use Rattle.std.specs.Cmp.Lexicographic.{pointwise}
 use Rattle.std.specs.List.{list_all}
 use Rattle.keyed_requests.specs.declared.request.Picked.{Picked}
 use Rattle.keyed_requests.specs.declared.request.Picked.TheVariants as picked
 use Rattle.keyed_columns.specs.ChangedColumns.{AreChangedColumns, AreMergedColumns}
-use Rattle.keyed_columns.specs.ColumnNames.{AreColumns, all_names, has_name, if_empty, key_first, or_header}
+use Rattle.keyed_columns.specs.ColumnNames.{AreColumns, all_names, column_names, has_name, if_empty, key_first, or_header}
 use Rattle.keyed_columns.specs.KeyText.{AreNamesIn}
-use Rattle.keyed_columns.specs.Names.{is_kept}
+use Rattle.keyed_columns.specs.Headers.{numbered_names}
+use Rattle.keyed_columns.specs.Names.{is_kept, renamed}
 use Rattle.keyed_columns.specs.declared.columns.Columns.{Columns}
 use Rattle.keyed_columns.specs.declared.columns.JoinColumns.{JoinColumns}
 
@@ -15,10 +17,29 @@ use Rattle.keyed_columns.specs.declared.columns.JoinColumns.{JoinColumns}
 abbrev pub first_name : List (List (List ℕ)) → List (List ℕ)
 first_name headers = take 1 (all_names headers)
 
+-- the name of the column that is given by its name; or by its place among the columns, counted from 1, where no column has such a name
+abbrev pub name_by : List (List ℕ) → List (List ℕ) → List ℕ → List ℕ
+name_by numbers columns name = if has_name columns name then name else renamed numbers columns name
+
+abbrev pub by_place : List (List ℕ) → List ℕ → List ℕ
+by_place columns name = name_by (numbered_names (length columns)) columns name
+
+-- the names of columns, by whether each is given one name: then it may be a place, and else it is the one or the other name
+abbrev pub AreGivenAs : Bool → List (List ℕ) → List (List ℕ) → List (List ℕ) → List (List ℕ) → List (List ℕ) → Type 0
+AreGivenAs true columns given_first given_others first others = (first ≡ map (by_place columns) given_first) × (others ≡ first)
+AreGivenAs false columns given_first given_others first others = (first ≡ given_first) × (others ≡ given_others)
+
+-- the names that a text gives of columns of tables with these headers
+pub record NameColumns (text : List ℕ) (headers : List (List (List ℕ))) (first others : List (List ℕ)) : Type 0 where
+  pub given_first : List (List ℕ)
+  pub given_others : List (List ℕ)
+  pub given : AreNamesIn text given_first given_others
+  pub are : AreGivenAs (pointwise (pointwise nat_eq) given_first given_others) (column_names headers) given_first given_others first others
+
 -- the names of the key in the first table and in the others: those that are given, or else the name of the first column
 abbrev pub AreKeyNames : Option (Bor (List ℕ)) → List (List (List ℕ)) → List (List ℕ) → List (List ℕ) → Type 0
 AreKeyNames None headers first others = (first ≡ first_name headers) × (others ≡ first_name headers)
-AreKeyNames (Some given) headers first others = AreNamesIn given.now first others
+AreKeyNames (Some given) headers first others = NameColumns given.now headers first others
 
 -- columns under a key that is set or not: the key is that of the headers of the tables, with the names that it has in all but the first
 pub record AreColumnsBy (key : Option (Bor (List ℕ))) (tables headers : List (List (List ℕ))) (columns : Columns) : Type 0 where

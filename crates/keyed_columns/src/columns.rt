@@ -1,14 +1,17 @@
 //! The columns of tables: from headers to the columns of what is written.
 ghost use Rattle.std.specs.Prelude.{◌≡◌, ◌++◌, ◌∷◌, ◌||◌, [], IfOk, None, OnOk, filter, length, map, true};
 ghost use Rattle.std.specs.List.{list_all};
-ghost use Rattle.keyed_columns.specs.ColumnNames.{AreColumns, has_name, if_empty, is_beside, key_first};
+ghost use Rattle.keyed_columns.specs.ColumnNames.{AreColumns, column_names, has_name, if_empty};
+ghost use Rattle.keyed_columns.specs.ColumnNames.{is_beside, key_first};
 ghost use Rattle.keyed_columns.specs.ColumnNames.{or_header, place_under_key};
+ghost use Rattle.keyed_columns.specs.Headers.{numbered_names};
 ghost use Rattle.keyed_columns.specs.Keys.{AreColumnsBy, AreJoinColumns, AreKeyNames, ArePicked};
-ghost use Rattle.keyed_columns.specs.Keys.{ArePickedColumns, first_name};
+ghost use Rattle.keyed_columns.specs.Keys.{ArePickedColumns, NameColumns, by_place, first_name, name_by};
 ghost use Rattle.keyed_columns.specs.Names.{is_kept, names_in, place_in};
 ghost use Rattle.keyed_columns.specs.NewColumns.{HasSeen, PutsColumn, SeesNames};
 
-use crate::key_record::{KeyNames, key_names};
+use crate::header::Header;
+use crate::key_record::{KeyNames, NewNames, key_names};
 use crate::names::Names;
 use keyed_faults::Reason;
 use keyed_requests::Picked;
@@ -355,17 +358,87 @@ fn columns_beside(
     }
 }
 
-// The names of the key: those that are set, or that of the first column.
-fn key_of(alloc: Global, key: Option<&str>, headers: &[&Cells]) -> Result<KeyNames, Reason>
+/// The names of the key: those that are set, or that of the first column. Where each column has one name, a number that no column has for
+/// its name is the place of a column among those of all tables, counted from 1: those of the first header, and then those that the others
+/// bring.
+///
+/// # Errors
+///
+/// Returns the errors of `key_names`, `RepeatedName` if a column is given by its name and by its place, and `NoMemory` if a request for
+/// memory was refused.
+pub fn key_of(alloc: Global, key: Option<&str>, headers: &[&Cells]) -> Result<KeyNames, Reason>
     ensures { IfOk result
         (λ names. AreKeyNames key.entry (map (λ header. header.now) headers.now) names.first names.others) }
 {
     match key {
-        Some(names) => key_names(alloc, names),
+        Some(text) => {
+            let names = named_columns(alloc, text, headers)?;
+            Ok(names)
+        }
         None => {
             let names = KeyNames::alike(first_name(alloc, headers)?)?;
             Ok(names)
         }
+    }
+}
+
+// The names that a text gives, or the names of the columns at the places that it gives.
+fn named_columns(alloc: Global, text: &str, headers: &[&Cells]) -> Result<KeyNames, Reason>
+    ensures { IfOk result (λ names. NameColumns text.now (map (λ header. header.now) headers.now)
+        names.first names.others) }
+{
+    let given = key_names(alloc, text)?;
+    if given.first == given.others {
+        let names = KeyNames::alike(columns_at(alloc, &given.first, headers)?)?;
+        Ok(names)
+    } else {
+        Ok(given)
+    }
+}
+
+// The names of columns of all tables that are given by name or by number.
+fn columns_at(alloc: Global, given: &Cells, headers: &[&Cells]) -> Result<Cells, Reason>
+    ensures { IfOk result (λ names.
+        names ≡ map (by_place (column_names (map (λ header. header.now) headers.now))) given.now) }
+{
+    let columns = Columns::new(alloc, Cells::new(alloc), headers)?;
+    let places = numbered(alloc, columns.rest)?;
+    let names = names_at(alloc, &places, given)?;
+    Ok(names)
+}
+
+// Columns by their numbers, counted from 1.
+fn numbered(alloc: Global, columns: Cells) -> Result<KeyNames, AllocError>
+    ensures first { IfOk result (λ places. places.first ≡ numbered_names (length columns)) }
+    ensures others { IfOk result (λ places. places.others ≡ columns) }
+{
+    let numbers = Header::numbers(alloc, columns.len(), 0)?;
+    Ok(KeyNames {
+        first: numbers.names,
+        others: columns,
+    })
+}
+
+// The names of the columns that are given by name or by number.
+fn names_at(alloc: Global, places: &KeyNames, given: &Cells) -> Result<Cells, Reason>
+    ensures { IfOk result
+        (λ names. names ≡ map (name_by places.now.first places.now.others) given.now) }
+{
+    let mut names = NewNames::new(alloc);
+    for name in given {
+        names.put(alloc, name_at(places, name))?;
+    }
+    Ok(names.names)
+}
+
+// The name of the column that is given by name or by number.
+fn name_at<'a>(places: &'a KeyNames, name: &'a [u8]) -> &'a [u8]
+    ensures { result.now ≡ name_by places.now.first places.now.others name.now }
+{
+    if has_name(&places.others, name) {
+        name
+    } else {
+        places.renamed(name)
     }
 }
 

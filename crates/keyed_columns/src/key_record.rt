@@ -143,13 +143,13 @@ fn names_of(alloc: Global, row: &ByteRecord) -> Result<KeyNames, Reason>
 
 // Names of which no two are the same.
 #[derive(Drop)]
-struct NewNames {
-    names: Cells,
+pub(crate) struct NewNames {
+    pub(crate) names: Cells,
     seen: Names,
 }
 
 impl NewNames {
-    fn new(alloc: Global) -> Self
+    pub(crate) fn new(alloc: Global) -> Self
         ensures once { HasOnce result }
         ensures none { result.names ≡ [] }
     {
@@ -159,7 +159,7 @@ impl NewNames {
         }
     }
 
-    fn put(&mut self, alloc: Global, name: &[u8]) -> Result<(), Reason>
+    pub(crate) fn put(&mut self, alloc: Global, name: &[u8]) -> Result<(), Reason>
         ensures once { OnOk result (HasOnce self.old → HasOnce self.new) }
         ensures names { OnOk result (self.new.names ≡ self.old.names ++ name.now ∷ []) }
     {

@@ -20,7 +20,7 @@ mod tolerances;
 
 pub use column_changes::{ColumnChanges, LoneColumns};
 pub use columns::{
-    Columns, JoinColumns, Place, columns_of, join_columns, names_among, picked_columns,
+    Columns, JoinColumns, Place, columns_of, join_columns, key_of, names_among, picked_columns,
 };
 pub use content::Content;
 pub use fate::Fate;

@@ -5,7 +5,7 @@ ghost use Rattle.keyed_files.specs.Reading.{GivesRecord, key_in, last_record};
 use crate::fault::{CutFault, CutReason};
 use crate::request::{Cut, CutTables, Second};
 use csv::ByteRecord;
-use keyed_columns::{Columns, Content, Fate, KeyNames, key_names};
+use keyed_columns::{Columns, Content, Fate, KeyNames, key_of};
 use keyed_faults::{Reason, at};
 use keyed_files::{Opened, Places, Stream};
 use keyed_requests::Delimiter;
@@ -111,7 +111,7 @@ fn tables_of<'a, F: Read + Drop>(
     key: Option<&str>,
     opened: Vec<(Opened<'a, F>, Content)>,
 ) -> Result<Tables<'a, F>, CutFault<'a>> {
-    let names = key_of(alloc, key, &opened)?;
+    let names = key_of_tables(alloc, key, &opened)?;
     let mut tables = Vec::new(alloc);
     for (table, content) in opened {
         let key = key_at(&names, tables.len())?;
@@ -157,7 +157,7 @@ pub fn columns_under(alloc: Global, key: Cells, header: &Cells) -> Result<Column
 }
 
 // The names of the key: those that are set, or that of the first column of the first table that has one.
-fn key_of<'a, F>(
+fn key_of_tables<'a, F>(
     alloc: Global,
     key: Option<&str>,
     opened: &[(Opened<'a, F>, Content)],
@@ -165,19 +165,19 @@ fn key_of<'a, F>(
     let Some((first, _)) = opened.first() else {
         return Err(CutFault::NoMemory);
     };
-    match key {
-        Some(names) => Ok(at(first.file, key_names(alloc, names))?),
-        None => {
-            let mut names = Cells::new(alloc);
-            for (table, _) in opened {
-                if let Some(name) = table.header().get(0) {
-                    names.push(name)?;
-                    break;
-                }
-            }
-            Ok(KeyNames::alike(names)?)
-        }
+    let headers = headers_of(alloc, opened)?;
+    Ok(at(first.file, key_of(alloc, key, &headers))?)
+}
+
+fn headers_of<'o, F>(
+    alloc: Global,
+    opened: &'o [(Opened<'_, F>, Content)],
+) -> Result<Vec<&'o Cells>, AllocError> {
+    let mut headers = Vec::new(alloc);
+    for (table, _) in opened {
+        headers.push(table.header())?;
     }
+    Ok(headers)
 }
 
 impl<'a, R> Table<'a, R> {
