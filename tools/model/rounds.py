@@ -6,6 +6,7 @@ import re
 import subprocess
 import sys
 from collections import Counter
+from operator import le
 
 from model.cells import CELLS, MARK, NAMES, NUMBERS, QUOTED, apart
 from model.tables import Table, as_record, line_ends, style_of, written
@@ -236,17 +237,25 @@ class Round:
             self.stop(what, f"status {answer[0]}, not {status}, {answer[2]}, {bare_marks}", *apart(found, want))
 
     def is_written_as(self, source, end, has_quotes, body, marks):
-        """Whether each row of a text, each mark and each blank line is written in a style, or stands so in the text that it is of."""
+        """Whether each row of a text, each mark and each blank line is written in a style, or stands so in the text that it is of. A row that
+        is changed there has cells in no quotes where the row that it was had them so."""
         between = re.escape(self.delimiter)
         cell = f'(?:{QUOTED}|[^"{between}\r\n]*)'
+        a_row = re.compile(f"({cell}(?:{between}{cell})*)(\r\n|\r|\n|$)")
+        are_bare = lambda line: tuple(it[:1] != '"' for it in re.findall(f"(?:^|{between})({cell})", line))
         # A return that ends a line alone is written as a line feed.
-        fed = re.sub("\r(?!\n)", "\n", source)
-        for row in re.finditer(f"({cell}(?:{between}{cell})*)(\r\n|\r|\n|$)", body):
+        fed, were_bare = re.sub("\r(?!\n)", "\n", source), None
+        for row in a_row.finditer(body):
             line, stop = row.groups()
             if not row[0] or row[0] in source or row[0] in fed or line in marks and stop == end:
                 continue
-            if stop != end or has_quotes and line and not re.fullmatch(f"{QUOTED}(?:{between}{QUOTED})*", line):
+            if stop != end:
                 return False
+            bare = are_bare(line)
+            if has_quotes and any(bare):
+                were_bare = were_bare or {are_bare(it[1]) for it in a_row.finditer(fed.removeprefix(MARK))}
+                if not any(len(it) == len(bare) and all(map(le, bare, it)) for it in were_bare):
+                    return False
         return True
 
     def expect_objects(self, words, status, objects, options=None):
