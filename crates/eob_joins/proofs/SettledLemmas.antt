@@ -1,5 +1,5 @@
 -- What a merge with a rule has under each key.
-use Rattle.std.proofs.Common.{◌≡◌, ◌∙◌, ◌<◌, ◌==◌, Bool, true, false, List, [], ◌∷◌, ◌++◌, append-nil, length, Option, Some, None, Result, Ok, Err, arith, eqb-true, refl, sym, ap, subst, true≢false, option_map}
+use Rattle.std.proofs.Common.{◌≡◌, ◌∙◌, ◌<◌, ◌==◌, Bool, true, false, List, [], ◌∷◌, ◌++◌, length, Option, Some, None, arith, eqb-true, refl, sym, ap, subst}
 use Rattle.std.proofs.lemmas.Bool.{eqb-false}
 use Rattle.std.specs.Prelude.{⊤, if◌then◌else◌}
 use Rattle.std.specs.Cmp.{IsTotalOrder}
@@ -9,14 +9,13 @@ use Rattle.std.specs.declared.cmp.Ordering.{Ordering}
 use Rattle.std.specs.declared.cmp.Ordering.TheVariants.{Less}
 use Rattle.eob_both.specs.declared.either_or_both.EitherOrBoth.{EitherOrBoth}
 use Rattle.eob_both.specs.Places.{from_places}
-use Rattle.eob_both.proofs.SideLemmas.{filter_map-push_none, filter_map-push_some}
 use Rattle.eob_lists.specs.Join.{Rising, value_under}
 use Rattle.eob_lists.proofs.MergeLemmas.{Up, absent_alike, rising, up, up_weaker}
 use Rattle.eob_joins.specs.Tables.{Tabulates, kept}
 use Rattle.eob_joins.specs.Versions.{IsVersionJoin}
 use Rattle.eob_joins.proofs.TableLemmas.{by_test, kept_law, retabled}
 use Rattle.eob_joins.proofs.VersionLemmas.{versions_law}
-use Rattle.eob_joins.specs.Settled.{Became, BecameOf, BecameUnless, KeptAs, Outcome, is_unresolved, unresolved_row, unresolved, unresolved_place, with_row}
+use Rattle.eob_joins.specs.Settled.{Became, BecameUnless, KeptAs, is_unresolved, unresolved_row, unresolved, unresolved_place, with_row}
 
 with_row-append : {K W : Type 0} (k : K) (m : Option W) (ts us : List (K × W)) → (with_row k m ts ++ us) ≡ with_row k m (ts ++ us)
 with_row-append k None ts us = refl
@@ -28,29 +27,6 @@ pub kept_as-push : {K V W : Type 0} (R : V → Option W → Type 0) (zs : List (
 kept_as-push R [] ts z m h r = (m, r, ([], refl, ap (λ l. l ++ with_row z.0 m []) h))
 kept_as-push R (y ∷ ys) ts z m h r =
     (h.0, h.1, (h.2.0 ++ with_row z.0 m [], kept_as-push R ys h.2.0 z m h.2.1 r, ap (λ l. l ++ with_row z.0 m []) h.2.2 ∙ with_row-append y.0 h.0 h.2.0 (with_row z.0 m [])))
-
--- what came of one more row
-module _ {K V : Type 0} (eq : V → V → Bool) (can : Option V → Option V → Option V → Bool)
-    (gives : Option V → Option V → Option V → V → Type 0) (zs : List (K × EitherOrBoth V (EitherOrBoth V V))) (ts : List (K × V))
-    (cs : List (K × EitherOrBoth V (EitherOrBoth V V))) (key : K) (v : EitherOrBoth V (EitherOrBoth V V))
-    (k : KeptAs (BecameUnless eq can gives) zs ts) (f : cs ≡ kept (unresolved eq can) zs) where
-  pub step_ok : (r : Result (Option V) (EitherOrBoth V (EitherOrBoth V V))) (m : Option V) → Outcome eq can gives v r → r ≡ Ok m
-      → KeptAs (BecameUnless eq can gives) (zs ++ (key, v) ∷ []) (ts ++ with_row key m []) × (cs ≡ kept (unresolved eq can) (zs ++ (key, v) ∷ []))
-  step_ok r m o e =
-      let h : (unresolved_row eq can v ≡ false) × BecameOf eq gives v m = subst (Outcome eq can gives v) e o in (
-        kept_as-push (BecameUnless eq can gives) zs ts (key, v) m k (λ _. h.1),
-        f ∙ sym (filter_map-push_none (λ z. option_map (λ w. (z.0, w)) (unresolved eq can z.1)) zs (key, v) (ap (λ t. option_map (λ w. (key, w)) (if t then Some v else None)) h.0)),
-      )
-
-  pub step_err : (r : Result (Option V) (EitherOrBoth V (EitherOrBoth V V))) (same : EitherOrBoth V (EitherOrBoth V V)) → Outcome eq can gives v r → r ≡ Err same
-      → KeptAs (BecameUnless eq can gives) (zs ++ (key, v) ∷ []) ts × (cs ++ (key, same) ∷ [] ≡ kept (unresolved eq can) (zs ++ (key, v) ∷ []))
-  step_err r same o e =
-      let h : (unresolved_row eq can v ≡ true) × (same ≡ v) = subst (Outcome eq can gives v) e o in (
-        subst (KeptAs (BecameUnless eq can gives) (zs ++ (key, v) ∷ [])) (append-nil ts)
-            (kept_as-push (BecameUnless eq can gives) zs ts (key, v) None k (λ n. absurd (true≢false (sym h.0 ∙ n)))),
-        ap (λ l. l ++ (key, same) ∷ []) f ∙ ap (λ w. kept (unresolved eq can) zs ++ (key, w) ∷ []) h.1
-            ∙ sym (filter_map-push_some (λ z. option_map (λ w. (z.0, w)) (unresolved eq can z.1)) zs (key, v) (key, v) (ap (λ t. option_map (λ w. (key, w)) (if t then Some v else None)) h.0)),
-      )
 
 -- R of a value that is there and of what became of it
 abbrev pub At : {V W : Type 0} → (V → Option W → Type 0) → Option V → Option W → Type 0

@@ -64,13 +64,6 @@ abbrev pub BecameUnless : {V : Type 0} → (V → V → Bool) → (Option V → 
     → (Option V → Option V → Option V → V → Type 0) → EitherOrBoth V (EitherOrBoth V V) → Option V → Type 0
 BecameUnless eq can gives v m = unresolved_row eq can v ≡ false → BecameOf eq gives v m
 
--- what came of a row: its value, if it has one, or the row itself, if it is unresolved
-abbrev pub Outcome : {V : Type 0} → (V → V → Bool) → (Option V → Option V → Option V → Bool)
-    → (Option V → Option V → Option V → V → Type 0) → EitherOrBoth V (EitherOrBoth V V)
-    → Result (Option V) (EitherOrBoth V (EitherOrBoth V V)) → Type 0
-Outcome eq can gives v (Ok m) = (unresolved_row eq can v ≡ false) × BecameOf eq gives v m
-Outcome eq can gives v (Err same) = (unresolved_row eq can v ≡ true) × (same ≡ v)
-
 -- a row before others, where there is a value
 abbrev pub with_row : {K W : Type 0} → K → Option W → List (K × W) → List (K × W)
 with_row k None rs = rs
