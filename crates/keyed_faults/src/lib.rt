@@ -5,9 +5,11 @@
 
 mod encoding;
 mod fault;
+mod laws;
 mod look_alikes;
 mod shown;
 
 pub use encoding::Encoding;
 pub use fault::{Fault, Reason, at};
-pub use shown::{Shown, ShownCell, ShownInList, ShownName};
+pub use laws::{law_shown_apart, law_shows_no_control};
+pub use shown::{Shown, ShownCell, ShownInList, ShownName, shown_cell};

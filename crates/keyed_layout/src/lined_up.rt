@@ -1,7 +1,7 @@
 //! Text as a person reads it in a terminal: cells lined up in columns.
 
 use keyed_columns::Columns;
-use keyed_faults::{ShownCell, ShownName};
+use keyed_faults::{ShownCell, ShownName, shown_cell};
 use keyed_numbers::{Alike, is_same_cell};
 use keyed_rows::{Cells, Group, Iter, Key};
 use std::alloc::{AllocError, Global};
@@ -44,11 +44,6 @@ impl Line {
 /// Lines of cells.
 pub type Grid = Vec<Line>;
 
-// A cell as text on one line.
-fn show_cell(alloc: Global, cell: &[u8]) -> Result<String, AllocError> {
-    format!(in alloc; "{}", ShownCell(cell))
-}
-
 /// Puts cells after those of a line.
 ///
 /// # Errors
@@ -60,7 +55,7 @@ pub fn put_shown(alloc: Global, line: &mut Line, cells: &Cells) -> Result<(), Al
 
 fn put_cells_of(alloc: Global, line: &mut Line, cells: Iter<'_>) -> Result<(), AllocError> {
     for cell in cells {
-        line.cells.push(show_cell(alloc, cell)?)?;
+        line.cells.push(shown_cell(alloc, cell)?)?;
     }
     Ok(())
 }
@@ -78,7 +73,7 @@ pub fn put_picked(
 ) -> Result<(), AllocError> {
     for (cell, is_picked) in cells.iter().zip(picked.iter()) {
         if *is_picked {
-            line.cells.push(show_cell(alloc, cell)?)?;
+            line.cells.push(shown_cell(alloc, cell)?)?;
         }
     }
     Ok(())
@@ -164,7 +159,7 @@ fn both_shown(
     new: &[u8],
 ) -> Result<String, AllocError> {
     if is_same_cell(alike, old, new) {
-        show_cell(alloc, new)
+        shown_cell(alloc, new)
     } else {
         both_cells(alloc, old, new)
     }

@@ -1,0 +1,4 @@
+pub mod ApartLemmas
+pub mod CodeLemmas
+pub mod ShownLemmas
+pub mod StillLemmas
