@@ -5,6 +5,7 @@ pub mod KnownJoins
 pub mod KnownCells
 pub mod KnownTables
 pub mod KnownDiff
+pub mod KnownSorted
 pub mod KnownReport
 pub mod KnownJoinText
 pub mod KnownMerge

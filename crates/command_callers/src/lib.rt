@@ -31,6 +31,7 @@ macro_rules! joining {
 pub mod laws;
 pub mod layers;
 pub mod lookups;
+pub mod sorted;
 pub mod texts;
 
 use keyed_commands::{

@@ -60,6 +60,7 @@ pub fn delimiter_for(matches: &ArgMatches<'_>, file: &str) -> Result<Delimiter, 
 pub fn files_of(request: Request<'_>) -> [&str; 3] {
     match request {
         Request::Diff { old, new, .. } => [old, new, new],
+        Request::DiffRows { old, new, .. } => [old, new, new],
         Request::Apply { old, changes, .. } => [old, changes, changes],
         Request::Merge {
             base,

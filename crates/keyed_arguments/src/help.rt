@@ -4,11 +4,13 @@
 pub fn group_of(option: &str) -> Option<&'static str> {
     match option {
         "key"
+        | "key-row"
         | "group"
         | "keep-order"
         | "sorted"
         | "rename"
         | "reverse"
+        | "partial"
         | "numbers"
         | "tolerance"
         | "decimal-comma"

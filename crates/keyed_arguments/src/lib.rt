@@ -1,10 +1,12 @@
 //! What the command line of `keyed` asks for.
 #![tactic(auto)]
 
+mod applying;
 mod cutting;
 mod form;
 mod git;
 mod help;
+mod key_row;
 mod merging;
 mod more;
 mod numbers;
@@ -15,17 +17,19 @@ mod terminal;
 mod texts;
 mod view;
 
+use applying::{applying_of, put_applying};
 use clap::{Arg, ArgAction, ArgMatches};
 use cutting::{cut_of, put_cut};
 use form::{files_of, form_of};
 use git::{git_asked, put_git_commands};
 use help::{example_of, group_of};
+use key_row::{KEY_ROW, key_row, row_comparing_of};
 use keyed_columns::key_names;
 use keyed_cut::Cut;
 use keyed_faults::Reason;
 use keyed_requests::{
-    Asked, Colours, Command, Comparing, Direction, Format, Heading, JoinNames, Joining, Kind, Look,
-    Picked, Request, RowFormat, RowsShown, Settings, SortedChanges, SortedRequest, Wanted,
+    Asked, Colours, Command, Comparing, Format, Heading, JoinNames, Joining, Kind, Look, Picked,
+    Request, RowFormat, RowsShown, Settings, SortedChanges, SortedRequest, Wanted,
 };
 use merging::{merging_of, put_merging};
 use more::{lookup_of, overlay_of};
@@ -192,6 +196,7 @@ fn is_csv(command: &Command<'_>) -> bool {
     match command {
         Command::Whole { request, .. } => match request {
             Request::Diff { how, .. } => matches!(how.format, Format::Csv),
+            Request::DiffRows { how, .. } => matches!(how.format, Format::Csv),
             Request::Join { how, .. } => matches!(how.format, RowFormat::Csv),
             Request::Apply { .. } | Request::Merge { .. } => true,
         },
@@ -250,7 +255,9 @@ fn sorted_of(request: Request<'_>, wanted: Wanted) -> Result<SortedRequest<'_>, 
             how: sorted_changes(how, wanted)?,
         }),
         Request::Join { left, right, how } => Ok(SortedRequest::Join { left, right, how }),
-        Request::Apply { .. } | Request::Merge { .. } => Err(ParseError::SortedTable),
+        Request::Apply { .. } | Request::DiffRows { .. } | Request::Merge { .. } => {
+            Err(ParseError::SortedTable)
+        }
     }
 }
 
@@ -290,7 +297,7 @@ fn request_of<'a>(
         "apply" => Request::Apply {
             old: file_of(matches, "OLD"),
             changes: file_of(matches, "CHANGES"),
-            direction: direction_of(matches),
+            how: applying_of(matches)?,
         },
         "merge" => Request::Merge {
             base: file_of(matches, "BASE"),
@@ -307,21 +314,17 @@ fn request_of<'a>(
                 format: row_format_of(matches),
             },
         },
+        _ if matches.get_flag(KEY_ROW) => Request::DiffRows {
+            old: file_of(matches, "OLD"),
+            new: file_of(matches, "NEW"),
+            how: row_comparing_of(matches, terminal)?,
+        },
         _ => Request::Diff {
             old: file_of(matches, "OLD"),
             new: file_of(matches, "NEW"),
             how: comparing_of(alloc, matches, terminal)?,
         },
     })
-}
-
-// Which way changes are made.
-fn direction_of(matches: &ArgMatches<'_>) -> Direction {
-    if matches.get_flag("reverse") {
-        Direction::Backward
-    } else {
-        Direction::Forward
-    }
 }
 
 // How the rows of a join are written.
@@ -549,6 +552,7 @@ fn file_arg<'a>(alloc: Global, name: &'a str, help: &'a str) -> Arg<'a> {
 fn put_options<'a>(alloc: Global, args: &mut Vec<Arg<'a>>, name: &str) -> Result<(), AllocError> {
     match name {
         "diff" => {
+            put(args, key_row(alloc))?;
             put(args, choice(alloc, FORMAT))?;
             put(args, choice(alloc, COLOR))?;
             put_view(alloc, args)?;
@@ -558,7 +562,7 @@ fn put_options<'a>(alloc: Global, args: &mut Vec<Arg<'a>>, name: &str) -> Result
             put(args, sorted(alloc)?)
         }
         "apply" => {
-            put(args, reverse(alloc))?;
+            put_applying(alloc, args)?;
             put(args, choice(alloc, REPORT))?;
             put_renames(alloc, args)?;
             put(args, quiet(alloc)?)
@@ -585,14 +589,6 @@ fn put_options<'a>(alloc: Global, args: &mut Vec<Arg<'a>>, name: &str) -> Result
         "overlay" => put(args, cells(alloc)?),
         _ => Ok(()),
     }
-}
-
-fn reverse<'a>(alloc: Global) -> Arg<'a> {
-    flag(
-        alloc,
-        "reverse",
-        "The changes are taken back: OLD is the table that they made",
-    )
 }
 
 fn prefix<'a>(alloc: Global) -> Arg<'a> {

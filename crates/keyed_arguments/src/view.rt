@@ -137,8 +137,12 @@ fn check_whole(matches: &ArgMatches<'_>) -> Result<(), ParseError> {
     Ok(())
 }
 
-// Tells that changes are counted in a form that has a place for their counts.
-fn check_counted(matches: &ArgMatches<'_>) -> Result<(), ParseError> {
+/// Tells that changes are counted in a form that has a place for their counts.
+///
+/// # Errors
+///
+/// Returns a `ParseError::Value` if they are to be in one that has none.
+pub fn check_counted(matches: &ArgMatches<'_>) -> Result<(), ParseError> {
     if !matches.get_flag("summary") {
         return Ok(());
     }
@@ -156,8 +160,12 @@ fn check_counted(matches: &ArgMatches<'_>) -> Result<(), ParseError> {
     })
 }
 
-// Tells that all rows are to come out, or none.
-fn check_each_row(rows: RowsShown) -> Result<(), ParseError> {
+/// Tells that all rows are to come out, or none.
+///
+/// # Errors
+///
+/// Returns a `ParseError::Value` if the first ones alone are to.
+pub fn check_each_row(rows: RowsShown) -> Result<(), ParseError> {
     match rows {
         RowsShown::First(_) => Err(ParseError::Value {
             option: "limit",
@@ -167,8 +175,9 @@ fn check_each_row(rows: RowsShown) -> Result<(), ParseError> {
     }
 }
 
-// An answer of which the status alone is wanted, and of all columns as they stand, takes the form that is made with the least.
-fn format_of(
+/// The form of what is printed. An answer of which the status alone is wanted, and of all columns as they stand, takes the one that is made
+/// with the least.
+pub fn format_of(
     matches: &ArgMatches<'_>,
     picked: Picked<'_>,
     sameness: Option<Sameness<'_>>,
@@ -237,8 +246,12 @@ fn check_names(alloc: Global, option: &'static str, text: &str) -> Result<(), Pa
     }
 }
 
-// The rows that are shown.
-fn rows_of(matches: &ArgMatches<'_>) -> Result<RowsShown, ParseError> {
+/// The rows that are shown.
+///
+/// # Errors
+///
+/// Returns a `ParseError::Value` if what is given is no number of rows.
+pub fn rows_of(matches: &ArgMatches<'_>) -> Result<RowsShown, ParseError> {
     if matches.get_flag("summary") {
         return Ok(RowsShown::Nothing);
     }

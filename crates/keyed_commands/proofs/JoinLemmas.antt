@@ -81,14 +81,14 @@ unfolding repeats
 none-twice = refl
 
 -- the header that is written of names is that of the names that are asked for
-same_heading : (has shows : Bool) (made : RowFormat) (header names : List (List ℕ)) → made ≡ format.Csv → header ≡ (if has then names_as made names else [])
+pub same_heading : (has shows : Bool) (made : RowFormat) (header names : List (List ℕ)) → made ≡ format.Csv → header ≡ (if has then names_as made names else [])
     → (if has && shows then join_heading header else []) ≡ (if has && shows then join_heading names else [])
 same_heading true true format.Csv header names csv is = ap join_heading is
 same_heading true true format.Json header names csv is = absurd (cc csv)
 same_heading true false made header names csv is = refl
 same_heading false shows made header names csv is = refl
 
-once_asked : (has : Bool) (made : RowFormat) (header names : List (List ℕ)) → made ≡ format.Csv → header ≡ (if has then names_as made names else [])
+pub once_asked : (has : Bool) (made : RowFormat) (header names : List (List ℕ)) → made ≡ format.Csv → header ≡ (if has then names_as made names else [])
     → repeats [] header ≡ false → has ≡ true → repeats [] names ≡ false
 once_asked true format.Csv header names csv is once headed = subst (λ l. repeats [] l ≡ false) is once
 once_asked true format.Json header names csv is once headed = absurd (cc csv)

@@ -16,11 +16,17 @@ pub mod NotedLemmas
 pub mod OnceLemmas
 pub mod OneSideLemmas
 pub mod OverlayLemmas
+pub mod PartReadLemmas
+pub mod PartsSaidLemmas
+pub mod PartsWrittenLemmas
 pub mod ReadLemmas
+pub mod RejectedLemmas
 pub mod ReportLemmas
+pub mod RowDiffLemmas
 pub mod RequestLemmas
 pub mod SignedLemmas
 pub mod SortedLemmas
+pub mod SortedTextLemmas
 pub mod SpelledLemmas
 pub mod TableBackLemmas
 pub mod TextAnswerLemmas

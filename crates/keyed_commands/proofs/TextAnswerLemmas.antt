@@ -1,11 +1,11 @@
 -- From what `apply` and `merge` answer of sources to what they answer of texts.
-use Rattle.std.proofs.Common.{◌≡◌, ℕ, false, List, Option, None, Some, refl, subst}
+use Rattle.std.proofs.Common.{◌≡◌, ℕ, false, List, Option, None, Some, refl, subst, sym}
 use Rattle.std.specs.Prelude.{IfSome}
 use Rattle.keyed_requests.specs.AnswerForm.{in_style}
 use Rattle.keyed_requests.specs.declared.merging.Unit.{Unit}
 use Rattle.keyed_requests.specs.declared.request.Form.{Form}
 use Rattle.keyed_requests.specs.declared.request.Settings.{Settings}
-use Rattle.keyed_files.specs.Gone.{IsGoneRead, IsTurned}
+use Rattle.keyed_files.specs.Gone.{CameOf, GoneOf, IsGoneRead, IsTurned}
 use Rattle.keyed_columns.specs.Keys.{AreChangedColumnsBy, AreMergedColumnsBy}
 use Rattle.keyed_columns.specs.Spelled.{IsSpelledAs}
 use Rattle.keyed_columns.specs.declared.columns.Columns.{Columns}
@@ -17,7 +17,9 @@ use Rattle.keyed_files.specs.declared.opened.Opened.{Opened}
 use Rattle.keyed_files.specs.declared.opened.Stream.{Stream}
 use Rattle.keyed_files.specs.declared.opened.Two.{Two}
 use Rattle.keyed_requests.specs.declared.request.Direction.{Direction}
-use Rattle.keyed_commands.specs.AppliedTexts.{AnswersApplied, AppliesSources, AppliesStreams, AppliesTexts}
+use Rattle.keyed_requests.specs.declared.request.Direction.TheVariants.{Backward, Forward}
+use Rattle.keyed_commands.specs.AppliedTexts.{AppliesSources, AppliesStreams, AppliesTexts, ChangesSources, ChangesTexts, OfChanges, PartlySources, PartlyStreams, PartlyTexts, applies}
+use Rattle.keyed_commands.specs.Rejected.{AnswersPartly, plain}
 use Rattle.keyed_tables.specs.Arranged.{noted}
 use Rattle.keyed_commands.specs.ChangesRead.{SaysChanges}
 use Rattle.keyed_commands.specs.FileOrder.{begun_keys, noted_with, placed_with}
@@ -25,7 +27,9 @@ use Rattle.keyed_commands.specs.MergedTexts.{AnswersBy, MergesSources, MergesStr
 use Rattle.keyed_commands.specs.TablesRead.{IsUnordered, ReadsTable, SaysTable}
 use Rattle.keyed_commands.specs.Turned.{changes_in}
 use Rattle.keyed_commands.specs.declared.answer.Answer.{Answer}
+use Rattle.keyed_commands.specs.declared.commands.partly.Partly.{Partly}
 use Rattle.keyed_commands.specs.declared.job.Job.{Job}
+use Rattle.keyed_commands.specs.declared.rejected.ChangesForm.{ChangesForm}
 use Rattle.keyed_commands.proofs.GoneLemmas.{both-of, leave-of, names-turned, open-turned, spelled-of}
 use Rattle.keyed_commands.proofs.NotedLemmas.{notes-known}
 use Rattle.keyed_commands.proofs.ReadLemmas.{are-names, both-known}
@@ -63,50 +67,102 @@ says : {R : Type 0} (rem : R → Option (List ℕ)) (settings : Settings) (job :
 says rem settings job form text header named table groups read begun =
     subst (λ g. SaysTable form Rows g text header named.source.value.header.names job.columns.now table) groups (read form Rows text header begun)
 
+-- what holds of two texts that are known
+known-weaker : (P Q : List ℕ → List ℕ → Type 0) (m n : Option (List ℕ)) → ((t u : List ℕ) → P t u → Q t u)
+    → IfSome m (λ t. IfSome n (λ u. P t u)) → IfSome m (λ t. IfSome n (λ u. Q t u))
+known-weaker P Q None n f h = tt
+known-weaker P Q (Some t) None f h = tt
+known-weaker P Q (Some t) (Some u) f h = f t u h
+
 -- two streams of a table and of changes, of their texts
-module _ {R : Type 0} (rem : R → Option (List ℕ)) (settings : Settings) (direction : Direction) (old changes : Stream R) (inputs named : Two R) (job : Job Columns) (answer : Answer) where
-  pub apply-streams : IsOpened rem settings.form Rows old inputs.first → IsOpened rem settings.form Changes changes inputs.next
+module _ {R : Type 0} (rem : R → Option (List ℕ)) (settings : Settings) (direction : Direction) (old changes : Stream R) (inputs named : Two R) (job : Job Columns) where
+  -- what the texts say, and the columns that go and that come by the header of the changes
+  abbrev MarkedTexts : OfChanges → List ℕ → List ℕ → Type 0
+  MarkedTexts holds t u = (GoneOf (form_of settings.form changes) u inputs.next.source.value.header.gone × CameOf (form_of settings.form changes) u inputs.next.source.value.header.came)
+      × ChangesTexts holds settings direction (form_of settings.form old) (form_of settings.form changes) t u
+
+  changes-streams : (holds : OfChanges) → IsOpened rem settings.form Rows old inputs.first → IsOpened rem settings.form Changes changes inputs.next
       → IsGoneRead rem settings.form Changes changes inputs.next → IsNamedAnew settings inputs.first.source.value named.first.source.value → IsTurned direction inputs.next.source.value named.next.source.value
       → job.form ≡ settings.form → job.groups ≡ settings.groups → (settings.keeps_order ≡ false → IsUnordered job) → noted job.order ≡ begun_keys settings.keeps_order
       → AreChangedColumnsBy settings.key named.first.source.value.header.names named.next.source.value.header.names named.next.source.value.header.gone job.columns.now
       → IsSpelledAs named.first.source.value.header.spelling.names named.first.source.value.header.spelling.spelled job.columns.now
-      → AppliesSources rem job direction named answer → AppliesStreams rem settings direction old changes answer
-  apply-streams first next goes renamed turned form groups unordered begins columned spells read =
-      both-known {T = λ t u. AppliesTexts settings direction (form_of settings.form old) (form_of settings.form changes) t u answer} _ _ first
+      → ChangesSources rem holds job direction named
+      → IfSome (text_of_stream rem settings.form old) (λ t. IfSome (text_of_stream rem settings.form changes) (λ u. MarkedTexts holds t u))
+  changes-streams holds first next goes renamed turned form groups unordered begins columned spells read =
+      both-known {T = λ t u. MarkedTexts holds t u} _ _ first
       (both-of _ _ (text_of_stream rem settings.form changes) next (goes refl)) (λ t u opened beside.
       let begun = open-anew rem settings (form_of settings.form old) Rows t inputs.first.source.value.header.names inputs.first.source.value named.first.source.value renamed opened in
       let old_says = says rem settings job (form_of settings.form old) t inputs.first.source.value.header.names named.first read.old groups read.old_read begun in
       let next_begun = subst (λ names. IsOpen (form_of settings.form changes) Changes rem u names named.next.source.value)
       (names-turned direction inputs.next.source.value named.next.source.value turned)
       (open-turned rem direction (form_of settings.form changes) Changes u _ inputs.next.source.value named.next.source.value turned beside.0) in
-      let changes_read = read.changes_read (form_of settings.form changes) u named.next.source.value.header.names next_begun in record {
-        columns = job.columns.now;
-        header = inputs.first.source.value.header.names;
-        names = named.first.source.value.header.names;
-        changes_header = named.next.source.value.header.names;
-        gone = named.next.source.value.header.gone;
-        columned = columned;
-        named = (renamed.0.header.names, are-names settings.key _ renamed.0 renamed.1, are-names settings.renames renamed.0 _ renamed.2);
-        old = read.old;
-        changes = read.changes;
-        old_says = old_says;
-        spelled = named.first.source.value.header.spelling.spelled;
-        spelled_said = spelled-of rem (form_of settings.form old) Rows t _ named.first.source.value old_says.1.0 old_says.1.1 begun;
-        headed = refl;
-        spells = subst (λ names. IsSpelledAs names named.first.source.value.header.spelling.spelled job.columns.now) begun.named spells;
-        changes_say = subst (λ g. SaysChanges (form_of settings.form changes) g u named.next.source.value.header.names named.next.source.value.header.names job.columns.now read.changes)
-            groups changes_read;
-        gone_said = leave-of rem (form_of settings.form changes) u inputs.next.source.value changes_read.1.0 changes_read.1.1 direction named.next.source.value turned beside.1;
-        ordered = notes-known rem Changes job.columns.now job.columns.now named.first.source.value named.next.source.value noted_with settings.keeps_order (noted job.order) read.applied.keys
-            (form_of settings.form old) (form_of settings.form changes) t u _ _ begins read.notes begun next_begun;
-        applied = record {
-          style = read.applied.style;
-          keys = read.applied.keys;
-          by_cells = read.applied.by_cells;
-          applied = subst (λ f. AnswersApplied (in_style read.applied.style f) job.columns.now read.applied.keys read.applied.by_cells read.old (changes_in direction read.changes) answer) form read.applied.applied;
-          order = λ by_key. read.applied.order (unordered by_key);
-        };
-      })
+      let changes_read = read.changes_read (form_of settings.form changes) u named.next.source.value.header.names next_begun in
+      let source = inputs.next.source.value in
+      let turned_source = record source { header = record source.header { gone = source.header.came; came = source.header.gone } } in (
+        (
+          leave-of rem (form_of settings.form changes) u source changes_read.1.0 changes_read.1.1 Forward source refl beside.1,
+          leave-of rem (form_of settings.form changes) u source changes_read.1.0 changes_read.1.1 Backward turned_source refl beside.1,
+        ),
+        record {
+          columns = job.columns.now;
+          header = inputs.first.source.value.header.names;
+          names = named.first.source.value.header.names;
+          changes_header = named.next.source.value.header.names;
+          gone = named.next.source.value.header.gone;
+          columned = columned;
+          named = (renamed.0.header.names, are-names settings.key _ renamed.0 renamed.1, are-names settings.renames renamed.0 _ renamed.2);
+          old = read.old;
+          changes = read.changes;
+          old_says = old_says;
+          spelled = named.first.source.value.header.spelling.spelled;
+          spelled_said = spelled-of rem (form_of settings.form old) Rows t _ named.first.source.value old_says.1.0 old_says.1.1 begun;
+          headed = refl;
+          spells = subst (λ names. IsSpelledAs names named.first.source.value.header.spelling.spelled job.columns.now) begun.named spells;
+          changes_say = subst (λ g. SaysChanges (form_of settings.form changes) g u named.next.source.value.header.names named.next.source.value.header.names job.columns.now read.changes)
+              groups changes_read;
+          gone_said = leave-of rem (form_of settings.form changes) u inputs.next.source.value changes_read.1.0 changes_read.1.1 direction named.next.source.value turned beside.1;
+          ordered = notes-known rem Changes job.columns.now job.columns.now named.first.source.value named.next.source.value noted_with settings.keeps_order (noted job.order) read.applied.keys
+              (form_of settings.form old) (form_of settings.form changes) t u _ _ begins read.notes begun next_begun;
+          applied = record {
+            style = read.applied.style;
+            keys = read.applied.keys;
+            by_cells = read.applied.by_cells;
+            applied = subst (λ f. holds (in_style read.applied.style f) job.columns.now read.applied.keys read.applied.by_cells read.old (changes_in direction read.changes)) form read.applied.applied;
+            order = λ by_key. read.applied.order (unordered by_key);
+          };
+        },
+      ))
+
+  pub apply-streams : (answer : Answer) → IsOpened rem settings.form Rows old inputs.first → IsOpened rem settings.form Changes changes inputs.next
+      → IsGoneRead rem settings.form Changes changes inputs.next → IsNamedAnew settings inputs.first.source.value named.first.source.value → IsTurned direction inputs.next.source.value named.next.source.value
+      → job.form ≡ settings.form → job.groups ≡ settings.groups → (settings.keeps_order ≡ false → IsUnordered job) → noted job.order ≡ begun_keys settings.keeps_order
+      → AreChangedColumnsBy settings.key named.first.source.value.header.names named.next.source.value.header.names named.next.source.value.header.gone job.columns.now
+      → IsSpelledAs named.first.source.value.header.spelling.names named.first.source.value.header.spelling.spelled job.columns.now
+      → AppliesSources rem job direction named answer → AppliesStreams rem settings direction old changes answer
+  apply-streams answer first next goes renamed turned form groups unordered begins columned spells read =
+      known-weaker (λ t u. MarkedTexts (applies answer) t u) (λ t u. AppliesTexts settings direction (form_of settings.form old) (form_of settings.form changes) t u answer)
+      (text_of_stream rem settings.form old) (text_of_stream rem settings.form changes) (λ t u known. known.1)
+      (changes-streams (applies answer) first next goes renamed turned form groups unordered begins columned spells read)
+
+  pub partly-streams : (how : ChangesForm) (partly : Partly) → how.form ≡ plain (form_of settings.form changes) → how.going ≡ inputs.next.source.value.header.gone
+      → how.coming ≡ inputs.next.source.value.header.came → IsOpened rem settings.form Rows old inputs.first → IsOpened rem settings.form Changes changes inputs.next
+      → IsGoneRead rem settings.form Changes changes inputs.next → IsNamedAnew settings inputs.first.source.value named.first.source.value → IsTurned direction inputs.next.source.value named.next.source.value
+      → job.form ≡ settings.form → job.groups ≡ settings.groups → (settings.keeps_order ≡ false → IsUnordered job) → noted job.order ≡ begun_keys settings.keeps_order
+      → AreChangedColumnsBy settings.key named.first.source.value.header.names named.next.source.value.header.names named.next.source.value.header.gone job.columns.now
+      → IsSpelledAs named.first.source.value.header.spelling.names named.first.source.value.header.spelling.spelled job.columns.now
+      → PartlySources rem job how direction named partly → PartlyStreams rem settings direction old changes partly
+  partly-streams how partly plainly going coming first next goes renamed turned form groups unordered begins columned spells read =
+      known-weaker (λ t u. MarkedTexts (AnswersPartly direction how partly) t u) (λ t u. PartlyTexts settings direction (form_of settings.form old) (form_of settings.form changes) t u partly)
+      (text_of_stream rem settings.form old) (text_of_stream rem settings.form changes) (λ t u known. (
+        how,
+        record {
+          form = plainly;
+          going = subst (GoneOf (form_of settings.form changes) u) (sym going) known.0.0;
+          coming = subst (CameOf (form_of settings.form changes) u) (sym coming) known.0.1;
+        },
+        known.1,
+      ))
+      (changes-streams (AnswersPartly direction how partly) first next goes renamed turned form groups unordered begins columned spells read)
 
 -- three streams of versions of a table, of their texts
 module _ {R : Type 0} (rem : R → Option (List ℕ)) (by : Unit) (settings : Settings) (base ours theirs : Stream R) (opened named : Opened R) (sides : Two R) (job : Job Columns)

@@ -42,7 +42,7 @@ use Rattle.keyed_commands.proofs.GatheredLemmas.{Climbing, HasRow, climbing, fla
 use Rattle.keyed_commands.proofs.LawLemmas.{diff_reads, has-header}
 
 -- of the same rows there is one table
-table_once : (groups : Bool) (rows others : List ReadRow) (table other : TableRows) → map parts_of rows ≡ map parts_of others
+pub table_once : (groups : Bool) (rows others : List ReadRow) (table other : TableRows) → map parts_of rows ≡ map parts_of others
     → Gathers groups rows table → Gathers groups others other → table ≡ other
 table_once groups rows others table other same a b =
     one-table key_cmp key_total key_exact key_cmp key_total key_exact (map parts_of others) table other

@@ -4,7 +4,7 @@ use Rattle.keyed_text.specs.declared.style.Style.{Style}
 use Rattle.keyed_requests.specs.AnswerForm.{in_style}
 use Rattle.keyed_requests.specs.declared.request.Form.{Form}
 use Rattle.keyed_requests.specs.declared.request.Settings.{Settings}
-use Rattle.keyed_files.specs.Gone.{LeaveOf}
+use Rattle.keyed_files.specs.Gone.{CameOf, GoneOf, LeaveOf}
 use Rattle.keyed_columns.specs.Keys.{AreChangedColumnsBy}
 use Rattle.keyed_columns.specs.Spelled.{IsSpelledAs, SpelledOf}
 use Rattle.keyed_columns.specs.declared.columns.Columns.{Columns}
@@ -16,11 +16,14 @@ use Rattle.keyed_requests.specs.declared.request.Direction.{Direction}
 use Rattle.keyed_tables.specs.Arranged.{noted}
 use Rattle.keyed_commands.specs.Answers.{AllFit, AnswersPatched, Stops, TableChanges, TableRows, key_cmp}
 use Rattle.keyed_commands.specs.ChangesRead.{ReadsChanges, SaysChanges}
+use Rattle.keyed_commands.specs.Rejected.{AnswersPartly, plain}
 use Rattle.keyed_commands.specs.FileOrder.{AreKeysOfBoth, NotesBoth, noted_with}
 use Rattle.keyed_commands.specs.TablesRead.{AreNamesBy, IsUnordered, ReadsTable, SaysTable}
 use Rattle.keyed_commands.specs.Turned.{changes_in}
 use Rattle.keyed_commands.specs.declared.answer.Answer.{Answer}
+use Rattle.keyed_commands.specs.declared.commands.partly.Partly.{Partly}
 use Rattle.keyed_commands.specs.declared.job.Job.{Job}
+use Rattle.keyed_commands.specs.declared.rejected.ChangesForm.{ChangesForm}
 use Rattle.keyed_commands.specs.declared.styles.Watched.{Watched}
 
 -- what a reader that is watched has left
@@ -33,18 +36,23 @@ pub record AnswersApplied (form : Form) (columns : Columns) (keys : Option (List
   pub fits : AllFit key_cmp old changes → AnswersPatched form columns keys by_cells old changes answer
   pub misfits : (AllFit key_cmp old changes → ⊥) → Stops answer
 
+-- what is said of an answer by the form and the columns with which it is written, the keys that are noted and whether groups have the order
+-- of cells, the table and the changes
+abbrev pub OfChanges : Type 1
+OfChanges = Form → Columns → Option (List (List (List ℕ))) → Bool → TableRows → TableChanges → Type 0
+
 -- the same, written in a style, with the order in which rows come out
-pub record AppliedIn (form : Form) (columns : Columns) (unordered : Type 0) (old : TableRows) (changes : TableChanges) (answer : Answer) : Type 0 where
+pub record AppliedIn (holds : OfChanges) (form : Form) (columns : Columns) (unordered : Type 0) (old : TableRows) (changes : TableChanges) : Type 0 where
   pub style : Style
   pub keys : Option (List (List (List ℕ)))
   pub by_cells : Bool
-  pub applied : AnswersApplied (in_style style form) columns keys by_cells old changes answer
+  pub applied : holds (in_style style form) columns keys by_cells old changes
   pub order : unordered → (keys ≡ None) × (by_cells ≡ true)
 
--- what `apply` answers of two texts: the first says a table and the second one changes, under the columns of the table that they make, of
+-- what is answered of two texts: the first says a table and the second one changes, under the columns of the table that they make, of
 -- which those go that the header of changes says, and whose heading is spelled as the header of the first text is; backward, each change is
 -- turned about, and the columns go that came
-pub record AppliesTexts (settings : Settings) (direction : Direction) (old_form changes_form : Form) (old_text changes_text : List ℕ) (answer : Answer) : Type 0 where
+pub record ChangesTexts (holds : OfChanges) (settings : Settings) (direction : Direction) (old_form changes_form : Form) (old_text changes_text : List ℕ) : Type 0 where
   pub columns : Columns
   pub header : List (List ℕ)
   pub names : List (List ℕ)
@@ -61,22 +69,54 @@ pub record AppliesTexts (settings : Settings) (direction : Direction) (old_form 
   pub spelled_said : SpelledOf old_form Rows old_text spelled
   pub spells : IsSpelledAs header spelled columns
   pub headed : old_form.has_header ≡ settings.form.has_header
-  pub applied : AppliedIn settings.form columns (settings.keeps_order ≡ false) old (changes_in direction changes) answer
+  pub applied : AppliedIn holds settings.form columns (settings.keeps_order ≡ false) old (changes_in direction changes)
   pub ordered : AreKeysOfBoth old_form changes_form Changes old_text changes_text names changes_header columns columns noted_with settings.keeps_order applied.keys
+
+-- what `apply` says of its answer
+abbrev pub applies : Answer → OfChanges
+applies answer = λ form columns keys by_cells old changes. AnswersApplied form columns keys by_cells old changes answer
+
+-- what `apply` answers of two texts
+abbrev pub AppliesTexts : Settings → Direction → Form → Form → List ℕ → List ℕ → Answer → Type 0
+AppliesTexts settings direction old_form changes_form old_text changes_text answer =
+    ChangesTexts (applies answer) settings direction old_form changes_form old_text changes_text
+
+-- how changes of a text are written again: in the form in which they are read, with their header, in no style of a table, and with the
+-- columns that their header says go and come
+pub record AreWrittenAs (changes_form : Form) (changes_text : List ℕ) (how : ChangesForm) : Type 0 where
+  pub form : how.form ≡ plain changes_form
+  pub going : GoneOf changes_form changes_text how.going
+  pub coming : CameOf changes_form changes_text how.coming
+
+-- what `apply` answers of two texts where changes need not fit
+abbrev pub PartlyTexts : Settings → Direction → Form → Form → List ℕ → List ℕ → Partly → Type 0
+PartlyTexts settings direction old_form changes_form old_text changes_text partly = (how : ChangesForm) × AreWrittenAs changes_form changes_text how
+    × ChangesTexts (AnswersPartly direction how partly) settings direction old_form changes_form old_text changes_text
 
 module _ {R : Type 0} (remaining : R → Option (List ℕ)) where
   -- the same of a source of a table and one of changes
-  pub record AppliesSources (job : Job Columns) (direction : Direction) (inputs : Two R) (answer : Answer) : Type 0 where
+  pub record ChangesSources (holds : OfChanges) (job : Job Columns) (direction : Direction) (inputs : Two R) : Type 0 where
     pub old : TableRows
     pub changes : TableChanges
     pub old_read : ReadsTable remaining job.groups job.columns.now inputs.first.source.value old
     pub changes_read : ReadsChanges remaining job.groups job.columns.now inputs.next.source.value changes
-    pub applied : AppliedIn job.form job.columns.now (IsUnordered job) old (changes_in direction changes) answer
+    pub applied : AppliedIn holds job.form job.columns.now (IsUnordered job) old (changes_in direction changes)
     pub notes : NotesBoth remaining Changes job.columns.now job.columns.now inputs.first.source.value inputs.next.source.value noted_with (noted job.order)
         applied.keys
+
+  abbrev pub AppliesSources : Job Columns → Direction → Two R → Answer → Type 0
+  AppliesSources job direction inputs answer = ChangesSources (applies answer) job direction inputs
+
+  abbrev pub PartlySources : Job Columns → ChangesForm → Direction → Two R → Partly → Type 0
+  PartlySources job how direction inputs partly = ChangesSources (AnswersPartly direction how partly) job direction inputs
 
   -- and of two streams whose texts are known
   abbrev pub AppliesStreams : Settings → Direction → Stream R → Stream R → Answer → Type 0
   AppliesStreams settings direction old changes answer = IfSome (text_of_stream remaining settings.form old) (λ old_text.
       IfSome (text_of_stream remaining settings.form changes) (λ changes_text.
       AppliesTexts settings direction (form_of settings.form old) (form_of settings.form changes) old_text changes_text answer))
+
+  abbrev pub PartlyStreams : Settings → Direction → Stream R → Stream R → Partly → Type 0
+  PartlyStreams settings direction old changes partly = IfSome (text_of_stream remaining settings.form old) (λ old_text.
+      IfSome (text_of_stream remaining settings.form changes) (λ changes_text.
+      PartlyTexts settings direction (form_of settings.form old) (form_of settings.form changes) old_text changes_text partly))

@@ -17,9 +17,12 @@ pub mod OneSide
 pub mod OverlayAnswers
 pub mod PartAnswers
 pub mod Preferred
+pub mod Rejected
 pub mod Reported
 pub mod Requested
+pub mod RowDiff
 pub mod SortedParts
+pub mod SortedTexts
 pub mod TablesRead
 pub mod TextLaws
 pub mod Turned

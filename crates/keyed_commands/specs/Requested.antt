@@ -20,20 +20,30 @@ use Rattle.keyed_requests.specs.declared.request.Direction.{Direction}
 use Rattle.keyed_requests.specs.declared.request.Format.TheVariants.{Csv}
 use Rattle.keyed_requests.specs.declared.request.Joining.{Joining}
 use Rattle.keyed_requests.specs.declared.request.Layout.{Layout}
+use Rattle.keyed_requests.specs.declared.request.Misfits.{Misfits}
+use Rattle.keyed_requests.specs.declared.request.Misfits.TheVariants.{Rejected, Reported}
 use Rattle.keyed_requests.specs.declared.request.Request.{Request}
-use Rattle.keyed_requests.specs.declared.request.Request.TheVariants.{Apply, Diff, Join, Merge}
+use Rattle.keyed_requests.specs.declared.request.Request.TheVariants.{Apply, Diff, DiffRows, Join, Merge}
+use Rattle.keyed_requests.specs.declared.request.RowComparing.{RowComparing}
 use Rattle.keyed_requests.specs.declared.request.RowFormat.TheVariants as rows
 use Rattle.keyed_requests.specs.declared.request.Settings.{Settings}
+use Rattle.keyed_requests.specs.declared.request.SortedChanges.{SortedChanges}
+use Rattle.keyed_requests.specs.declared.request.SortedChanges.TheVariants as sorted_changes
+use Rattle.keyed_requests.specs.declared.request.SortedRequest.{SortedRequest}
+use Rattle.keyed_requests.specs.declared.request.SortedRequest.TheVariants as sorted
 use Rattle.keyed_requests.specs.declared.request.Wanted.{Wanted}
 use Rattle.keyed_requests.specs.declared.request.Wanted.TheVariants as wanted
-use Rattle.keyed_commands.specs.AppliedTexts.{AppliesStreams}
+use Rattle.keyed_commands.specs.AppliedTexts.{AppliesStreams, PartlyStreams}
 use Rattle.keyed_commands.specs.Beside.{DiffsStreamsBy}
 use Rattle.keyed_commands.specs.JoinAnswers.{JoinsStreams}
 use Rattle.keyed_commands.specs.LookupAnswers.{LooksUpStreams}
 use Rattle.keyed_commands.specs.MergedTexts.{IsReported, MergesStreams}
 use Rattle.keyed_commands.specs.OverlayAnswers.{OverlaysStreams}
 use Rattle.keyed_commands.specs.Reported.{IsReport, ReportsStreams}
+use Rattle.keyed_commands.specs.RowDiff.{DiffsRowStreams}
+use Rattle.keyed_commands.specs.SortedTexts.{DiffsStreamsInParts, JoinsStreamsInParts}
 use Rattle.keyed_commands.specs.declared.answer.Answer.{Answer}
+use Rattle.keyed_commands.specs.declared.commands.partly.Partly.{Partly}
 
 -- whether a name is that of the standard input
 abbrev pub is_stdin : List ℕ → Bool
@@ -75,9 +85,25 @@ module _ {F I : Type 0} (file_left : F → Option (List ℕ)) (input_left : I �
     DiffsNamed old new how answer = (first : Stream (Either F I)) × (next : Stream (Either F I)) × IsStreamOf old None first
         × IsStreamOf new settings.form.reading.next next × AnswersDiff how first next answer
 
+    abbrev pub DiffsRowsNamed : Bor (List ℕ) → Bor (List ℕ) → RowComparing → Answer → Type 0
+    DiffsRowsNamed old new how answer = (first : Stream (Either F I)) × (next : Stream (Either F I)) × IsStreamOf old None first
+        × IsStreamOf new settings.form.reading.next next × DiffsRowStreams remaining settings.form how.format first next answer
+
     abbrev pub AppliesNamed : Bor (List ℕ) → Bor (List ℕ) → Direction → Answer → Type 0
     AppliesNamed old changes direction answer = (first : Stream (Either F I)) × (next : Stream (Either F I)) × IsStreamOf old None first
         × IsStreamOf changes settings.form.reading.next next × AppliesStreams remaining settings direction first next answer
+
+    -- the same of those changes that fit; the others are there as a text, of which it is not said here where it is put
+    abbrev pub PartlyNamed : Bor (List ℕ) → Bor (List ℕ) → Direction → Partly → Type 0
+    PartlyNamed old changes direction partly = (first : Stream (Either F I)) × (next : Stream (Either F I)) × IsStreamOf old None first
+        × IsStreamOf changes settings.form.reading.next next × PartlyStreams remaining settings direction first next partly
+
+    abbrev pub RejectsNamed : Bor (List ℕ) → Bor (List ℕ) → Direction → Answer → Type 0
+    RejectsNamed old changes direction answer = (partly : Partly) × PartlyNamed old changes direction partly × (answer ≡ partly.answer)
+
+    abbrev pub ChangesNamed : Misfits → Bor (List ℕ) → Bor (List ℕ) → Direction → Answer → Type 0
+    ChangesNamed Reported old changes direction answer = AppliesNamed old changes direction answer
+    ChangesNamed (Rejected file) old changes direction answer = RejectsNamed old changes direction answer
 
     abbrev pub MergesNamed : Bor (List ℕ) → Bor (List ℕ) → Bor (List ℕ) → Merging → Answer → Type 0
     MergesNamed base ours theirs how answer = (first : Stream (Either F I)) × (next : Stream (Either F I)) × (last : Stream (Either F I))
@@ -91,7 +117,8 @@ module _ {F I : Type 0} (file_left : F → Option (List ℕ)) (input_left : I �
     -- an answer is that of a request
     abbrev pub AnswersRequest : Request → Answer → Type 0
     AnswersRequest (Diff old new how) answer = DiffsNamed old new how answer
-    AnswersRequest (Apply old changes direction) answer = AppliesNamed old changes direction answer
+    AnswersRequest (DiffRows old new how) answer = DiffsRowsNamed old new how answer
+    AnswersRequest (Apply old changes how) answer = ChangesNamed how.misfits old changes how.direction answer
     AnswersRequest (Merge base ours theirs how) answer = MergesNamed base ours theirs how answer
     AnswersRequest (Join left right how) answer = JoinsNamed left right how answer
 
@@ -106,10 +133,29 @@ module _ {F I : Type 0} (file_left : F → Option (List ℕ)) (input_left : I �
       × IsStreamOf request.left None first × IsStreamOf request.right layout.form.reading.next next
       × (request.how.format ≡ rows.Csv → LooksUpStreams remaining layout request.how first next before after)
 
-  -- what a command writes, and its status: of tables that are read in the order of their keys it is told for each part, and here only that
-  -- nothing is written where the status alone is wanted
+  -- of tables that are read part by part: the changes between them as CSV are put after what was written, or their join
+  abbrev pub DiffsNamedInParts : Layout → Bor (List ℕ) → Bor (List ℕ) → SortedChanges → Option (List ℕ) → Option (List ℕ) → ℕ → Type 0
+  DiffsNamedInParts layout old new how before after status = (first : Stream (Either F I)) × (next : Stream (Either F I))
+      × IsStreamOf old None first × IsStreamOf new layout.form.reading.next next
+      × (how ≡ sorted_changes.Csv → DiffsStreamsInParts remaining layout first next before after status)
+
+  abbrev pub JoinsNamedInParts : Layout → Bor (List ℕ) → Bor (List ℕ) → Joining → Option (List ℕ) → Option (List ℕ) → ℕ → Type 0
+  JoinsNamedInParts layout left right how before after status = (first : Stream (Either F I)) × (next : Stream (Either F I))
+      × IsStreamOf left None first × IsStreamOf right layout.form.reading.next next
+      × (how.format ≡ rows.Csv → JoinsStreamsInParts remaining layout how first next before after status)
+
+  abbrev pub WritesSorted : Layout → SortedRequest → Option (List ℕ) → Option (List ℕ) → ℕ → Type 0
+  WritesSorted layout (sorted.Diff old new how) before after status = DiffsNamedInParts layout old new how before after status
+  WritesSorted layout (sorted.Join left right how) before after status = JoinsNamedInParts layout left right how before after status
+
+  -- the same, or the status alone is wanted, and nothing is written
+  abbrev pub WritesSortedWanted : Layout → SortedRequest → Wanted → Option (List ℕ) → Option (List ℕ) → ℕ → Type 0
+  WritesSortedWanted layout request wanted.Answer before after status = WritesSorted layout request before after status
+  WritesSortedWanted layout request wanted.Status before after status = after ≡ before
+
+  -- what a command writes, and its status
   abbrev pub WritesCommand : Command → Option (List ℕ) → Option (List ℕ) → ℕ → Type 0
   WritesCommand (command.Whole settings request which) before after status = WritesWanted (AnswersRequest settings request) which before after status
-  WritesCommand (command.Sorted layout request which) before after status = which ≡ wanted.Status → after ≡ before
+  WritesCommand (command.Sorted layout request which) before after status = WritesSortedWanted layout request which before after status
   WritesCommand (command.Lookup layout request) before after status = LooksUpNamed layout request before after × (status ≡ 0)
   WritesCommand (command.Overlay settings request) before after status = WritesAnswer (OverlaysNamed settings request) before after status

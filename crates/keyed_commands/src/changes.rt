@@ -10,7 +10,9 @@ use eob_joins::Change;
 use keyed_columns::Columns;
 use keyed_faults::Reason;
 use keyed_files::{Sign, Written};
+use keyed_requests::Form;
 use keyed_rows::{Cells, Group, Key};
+use std::alloc::Global;
 
 /// Changes, as `apply` reads them: a row that goes begins with `-`, one that comes with `+`. The header has the names
 /// of the columns as they are marked. Each change is dropped once it is written.
@@ -28,18 +30,23 @@ pub fn write_changes(
         (changes_heading job.now.form marked.now
         ++ changes_rows job.now.columns.now.order.items changes.items)) }
 {
-    let mut written = begin_changes(job, marked)?;
+    let mut written = begin_changes(job.alloc, job.form, marked)?;
     put_changes(&mut written, job.columns, changes)?;
     let text = written.finish()?;
     Ok(text)
 }
 
-// The header of changes, where answers have a heading.
-fn begin_changes(job: &Job<'_, Columns>, marked: &Cells) -> Result<Written, Reason>
-    ensures { IfOk result (λ written. Wrote job.now.form (changes_heading job.now.form marked.now) written) }
+/// Changes in the making with their header, where answers have a heading: the name of the column of signs, and the names of the columns as
+/// they are marked.
+///
+/// # Errors
+///
+/// Returns `NoMemory`, or `Io` with the error that the writer makes of it, if a request for memory was refused.
+pub fn begin_changes(alloc: Global, form: Form, marked: &Cells) -> Result<Written, Reason>
+    ensures { IfOk result (λ written. Wrote form (changes_heading form marked.now) written) }
 {
-    let mut written = Written::new(job.alloc, job.form);
-    let has_heading = job.form.writes_heading();
+    let mut written = Written::new(alloc, form);
+    let has_heading = form.writes_heading();
     if has_heading {
         written.put_change_heading(marked)?;
         Ok(written)

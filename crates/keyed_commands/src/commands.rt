@@ -8,3 +8,5 @@ pub mod join_json;
 pub mod lookup;
 pub mod merge;
 pub mod overlay;
+pub mod partly;
+pub mod row_diff;

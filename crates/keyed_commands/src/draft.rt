@@ -3,6 +3,7 @@
 //! The draft of `out` is `.out.keyed-PROCESS-NUMBER`. A process that a signal ends leaves its draft after. The next one that writes the
 //! same file takes it away, since no process has its number, and leaves the drafts of those that still run.
 
+use crate::files::write_whole;
 use keyed_faults::Reason;
 use std::alloc::{AllocError, Global};
 use std::fs;
@@ -189,6 +190,26 @@ impl Beside {
     // Removes the draft.
     fn remove<R: Files>(&self, rt: &R) {
         let _ = fs::remove_file(rt, self.name.as_str());
+    }
+}
+
+/// Puts these bytes, all of them or none, in the place of a file.
+///
+/// # Errors
+///
+/// Returns the errors of `Draft::begin` and of `Draft::put`, and that of the draft where it can't be written: then the file is as it was.
+pub(crate) fn put_bytes<R: Files + AllocGlobal>(
+    rt: &R,
+    file: &str,
+    bytes: &[u8],
+) -> Result<(), Reason> {
+    let mut draft = Draft::begin(rt, file)?;
+    match write_whole(&mut draft.file, bytes) {
+        Ok(()) => draft.put(rt),
+        Err(error) => {
+            draft.remove(rt);
+            Err(Reason::from(error))
+        }
     }
 }
 

@@ -1,9 +1,10 @@
 //! From the files that a request names to its answer.
 ghost use Rattle.std.specs.Prelude.{◌≡◌, ◌++◌, ◌∷◌, [], IfOk, OnOk};
 ghost use Rattle.std.specs.Io.KnownBytes.{Appends};
-ghost use Rattle.keyed_commands.specs.Requested.{AnswersRequest, AppliesNamed, AreStreamsOf, DiffsNamed};
+ghost use Rattle.keyed_commands.specs.Requested.{AnswersRequest, AppliesNamed, AreStreamsOf, ChangesNamed, DiffsNamed};
+ghost use Rattle.keyed_commands.specs.Requested.{DiffsNamedInParts, DiffsRowsNamed, JoinsNamedInParts, WritesSorted};
 ghost use Rattle.keyed_commands.specs.Requested.{IsStreamOf, JoinsNamed, LooksUpNamed, MergesNamed};
-ghost use Rattle.keyed_commands.specs.Requested.{OverlaysNamed, WritesAnswer, WritesCommand};
+ghost use Rattle.keyed_commands.specs.Requested.{OverlaysNamed, PartlyNamed, RejectsNamed, WritesAnswer, WritesCommand};
 ghost use Rattle.keyed_commands.specs.Requested.{WritesWanted};
 
 use crate::answer::Answer;
@@ -13,14 +14,18 @@ use crate::commands::join::join;
 use crate::commands::lookup::lookup;
 use crate::commands::merge::merge;
 use crate::commands::overlay::overlay;
+use crate::commands::partly::{Partly, apply_partly};
+use crate::commands::row_diff::diff_rows;
+use crate::draft::put_bytes;
 use crate::finished::Finished;
 use crate::sorted::{diff_sorted, join_sorted};
 use either_or_both::Either;
 use keyed_faults::{Fault, Reason, at};
 use keyed_files::Stream;
 use keyed_requests::{
-    Command, Comparing, Delimiter, Direction, Joining, Layout, Lookup as LookupRequest, Merging,
-    NamedFile, Overlay as OverlayRequest, Request, Settings, SortedRequest, Wanted,
+    Applying, Command, Comparing, Delimiter, Direction, Joining, Layout, Lookup as LookupRequest,
+    Merging, Misfits, NamedFile, Overlay as OverlayRequest, Request, RowComparing, Settings,
+    SortedChanges, SortedRequest, Wanted,
 };
 use std::alloc::AllocError;
 use std::io::Write;
@@ -214,21 +219,51 @@ pub fn stream_request<'a, R: Files + Input + AllocGlobal, W: Write>(
     layout: Layout<'a>,
     request: SortedRequest<'a>,
     output: &mut W,
-) -> Result<Finished, Fault<'a>> {
+) -> Result<Finished, Fault<'a>>
+    ensures { IfOk result (λ finished. WritesSorted R.File.remaining R.Reader.remaining layout.entry
+        request.entry (W.contents output.old) (W.contents output.new) finished.status) }
+{
     request.check_stdin()?;
-    let alloc = rt.alloc();
-    let next = layout.form.reading.next;
     match request {
-        SortedRequest::Diff { old, new, how } => {
-            let old = stream_of(rt, old, None);
-            diff_sorted(alloc, layout, how, old, stream_of(rt, new, next), output)
-        }
+        SortedRequest::Diff { old, new, how } => stream_diff(rt, layout, how, old, new, output),
         SortedRequest::Join { left, right, how } => {
-            let left = stream_of(rt, left, None);
-            let right = stream_of(rt, right, next);
-            join_sorted(alloc, layout, how, left, right, output)
+            stream_join(rt, layout, how, left, right, output)
         }
     }
+}
+
+// Writes the changes between the tables of two files while they are read.
+fn stream_diff<'a, R: Files + Input + AllocGlobal, W: Write>(
+    rt: &R,
+    layout: Layout<'a>,
+    how: SortedChanges<'a>,
+    old: &'a str,
+    new: &'a str,
+    output: &mut W,
+) -> Result<Finished, Fault<'a>>
+    ensures { IfOk result (λ finished. DiffsNamedInParts R.File.remaining R.Reader.remaining layout.entry
+        old.entry new.entry how.entry (W.contents output.old) (W.contents output.new) finished.status) }
+{
+    let old = stream_of(rt, old, None);
+    let new = stream_of(rt, new, layout.form.reading.next);
+    diff_sorted(rt.alloc(), layout, how, old, new, output)
+}
+
+// Writes the join of the tables of two files while they are read.
+fn stream_join<'a, R: Files + Input + AllocGlobal, W: Write>(
+    rt: &R,
+    layout: Layout<'a>,
+    how: Joining<'a>,
+    left: &'a str,
+    right: &'a str,
+    output: &mut W,
+) -> Result<Finished, Fault<'a>>
+    ensures { IfOk result (λ finished. JoinsNamedInParts R.File.remaining R.Reader.remaining layout.entry
+        left.entry right.entry how.entry (W.contents output.old) (W.contents output.new) finished.status) }
+{
+    let left = stream_of(rt, left, None);
+    let right = stream_of(rt, right, layout.form.reading.next);
+    join_sorted(rt.alloc(), layout, how, left, right, output)
 }
 
 /// Writes all bytes, as far as the output takes them.
@@ -244,11 +279,13 @@ pub fn write_whole<W: Write>(output: &mut W, bytes: &[u8]) -> io::Result<()>
     Ok(())
 }
 
-/// The answer to a request, of the files that it names.
+/// The answer to a request, of the files that it names. Changes that are rejected are put into the place of their file before, also where
+/// the status alone is wanted of the answer.
 ///
 /// # Errors
 ///
-/// Returns the fault of the first input that is bad: a file that can't be opened, or one of which the command can't be answered.
+/// Returns the fault of the first input that is bad: a file that can't be opened, or one of which the command can't be answered. Then, and
+/// where it can't be put into its place, which is a fault of it, the file of rejected changes is as it was.
 pub fn answer_request<'a, R: Files + Input + AllocGlobal>(
     rt: &R,
     settings: Settings<'a>,
@@ -260,11 +297,8 @@ pub fn answer_request<'a, R: Files + Input + AllocGlobal>(
     request.check_stdin()?;
     match request {
         Request::Diff { old, new, how } => answer_diff(rt, settings, how, old, new),
-        Request::Apply {
-            old,
-            changes,
-            direction,
-        } => answer_apply(rt, settings, direction, old, changes),
+        Request::DiffRows { old, new, how } => answer_row_diff(rt, settings, how, old, new),
+        Request::Apply { old, changes, how } => answer_changed(rt, settings, how, old, changes),
         Request::Merge {
             base,
             ours,
@@ -291,6 +325,58 @@ fn answer_diff<'a, R: Files + Input + AllocGlobal>(
     diff(rt.alloc(), settings, how, old, new)
 }
 
+// The rows that went and came between the tables of two files that have no key.
+fn answer_row_diff<'a, R: Files + Input + AllocGlobal>(
+    rt: &R,
+    settings: Settings<'a>,
+    how: RowComparing,
+    old: &'a str,
+    new: &'a str,
+) -> Result<Answer, Fault<'a>>
+    ensures { IfOk result (DiffsRowsNamed R.File.remaining R.Reader.remaining settings.entry
+        old.entry new.entry how) }
+{
+    let before = stream_of(rt, old, None);
+    let after = stream_of(rt, new, settings.form.reading.next);
+    diff_rows(rt.alloc(), settings.form, how, before, after)
+}
+
+// The table of a file with changes of another made to it: all of them, or those that fit.
+fn answer_changed<'a, R: Files + Input + AllocGlobal>(
+    rt: &R,
+    settings: Settings<'a>,
+    how: Applying<'a>,
+    old: &'a str,
+    changes: &'a str,
+) -> Result<Answer, Fault<'a>>
+    ensures { IfOk result (ChangesNamed R.File.remaining R.Reader.remaining settings.entry
+        how.entry.misfits old.entry changes.entry how.entry.direction) }
+{
+    match how.misfits {
+        Misfits::Reported => answer_apply(rt, settings, how.direction, old, changes),
+        Misfits::Rejected(file) => {
+            answer_rejecting(rt, settings, how.direction, old, changes, file)
+        }
+    }
+}
+
+// The table of a file with those changes of another made to it that fit. The others are put into the place of a file.
+fn answer_rejecting<'a, R: Files + Input + AllocGlobal>(
+    rt: &R,
+    settings: Settings<'a>,
+    direction: Direction,
+    old: &'a str,
+    changes: &'a str,
+    file: &'a str,
+) -> Result<Answer, Fault<'a>>
+    ensures { IfOk result (RejectsNamed R.File.remaining R.Reader.remaining settings.entry
+        old.entry changes.entry direction) }
+{
+    let partly = answer_partly(rt, settings, direction, old, changes)?;
+    at(file, put_bytes(rt, file, &partly.rejected))?;
+    Ok(partly.answer)
+}
+
 // The table of a file with the changes of another made to it.
 fn answer_apply<'a, R: Files + Input + AllocGlobal>(
     rt: &R,
@@ -305,6 +391,22 @@ fn answer_apply<'a, R: Files + Input + AllocGlobal>(
     let old = stream_of(rt, old, None);
     let changes = stream_of(rt, changes, settings.form.reading.next);
     apply(rt.alloc(), settings, direction, old, changes)
+}
+
+// The table of a file with those changes of another made to it that fit, and the others.
+fn answer_partly<'a, R: Files + Input + AllocGlobal>(
+    rt: &R,
+    settings: Settings<'a>,
+    direction: Direction,
+    old: &'a str,
+    changes: &'a str,
+) -> Result<Partly, Fault<'a>>
+    ensures { IfOk result (PartlyNamed R.File.remaining R.Reader.remaining settings.entry
+        old.entry changes.entry direction) }
+{
+    let old = stream_of(rt, old, None);
+    let changes = stream_of(rt, changes, settings.form.reading.next);
+    apply_partly(rt.alloc(), settings, direction, old, changes)
 }
 
 // The tables of two files merged over that of their base.

@@ -65,7 +65,11 @@ impl<'c, C> Job<'c, C> {
     }
 
     /// A job on parts of tables whose keys are strictly increasing.
-    pub fn sorted(alloc: Global, layout: Layout<'_>, columns: &'c C) -> Self {
+    pub fn sorted(alloc: Global, layout: Layout<'_>, columns: &'c C) -> Self
+        ensures form { result.form ≡ layout.entry.form }
+        ensures columns { result.columns.now ≡ columns.now }
+        ensures unordered { IsUnordered result }
+    {
         Job {
             alloc,
             form: layout.form,
@@ -86,6 +90,23 @@ impl<'c, C> Job<'c, C> {
             form: self.form.in_style(style),
             spelling,
             ..self
+        }
+    }
+
+    /// A job that writes rows as they stand, in a form of their own and under columns of their own.
+    pub fn to_write<'d, D>(&self, form: Form, columns: &'d D) -> Job<'d, D>
+        ensures form { result.form ≡ form }
+        ensures columns { result.columns.now ≡ columns.now }
+    {
+        Job {
+            alloc: self.alloc,
+            form,
+            look: self.look,
+            groups: self.groups,
+            columns,
+            order: Order::by_key(),
+            row_order: RowOrder::by_cells(),
+            spelling: TableSpelling::even(self.alloc),
         }
     }
 
@@ -352,8 +373,12 @@ fn row_order_of(alloc: Global, settings: Settings<'_>) -> RowOrder
     }
 }
 
-// Reads the rows after those that are there.
-fn read_rows<R: Read + Drop>(
+/// Reads the rows after those that are there.
+///
+/// # Errors
+///
+/// Returns `NoColumn` if the header lacks a column of the key, and the errors of `Source::read_row`.
+pub fn read_rows<R: Read + Drop>(
     table: &mut Opened<'_, R>,
     columns: &Columns,
     order: &mut Order,

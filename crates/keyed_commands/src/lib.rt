@@ -23,7 +23,9 @@ mod lost_cells;
 mod made_table;
 mod marks;
 mod output;
+mod parted;
 mod preferred;
+mod rejected;
 mod row_order;
 mod sorted;
 mod styles;
@@ -40,17 +42,20 @@ pub use commands::join::join;
 pub use commands::lookup::lookup;
 pub use commands::merge::merge;
 pub use commands::overlay::overlay;
+pub use commands::partly::{Partly, apply_partly};
+pub use commands::row_diff::diff_rows;
 pub use files::{answer_request, stream_request, write_command, write_request, write_whole};
 pub use finished::{Finished, SideCounts, StreamCounts};
 pub use keyed_faults::{Encoding, Fault, Reason, Shown, ShownCell, ShownName, at};
 pub use keyed_files::Stream;
 pub use keyed_reports::Counts;
 pub use keyed_requests::{
-    Asked, Colours, ColumnsShown, Command, Comment, Comparing, Conflicts, Delimiter, Direction,
-    Finding, Form, Format, GitDiff, GitMerge, GitSetup, Heading, JoinNames, Joining, Kind, Layer,
-    Layout, Lengths, Look, Lookup as LookupRequest, LookupKind, Merging, NamedFile,
-    Overlay as OverlayRequest, Picked, Quotes, Reading, Request, RowFormat, RowsShown, Sameness,
-    Settings, Side, SortedChanges, SortedRequest, Unit, View, Wanted, Writing,
+    Applying, Asked, Colours, ColumnsShown, Command, Comment, Comparing, Conflicts, Delimiter,
+    Direction, Finding, Form, Format, GitDiff, GitMerge, GitSetup, Heading, JoinNames, Joining,
+    Kind, Layer, Layout, Lengths, Look, Lookup as LookupRequest, LookupKind, Merging, Misfits,
+    NamedFile, Overlay as OverlayRequest, Picked, Quotes, Reading, Request, RowComparing,
+    RowFormat, RowsShown, Sameness, Settings, Side, SortedChanges, SortedRequest, Unit, View,
+    Wanted, Writing,
 };
 pub use keyed_text::{CellQuotes, LineEnd, Style};
 pub use laws::{

@@ -1,7 +1,7 @@
 //! Two versions of a file that is no table, compared line by line as git compares texts.
 
 use keyed_faults::Shown;
-use keyed_lines::{Becomes, Hunk, Line, compare_lines, hunks_of};
+use keyed_lines::{Hunk, Line, Part, compare_lines, hunks_of};
 use std::alloc::{AllocError, Global};
 use std::fmt::Write;
 use std::ops::Range;
@@ -66,15 +66,20 @@ fn put_range(text: &mut String, range: &Range<usize>) -> Result<(), AllocError> 
 }
 
 fn put_line(text: &mut String, line: &Line<'_>) -> Result<(), AllocError> {
-    text.push(match line.becomes {
-        Becomes::Kept => ' ',
-        Becomes::Removed => '-',
-        Becomes::Added => '+',
-    })?;
-    match line.text.strip_suffix(b"\n") {
+    match line {
+        Part::Kept(line, _) => put_after(text, ' ', line),
+        Part::Removed(line) => put_after(text, '-', line),
+        Part::Added(line) => put_after(text, '+', line),
+    }
+}
+
+// Puts a line after a sign.
+fn put_after(text: &mut String, sign: char, line: &[u8]) -> Result<(), AllocError> {
+    text.push(sign)?;
+    match line.strip_suffix(b"\n") {
         Some(shown) => writeln!(text, "{}", Shown(shown))?,
         None => {
-            writeln!(text, "{}", Shown(line.text))?;
+            writeln!(text, "{}", Shown(line))?;
             text.push_str("\\ No newline at end of file\n")?;
         }
     }

@@ -1,10 +1,10 @@
 //! Answers that go into files: each is written into a file beside the one that is named, which takes its place once the answer is whole.
 
 use crate::answer::{Answer, Outcome};
-use crate::draft::Draft;
+use crate::draft::{Draft, put_bytes};
 use crate::files::{answer_overlay, answer_request, write_command, write_whole};
 use crate::finished::Finished;
-use keyed_faults::{Fault, Reason, at};
+use keyed_faults::{Fault, at};
 use keyed_requests::{Command, Wanted};
 use std::io::Write;
 use std::rt::Files;
@@ -96,17 +96,5 @@ fn of_file<'a>(fault: Fault<'a>, file: &'a str) -> Fault<'a> {
             fault.file
         },
         reason: fault.reason,
-    }
-}
-
-// Puts these bytes in the place of a file.
-fn put_bytes<R: Files + AllocGlobal>(rt: &R, file: &str, bytes: &[u8]) -> Result<(), Reason> {
-    let mut draft = Draft::begin(rt, file)?;
-    match write_whole(&mut draft.file, bytes) {
-        Ok(()) => draft.put(rt),
-        Err(error) => {
-            draft.remove(rt);
-            Err(Reason::from(error))
-        }
     }
 }

@@ -2,16 +2,21 @@
 //!
 //! Where all rows of both tables up to a key are read, their join is the first part of the whole join (`law_cut_join` of `eob_joins`).
 ghost use Rattle.std.specs.Prelude.{◌≡◌, ◌==◌, ◌↔◌, ◌⊎◌, IfOk, IfSome, IsNone, List, false, is_none, length};
-ghost use Rattle.std.specs.Prelude.{option_map};
+ghost use Rattle.std.specs.Prelude.{if◌then◌else◌, option_map, true};
 ghost use Rattle.keyed_requests.specs.declared.request.RowFormat.TheVariants.{Csv};
+ghost use Rattle.keyed_requests.specs.declared.request.SortedChanges.TheVariants as told;
 ghost use Rattle.keyed_files.specs.Parts.{TakesUpTo, key_cmp};
 ghost use Rattle.keyed_rows.specs.declared.row.ReadRow.{ReadRow};
 ghost use Rattle.keyed_tables.specs.Arranged.{noted};
 ghost use Rattle.keyed_commands.specs.Answers.{status_of};
 ghost use Rattle.keyed_commands.specs.JoinAnswers.{IsJoinText};
 ghost use Rattle.keyed_commands.specs.Keys.{IsAtMost};
-ghost use Rattle.keyed_commands.specs.PartAnswers.{SaysChanges, SaysChangesIn};
-ghost use Rattle.keyed_commands.specs.SortedParts.{IsLesser, ReadsNext, TakesPart, bound_of};
+ghost use Rattle.keyed_commands.specs.PartAnswers.{IsByKey, SaysChanges, SaysChangesIn, SaysOf};
+ghost use Rattle.keyed_commands.specs.PartAnswers.{left_columns, on_later, right_columns, status_both};
+ghost use Rattle.keyed_commands.specs.SortedParts.{HasWritten, IsFresh, IsLesser, ReadsNext, TakesPart};
+ghost use Rattle.keyed_commands.specs.SortedParts.{WritesAll, WritesLater, WritesPart, WritesTables};
+ghost use Rattle.keyed_commands.specs.SortedParts.{bound_of};
+ghost use Rattle.keyed_commands.specs.SortedTexts.{DiffsInParts, DiffsStreamsInParts, JoinsStreamsInParts};
 ghost use Rattle.keyed_commands.specs.TablesRead.{Gathers};
 
 use crate::by_number::changed_by_number;
@@ -60,7 +65,10 @@ struct PartAnswer {
 
 impl Work<'_> {
     // The columns of the left table and of the right one.
-    fn columns(&self) -> (&Columns, &Columns) {
+    fn columns(&self) -> (&Columns, &Columns)
+        ensures left { result.0.now ≡ left_columns self.now }
+        ensures right { result.1.now ≡ right_columns self.now }
+    {
         match self {
             Work::Changes(job, _) => (job.columns, job.columns),
             Work::Join(job, _) => (&job.columns.left, &job.columns.right),
@@ -75,16 +83,27 @@ impl Work<'_> {
         }
     }
 
-    // What there is to say of a part.
-    fn answer(&self, part: Part) -> Result<PartAnswer, Reason> {
+    // What there is to say of a part, where rows come out in the order of their keys.
+    fn answer(&self, part: Part) -> Result<PartAnswer, Reason>
+        ensures { IfOk result (λ answer. IsByKey self.now → SaysOf self.now
+            part.left.pairs.items part.right.pairs.items answer.bytes.items answer.status) }
+    {
         match self {
-            Work::Changes(job, form) => changes_of_part(job, form, part),
-            Work::Join(job, form) => join_of_part(job, form, part),
+            Work::Changes(job, form) => {
+                let answer = changes_of_part(job, form, part)?;
+                Ok(answer)
+            }
+            Work::Join(job, form) => {
+                let answer = join_of_part(job, form, part)?;
+                Ok(answer)
+            }
         }
     }
 
     // One heading stands before all parts.
-    fn leave_header(&mut self) {
+    fn leave_header(&mut self)
+        ensures { self.new ≡ on_later self.old }
+    {
         match self {
             Work::Changes(job, _) => job.form.writing.heading = Heading::Omitted,
             Work::Join(job, _) => job.form.writing.heading = Heading::Omitted,
@@ -98,8 +117,8 @@ fn changes_of_part(
     form: &ChangesForm<'_>,
     part: Part,
 ) -> Result<PartAnswer, Reason>
-    ensures { IfOk result (SaysChangesIn job.now.form job.now.columns.now
-        part.left.pairs.items part.right.pairs.items form.now) }
+    ensures { IfOk result (λ answer. SaysChangesIn job.now.form job.now.columns.now form.now
+        part.left.pairs.items part.right.pairs.items answer.bytes.items answer.status) }
 {
     match form {
         ChangesForm::Csv(marked) => {
@@ -112,8 +131,8 @@ fn changes_of_part(
 
 // The same as CSV, with the names of the columns as they are marked.
 fn csv_of_part(job: &Job<'_, Columns>, marked: &Cells, part: Part) -> Result<PartAnswer, Reason>
-    ensures { IfOk result (SaysChanges job.now.form job.now.columns.now marked.now
-        part.left.pairs.items part.right.pairs.items) }
+    ensures { IfOk result (λ answer. SaysChanges job.now.form job.now.columns.now marked.now
+        part.left.pairs.items part.right.pairs.items answer.bytes.items answer.status) }
 {
     let old_rows = count_rows(&part.left.pairs);
     let changes = changes_of(job.alloc, part.left, part.right)?;
@@ -207,30 +226,72 @@ pub fn diff_sorted<'a, R: Read + Drop, W: Write>(
     old: Stream<'a, R>,
     new: Stream<'a, R>,
     output: &mut W,
-) -> Result<Finished, Fault<'a>> {
+) -> Result<Finished, Fault<'a>>
+    ensures { IfOk result (λ finished. how.entry ≡ told.Csv →
+        DiffsStreamsInParts R.remaining layout.entry old.entry new.entry
+        (W.contents output.old) (W.contents output.new) finished.status) }
+{
     let mut versions = Two::new(alloc, layout.form, Content::Rows, old, new)?;
     versions.first.rename_key(alloc, layout.key)?;
-    let (form, columns) = match how {
-        SortedChanges::Csv => {
-            let marked = versions.marked_names(alloc)?;
-            let columns = versions.change_columns(alloc, layout.key)?;
-            (ChangesForm::Csv(marked), columns)
-        }
+    match how {
+        SortedChanges::Csv => diff_as_csv(alloc, layout, versions, output),
         SortedChanges::Json { columns, sameness } => {
             let columns = columns_compared(alloc, layout, columns, sameness, &versions)?;
-            (ChangesForm::Json(sameness), columns)
+            diff_as_json(alloc, layout, &columns, sameness, versions, output)
         }
-    };
-    let lone = at(versions.next.file, lone_among(alloc, &versions, &columns))?;
-    if let ChangesForm::Json(_) = form {
-        let told = at(versions.next.file, json_columns(alloc, &lone))?;
-        at("the standard output", output.write_all(&told))?;
     }
+}
+
+// The same as CSV, of the columns of both tables.
+fn diff_as_csv<'a, R: Read + Drop, W: Write>(
+    alloc: Global,
+    layout: Layout<'a>,
+    versions: Two<'a, R>,
+    output: &mut W,
+) -> Result<Finished, Fault<'a>>
+    ensures { IfOk result (λ finished. DiffsInParts R.remaining layout.entry versions.entry
+        (W.contents output.old) (W.contents output.new) finished.status) }
+{
+    let marked = versions.marked_names(alloc)?;
+    let columns = versions.change_columns(alloc, layout.key)?;
+    let differ = at(
+        versions.next.file,
+        versions.column_changes().has_lone(alloc),
+    )?;
+    let form = ChangesForm::Csv(marked);
     let mut work = Work::Changes(Job::sorted(alloc, layout, &columns), form);
     let finished = write_tables(alloc, &mut work, versions, output)?;
     Ok(Finished {
-        status: if lone.is_empty() { finished.status } else { 1 },
-        ..finished
+        status: status_with(finished.status, differ),
+        counts: finished.counts,
+    })
+}
+
+// The status of changes where columns come or go, or do not.
+fn status_with(status: u8, differ: bool) -> u8
+    ensures { result ≡ (if differ then 1 else status) }
+{
+    if differ { 1 } else { status }
+}
+
+// The same as JSON, of these columns, whose cells are compared so, or as they stand.
+fn diff_as_json<'a, R: Read + Drop, W: Write>(
+    alloc: Global,
+    layout: Layout<'a>,
+    columns: &Columns,
+    sameness: Option<Sameness<'_>>,
+    versions: Two<'a, R>,
+    output: &mut W,
+) -> Result<Finished, Fault<'a>> {
+    let lone = at(versions.next.file, lone_among(alloc, &versions, columns))?;
+    let told = at(versions.next.file, json_columns(alloc, &lone))?;
+    at("the standard output", output.write_all(&told))?;
+    let form = ChangesForm::Json(sameness);
+    let mut work = Work::Changes(Job::sorted(alloc, layout, columns), form);
+    let finished = write_tables(alloc, &mut work, versions, output)?;
+    Ok(Finished {
+        status: status_with(finished.status, !lone.is_empty()),
+        counts: finished.counts,
     })
 }
 
@@ -272,15 +333,18 @@ pub fn join_sorted<'a, R: Read + Drop, W: Write>(
     left: Stream<'a, R>,
     right: Stream<'a, R>,
     output: &mut W,
-) -> Result<Finished, Fault<'a>> {
+) -> Result<Finished, Fault<'a>>
+    ensures { IfOk result (λ finished. how.entry.format ≡ Csv →
+        JoinsStreamsInParts R.remaining layout.entry how.entry left.entry right.entry
+        (W.contents output.old) (W.contents output.new) finished.status) }
+{
     let sides = Two::new(alloc, layout.form, Content::Rows, left, right)?;
     let columns = sides.join_columns(alloc, layout.key)?;
-    let form = at(
-        sides.next.file,
-        JoinForm::new(alloc, layout.form, how, &columns),
-    )?;
+    let made = JoinForm::new(alloc, layout.form, how, &columns);
+    let form = at(sides.next.file, made)?;
     let mut work = Work::Join(Job::sorted(alloc, layout, &columns), form);
-    write_tables(alloc, &mut work, sides, output)
+    let finished = write_tables(alloc, &mut work, sides, output)?;
+    Ok(finished)
 }
 
 // Two tables that are read part by part.
@@ -298,12 +362,30 @@ struct Part {
     is_last: bool,
 }
 
-// What became of a part that is written.
+// What became of the parts that are written: the status, the counts of their rows, and whether they are all.
 #[derive(Clone, Copy)]
 struct PartWritten {
     status: u8,
     counts: StreamCounts,
     is_last: bool,
+}
+
+impl PartWritten {
+    // What became of these parts and of the one after them.
+    fn and(self, next: PartWritten) -> Self
+        ensures status { result.status ≡ status_both self.status next.status }
+        ensures last { result.is_last ≡ next.is_last }
+    {
+        PartWritten {
+            status: if self.status == 0 {
+                next.status
+            } else {
+                self.status
+            },
+            counts: sum_of(self.counts, next.counts),
+            is_last: next.is_last,
+        }
+    }
 }
 
 // Writes what there is to say of two tables while they are read, and returns what it comes to.
@@ -312,34 +394,62 @@ fn write_tables<'a, R: Read + Drop, W: Write>(
     work: &mut Work<'_>,
     tables: Two<'a, R>,
     output: &mut W,
-) -> Result<Finished, Fault<'a>> {
+) -> Result<Finished, Fault<'a>>
+    ensures { IfOk result (λ finished. IsByKey work.old → WritesTables R.remaining work.old tables.entry
+        (W.contents output.old) (W.contents output.new) finished.status) }
+{
     let (left_columns, right_columns) = work.columns();
     let left = Parts::new(alloc, tables.first, left_columns)?;
     let right = Parts::new(alloc, tables.next, right_columns)?;
-    write_parts(alloc, work, &mut TwoParts { left, right }, output)
+    let finished = write_parts(alloc, work, &mut TwoParts { left, right }, output)?;
+    Ok(finished)
 }
 
+// Writes what there is to say of two tables of which no row is taken yet.
 fn write_parts<'a, R: Read + Drop, W: Write>(
     alloc: Global,
     work: &mut Work<'_>,
     tables: &mut TwoParts<'a, R>,
     output: &mut W,
-) -> Result<Finished, Fault<'a>> {
-    let mut status = 0;
-    let mut counts = work.no_counts();
-    for _ in 0..u64::MAX {
-        let part = write_part(alloc, work, tables, output)?;
-        work.leave_header();
-        status = part.status.max(status);
-        counts = sum_of(counts, part.counts);
-        if part.is_last {
-            break;
-        }
-    }
+) -> Result<Finished, Fault<'a>>
+    ensures { IfOk result (λ finished. IsByKey work.old → IsFresh tables.old.left → IsFresh tables.old.right
+        → WritesAll R.remaining work.old tables.old
+        (W.contents output.old) (W.contents output.new) finished.status) }
+{
+    let first = write_part(alloc, work, tables, output)?;
+    work.leave_header();
+    let whole = write_later(alloc, work, tables, first, output)?;
     at("the standard output", output.flush())?;
     Ok(Finished {
-        status,
-        counts: Some(counts),
+        status: whole.status,
+        counts: Some(whole.counts),
+    })
+}
+
+// Writes what there is to say of the parts after the first one. No input has more parts than a number counts.
+fn write_later<'a, R: Read + Drop, W: Write>(
+    alloc: Global,
+    work: &Work<'_>,
+    tables: &mut TwoParts<'a, R>,
+    first: PartWritten,
+    output: &mut W,
+) -> Result<PartWritten, Fault<'a>>
+    ensures last { IfOk result (λ whole. whole.is_last ≡ true) }
+    ensures rest { IfOk result (WritesLater R.remaining work.now tables.old tables.new
+        (W.contents output.old) (W.contents output.new) first) }
+{
+    let mut whole = first;
+    for _ in 0..u64::MAX {
+        let is_last = whole.is_last;
+        if is_last {
+            return Ok(whole);
+        }
+        let next = write_part(alloc, work, tables, output)?;
+        whole = whole.and(next);
+    }
+    Err(Fault {
+        file: tables.right.file,
+        reason: Reason::NoMemory,
     })
 }
 
@@ -349,7 +459,10 @@ fn write_part<'a, R: Read + Drop, W: Write>(
     work: &Work<'_>,
     tables: &mut TwoParts<'a, R>,
     output: &mut W,
-) -> Result<PartWritten, Fault<'a>> {
+) -> Result<PartWritten, Fault<'a>>
+    ensures { IfOk result (λ written. IsByKey work.now → WritesPart R.remaining work.now
+        tables.old tables.new (W.contents output.old) (W.contents output.new) written) }
+{
     let part = next_part(alloc, tables)?;
     let is_last = part.is_last;
     let answer = at(tables.right.file, work.answer(part))?;

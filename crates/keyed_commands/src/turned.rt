@@ -29,6 +29,24 @@ pub fn changes_in(
     }
 }
 
+/// The same of changes that are a list.
+///
+/// # Errors
+///
+/// Returns `AllocError` if a request for memory was refused.
+pub fn pairs_in(
+    alloc: Global,
+    direction: Direction,
+    changes: Vec<(Key, Change<Group>)>,
+) -> Result<Vec<(Key, Change<Group>)>, AllocError>
+    ensures { IfOk result (λ made. made.items ≡ changes_in direction changes.items) }
+{
+    match direction {
+        Direction::Forward => Ok(changes),
+        Direction::Backward => turned_pairs(alloc, changes),
+    }
+}
+
 // The changes, each turned about.
 fn turned(alloc: Global, changes: Changes) -> Result<Changes, AllocError>
     ensures { IfOk result (λ made. made.pairs.items ≡ turned changes.pairs.items) }

@@ -64,13 +64,14 @@ module _ {R : Type 0} (rem : R → Option (List ℕ)) where
       }
 
   pub fills_none : (parts : Parts R) → Fills rem parts parts
-  fills_none parts = record { more = []; waiting = sym (append-nil parts.waiting.items); places = refl; rises = λ taken h. h; has = λ d c text given taken h. h }
+  fills_none parts = record { more = []; waiting = sym (append-nil parts.waiting.items); places = refl; ended = λ e. (e, refl); rises = λ taken h. h; has = λ d c text given taken h. h }
 
   pub fills_then : (a b c : Parts R) → Fills rem a b → Fills rem b c → Fills rem a c
   fills_then a b c g h = record {
     more = g.more ++ h.more;
     waiting = h.waiting ∙ ap (λ l. l ++ h.more) g.waiting ∙ append_assoc a.waiting.items g.more h.more;
     places = h.places ∙ g.places;
+    ended = λ e. let first = g.ended e in let next = h.ended first.0 in (next.0, ap₂ (λ l m. l ++ m) first.1 next.1);
     rises = λ taken x. h.rises taken (g.rises taken x);
     has = λ d e text given taken x. h.has d e text given taken (g.has d e text given taken x);
   }
@@ -92,6 +93,7 @@ module _ {R : Type 0} (rem : R → Option (List ℕ)) where
       more = row ∷ [];
       waiting = waits;
       places = places;
+      ended = λ e. absurd (cc (sym was ∙ e));
       rises = λ taken h.
           let before = keys_in (taken ++ old.waiting.items) in
           let keys : keys_in (taken ++ new.waiting.items) ≡ before ++ (row.key ∷ []) =
@@ -119,6 +121,7 @@ module _ {R : Type 0} (rem : R → Option (List ℕ)) where
       more = [];
       waiting = waits ∙ sym (append-nil old.waiting.items);
       places = places;
+      ended = λ e. absurd (cc (sym was ∙ e));
       rises = λ taken h. subst (λ l. RisesTo (keys_in (taken ++ l)) new.last) (sym waits) (subst (RisesTo (keys_in (taken ++ old.waiting.items))) (sym last) h);
       has = λ d c text given taken h. record {
         records = h.records;

@@ -72,11 +72,13 @@ module _ {R : Type 0} (remaining : R → Option (List ℕ)) where
     pub read : AreRead parts.is_ended d c text (given ++ records) parts.source.value
     pub rows : map parts_of (taken ++ parts.waiting.items) ≡ map (picked parts.places) records
 
-  -- rows are read, whatever rows were taken before: they wait after those that waited, and keys that were strictly increasing are so
+  -- rows are read, whatever rows were taken before: they wait after those that waited, and keys that were strictly increasing are so; of a
+  -- table that is ended none is
   pub record Fills (old new : Parts R) : Type 0 where
     pub more : List ReadRow
     pub waiting : new.waiting.items ≡ old.waiting.items ++ more
     pub places : new.places ≡ old.places
+    pub ended : old.is_ended ≡ true → (new.is_ended ≡ true) × (more ≡ [])
     pub rises : (taken : List ReadRow) → RisesTo (keys_in (taken ++ old.waiting.items)) old.last
         → RisesTo (keys_in (taken ++ new.waiting.items)) new.last
     pub has : (d : ℕ) (c : Option ℕ) (text : List ℕ) (given : List (List (List ℕ))) (taken : List ReadRow)

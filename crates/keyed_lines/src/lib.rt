@@ -1,6 +1,6 @@
-//! Two texts compared line by line: which lines stay, which go and which come.
+//! Two lists compared part by part, as texts are line by line: which parts stay, which go and which come.
 //!
-//! The lines that stay and go give the old text back, those that stay and come the new one. How they are shown stands above this crate.
+//! The parts that stay and go give the old list back, those that stay and come the new one. How they are shown stands above this crate.
 #![tactic(auto)]
 
 mod compared;
@@ -8,5 +8,5 @@ mod hunks;
 mod lines;
 mod script;
 
-pub use compared::{Becomes, Line, compare_lines};
+pub use compared::{Line, Part, compare_lines, compare_parts};
 pub use hunks::{Hunk, hunks_of};

@@ -16,9 +16,10 @@ pub use lookups::{Finding, Lookup, LookupKind};
 pub use merging::{Conflicts, Merging, Side, Unit};
 pub use overlays::{Layer, NamedFile, Overlay};
 pub use request::{
-    Colours, ColumnsShown, Command, Comment, Comparing, Delimiter, Direction, Form, Format,
-    JoinNames, Joining, Kind, Layout, Lengths, Look, Picked, Quotes, Reading, Request, RowFormat,
-    RowsShown, Settings, SortedChanges, SortedRequest, View, Wanted,
+    Applying, Colours, ColumnsShown, Command, Comment, Comparing, Delimiter, Direction, Form,
+    Format, JoinNames, Joining, Kind, Layout, Lengths, Look, Misfits, Picked, Quotes, Reading,
+    Request, RowComparing, RowFormat, RowsShown, Settings, SortedChanges, SortedRequest, View,
+    Wanted,
 };
 pub use sameness::Sameness;
 pub use writing::{Heading, Writing};

@@ -2,6 +2,7 @@
 ghost use Rattle.std.specs.Prelude.{◌≡◌, ◌↔◌, IfSome, IsSome};
 ghost use Rattle.keyed_text.specs.Texts.{PartsCells};
 ghost use Rattle.keyed_requests.specs.Delimiters.{PartsCells-prop};
+ghost use Rattle.keyed_requests.specs.declared.request.Misfits.TheVariants.{Reported};
 
 use crate::lookups::Lookup;
 use crate::merging::Merging;
@@ -320,6 +321,26 @@ impl Comparing<'static> {
     }
 }
 
+/// How the rows of two tables are compared as wholes, in their order: how those that went and came are written, and which of them.
+#[derive(Clone, Copy, Debug)]
+pub struct RowComparing {
+    pub format: Format,
+    pub rows: RowsShown,
+    /// How many columns of a terminal the lines of a table may take.
+    pub width: Option<usize>,
+}
+
+impl RowComparing {
+    /// All rows that went and came, in this form.
+    pub fn whole(format: Format) -> Self {
+        RowComparing {
+            format,
+            rows: RowsShown::All,
+            width: None,
+        }
+    }
+}
+
 /// Which way changes are made.
 #[derive(Clone, Copy, Debug)]
 pub enum Direction {
@@ -327,6 +348,35 @@ pub enum Direction {
     Forward,
     /// From the new table back to the old one: what came goes, and what went comes.
     Backward,
+}
+
+/// What becomes of changes that do not fit the table to which they are to be made.
+#[derive(Clone, Copy, Debug)]
+pub enum Misfits<'a> {
+    /// Where there is one, no change is made, and those that do not fit are reported.
+    Reported,
+    /// The others are made, and those that do not fit go into the file of this name, as changes that `Request::Apply` takes.
+    Rejected(&'a str),
+}
+
+/// How changes are made to a table: which way, and what becomes of those that do not fit.
+#[derive(Clone, Copy, Debug)]
+pub struct Applying<'a> {
+    pub direction: Direction,
+    pub misfits: Misfits<'a>,
+}
+
+impl Applying<'static> {
+    /// In this direction, all of the changes or none.
+    pub fn whole(direction: Direction) -> Self
+        ensures direction { result.direction ≡ direction }
+        ensures misfits { result.misfits ≡ Reported }
+    {
+        Applying {
+            direction,
+            misfits: Misfits::Reported,
+        }
+    }
 }
 
 /// What is wanted of whole tables, in files by name, of which `-` is the standard input.
@@ -338,11 +388,17 @@ pub enum Request<'a> {
         new: &'a str,
         how: Comparing<'a>,
     },
+    /// Which rows went and which came, of tables that have no key: their rows are compared as wholes, in their order.
+    DiffRows {
+        old: &'a str,
+        new: &'a str,
+        how: RowComparing,
+    },
     /// A table with changes made to it, or taken back.
     Apply {
         old: &'a str,
         changes: &'a str,
-        direction: Direction,
+        how: Applying<'a>,
     },
     /// Two versions of a table merged over their base.
     Merge {
@@ -434,6 +490,7 @@ impl Request<'_> {
     pub fn check_stdin<'a>(self) -> Result<(), Fault<'a>> {
         match self {
             Request::Diff { old, new, .. } => check_files(&[old, new]),
+            Request::DiffRows { old, new, .. } => check_files(&[old, new]),
             Request::Apply { old, changes, .. } => check_files(&[old, changes]),
             Request::Merge {
                 base,

@@ -4,10 +4,11 @@ use crate::plain::words_of;
 use keyed_arguments::{Line, Progress, Terminal, parse};
 use keyed_numbers::DecimalMark;
 use keyed_requests::{
-    Asked, Colours, ColumnsShown, Command, Comment, Comparing, Conflicts, Delimiter, Direction,
-    Finding, Form, Format, Heading, JoinNames, Joining, Kind, Layer, Lengths, Look, Lookup,
-    LookupKind, Merging, NamedFile, Overlay, Picked, Quotes, Reading, Request, RowFormat,
-    RowsShown, Sameness, Settings, Side, SortedChanges, SortedRequest, Unit, View, Wanted, Writing,
+    Applying, Asked, Colours, ColumnsShown, Command, Comment, Comparing, Conflicts, Delimiter,
+    Direction, Finding, Form, Format, Heading, JoinNames, Joining, Kind, Layer, Lengths, Look,
+    Lookup, LookupKind, Merging, Misfits, NamedFile, Overlay, Picked, Quotes, Reading, Request,
+    RowComparing, RowFormat, RowsShown, Sameness, Settings, Side, SortedChanges, SortedRequest,
+    Unit, View, Wanted, Writing,
 };
 use std::alloc::{AllocError, Global};
 use testkit::random::Random;
@@ -16,6 +17,9 @@ use testkit::random::Random;
 static FILES: [&str; 10] = [
     "old.csv", "new.csv", "a b", "-", "--", "-k", "--key=id", "t.tsv", "\u{e9}", "=",
 ];
+
+// Names of files that are neither one of those nor the output, some of which look like options.
+static REJECTS: [&str; 4] = ["rejects.csv", "r s", "-r", "--partial=x"];
 
 // Names of columns, as records of CSV.
 static NAMES: [&str; 6] = ["id", "a,b", "\"a,b\"", "-k", "x==y", ""];
@@ -255,6 +259,43 @@ impl Picker {
         }
     }
 
+    // Rows that are compared as wholes, so that no setting says anything of keys.
+    fn row_diff(&mut self) -> Command<'static> {
+        let (old, new) = (self.text(&FILES), self.text(&FILES));
+        let how = if self.coin() {
+            self.report(true)
+        } else {
+            self.changes(true)
+        };
+        let look = match how.format {
+            Format::Report(Look::Table { .. }) | Format::Csv => Look::PLAIN,
+            Format::Report(look) => look,
+        };
+        let (delimiter, next) = (self.delimiter(), self.delimiter());
+        let form = self.form(delimiter, next);
+        let has_csv = matches!(how.format, Format::Csv);
+        Command::Whole {
+            settings: Settings {
+                form: self.with_heading(form, has_csv),
+                key: None,
+                renames: None,
+                keeps_order: false,
+                groups: false,
+                look,
+            },
+            request: Request::DiffRows {
+                old,
+                new,
+                how: RowComparing {
+                    format: how.format,
+                    rows: how.view.rows,
+                    width: how.view.width,
+                },
+            },
+            wanted: Wanted::Answer,
+        }
+    }
+
     // The form, with no names of columns in the answer now and then, where that is CSV.
     fn with_heading(&self, form: Form, has_csv: bool) -> Form {
         let heading = if has_csv && form.reading.skipped == 1 {
@@ -277,15 +318,22 @@ impl Picker {
         let form = self.form(delimiter, next);
         let look = self.look(Colours::Off);
         let (groups, is_backward) = (self.coin(), self.coin());
+        let misfits = match self.maybe(&REJECTS) {
+            Some(file) => Misfits::Rejected(file),
+            None => Misfits::Reported,
+        };
         Command::Whole {
             settings: self.settings(self.with_heading(form, true), look, groups),
             request: Request::Apply {
                 old,
                 changes,
-                direction: if is_backward {
-                    Direction::Backward
-                } else {
-                    Direction::Forward
+                how: Applying {
+                    direction: if is_backward {
+                        Direction::Backward
+                    } else {
+                        Direction::Forward
+                    },
+                    misfits,
                 },
             },
             wanted: self.wanted(),
@@ -428,8 +476,9 @@ impl Picker {
     }
 
     fn command(&mut self, alloc: Global) -> Result<Command<'static>, AllocError> {
-        Ok(match self.random.below(7) {
+        Ok(match self.random.below(8) {
             0 => self.diff(),
+            7 => self.row_diff(),
             1 => self.apply(),
             2 => self.merge(),
             3 => self.join(),

@@ -4,9 +4,9 @@ use keyed_arguments::{Line, Progress};
 use keyed_numbers::DecimalMark;
 use keyed_requests::{
     Asked, ColumnsShown, Command, Comparing, Conflicts, Direction, Finding, Form, Format, Heading,
-    JoinNames, Joining, Kind, Layer, Layout, Lengths, Look, Lookup, LookupKind, Merging, Overlay,
-    Picked, Quotes, Request, RowFormat, RowsShown, Sameness, Settings, Side, SortedChanges,
-    SortedRequest, Unit, View, Wanted,
+    JoinNames, Joining, Kind, Layer, Layout, Lengths, Look, Lookup, LookupKind, Merging, Misfits,
+    Overlay, Picked, Quotes, Request, RowComparing, RowFormat, RowsShown, Sameness, Settings, Side,
+    SortedChanges, SortedRequest, Unit, View, Wanted,
 };
 use std::alloc::{AllocError, Global};
 
@@ -139,14 +139,19 @@ impl Words {
                 self.put_comparing(how)?;
                 self.put_two(old, new, settings.form)
             }
-            Request::Apply {
-                old,
-                changes,
-                direction,
-            } => {
+            Request::DiffRows { old, new, how } => {
+                self.put("diff")?;
+                self.put_flag("key-row", true)?;
+                self.put_row_comparing(how)?;
+                self.put_two(old, new, settings.form)
+            }
+            Request::Apply { old, changes, how } => {
                 self.put("apply")?;
                 self.put_look(settings.look)?;
-                self.put_flag("reverse", matches!(direction, Direction::Backward))?;
+                self.put_flag("reverse", matches!(how.direction, Direction::Backward))?;
+                if let Misfits::Rejected(file) = how.misfits {
+                    self.put_text("partial", file)?;
+                }
                 self.put_two(old, changes, settings.form)
             }
             Request::Merge {
@@ -271,12 +276,22 @@ impl Words {
     }
 
     fn put_comparing(&mut self, how: Comparing<'_>) -> Result<(), AllocError> {
-        match how.format {
-            Format::Csv => self.put_text("format", "csv")?,
-            Format::Report(look) => self.put_report(look)?,
-        }
+        self.put_format(how.format)?;
         self.put_view(how.view)?;
         self.put_sameness(how.sameness)
+    }
+
+    fn put_row_comparing(&mut self, how: RowComparing) -> Result<(), AllocError> {
+        self.put_format(how.format)?;
+        self.put_rows(how.rows)?;
+        self.put_number("width", how.width.unwrap_or(0) as u64)
+    }
+
+    fn put_format(&mut self, format: Format) -> Result<(), AllocError> {
+        match format {
+            Format::Csv => self.put_text("format", "csv"),
+            Format::Report(look) => self.put_report(look),
+        }
     }
 
     // A report, in colours or in none.
@@ -305,12 +320,16 @@ impl Words {
     fn put_view(&mut self, view: View<'_>) -> Result<(), AllocError> {
         self.put_picked(view.columns)?;
         self.put_flag("all-columns", matches!(view.shown, ColumnsShown::All))?;
-        match view.rows {
-            RowsShown::All => {}
-            RowsShown::First(count) => self.put_number("limit", count as u64)?,
-            RowsShown::Nothing => self.put_flag("summary", true)?,
-        }
+        self.put_rows(view.rows)?;
         self.put_number("width", view.width.unwrap_or(0) as u64)
+    }
+
+    fn put_rows(&mut self, rows: RowsShown) -> Result<(), AllocError> {
+        match rows {
+            RowsShown::All => Ok(()),
+            RowsShown::First(count) => self.put_number("limit", count as u64),
+            RowsShown::Nothing => self.put_flag("summary", true),
+        }
     }
 
     fn put_picked(&mut self, columns: Picked<'_>) -> Result<(), AllocError> {

@@ -25,14 +25,17 @@ const OTHER: &[u8] = b"id,a\n1,w\n3,v\n";
 
 const CHANGES: &[u8] = b"change,id,a\n-,1,\"x\ny\"\n+,1,w\n-,2,z\n+,3,v\n";
 
+const ROWS: &[u8] = b"change,id,a\n-,1,\"x\ny\"\n-,2,z\n+,1,w\n+,3,v\n";
+
 const JOINED: &[u8] = b"side,id,left.a,right.a\nboth,1,\"x\ny\",w\nleft,2,z,\nright,3,,v\n";
 
 const FOUND: &[u8] = b"id,left.a,right.a\n1,\"x\ny\",w\n2,z,\n";
 
 const LAID: &[u8] = b"id,a\n1,w\n2,z\n3,v\n";
 
-const CASES: [Case; 8] = [
+const CASES: [Case; 9] = [
     (Command::Diff, [TABLE, OTHER, b""], 1, CHANGES),
+    (Command::RowDiff, [TABLE, OTHER, b""], 1, ROWS),
     (Command::SortedDiff, [TABLE, OTHER, b""], 1, CHANGES),
     (Command::Apply, [TABLE, CHANGES, b""], 0, OTHER),
     (Command::Merge, [TABLE, OTHER, TABLE], 0, OTHER),

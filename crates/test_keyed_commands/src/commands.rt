@@ -1,11 +1,12 @@
 //! Each command on tables that are texts, and on readers and writers. What the tests know of the calls of `keyed_commands` stands here.
 
 use keyed_commands::{
-    Answer, Colours, Command as AnyCommand, Comparing, Delimiter, Direction, Fault, Finding,
-    Finished, Form, Format, JoinNames, Joining, Kind, Layer, Look, LookupKind, LookupRequest,
-    Merging, NamedFile, Outcome, OverlayRequest, Reading, Reason, Request, RowFormat, Settings,
-    SortedChanges, SortedRequest, Stream, Writing, apply, at, diff, diff_sorted, join, join_sorted,
-    lookup, merge, overlay, stream_request, write_command, write_request, write_whole,
+    Answer, Applying, Colours, Command as AnyCommand, Comparing, Delimiter, Direction, Fault,
+    Finding, Finished, Form, Format, JoinNames, Joining, Kind, Layer, Look, LookupKind,
+    LookupRequest, Merging, NamedFile, Outcome, OverlayRequest, Partly, Reading, Reason, Request,
+    RowComparing, RowFormat, Settings, SortedChanges, SortedRequest, Stream, Writing, apply,
+    apply_partly, at, diff, diff_rows, diff_sorted, join, join_sorted, lookup, merge, overlay,
+    stream_request, write_command, write_request, write_whole,
 };
 use std::alloc::{AllocError, Global};
 use std::io::{Read, Write};
@@ -90,6 +91,7 @@ pub fn between(byte: u8) -> Result<Settings<'static>, Fail> {
 #[derive(Clone, Copy, Debug)]
 pub enum Command {
     Diff,
+    RowDiff,
     Apply,
     Merge,
     Join,
@@ -100,8 +102,9 @@ pub enum Command {
 }
 
 /// All of them.
-pub const COMMANDS: [Command; 8] = [
+pub const COMMANDS: [Command; 9] = [
     Command::Diff,
+    Command::RowDiff,
     Command::Apply,
     Command::Merge,
     Command::Join,
@@ -122,7 +125,7 @@ impl Command {
     /// The names of its inputs, as faults have them.
     pub fn names(self) -> &'static [&'static str] {
         match self {
-            Command::Diff | Command::SortedDiff => &["old", "new"],
+            Command::Diff | Command::RowDiff | Command::SortedDiff => &["old", "new"],
             Command::Apply => &["old", "changes"],
             Command::Merge => &["base", "ours", "theirs"],
             Command::Join | Command::SortedJoin | Command::Lookup => &["left", "right"],
@@ -139,10 +142,15 @@ impl Command {
                 new: next,
                 how: Comparing::whole(Format::Csv),
             },
+            Command::RowDiff => Request::DiffRows {
+                old: first,
+                new: next,
+                how: RowComparing::whole(Format::Csv),
+            },
             Command::Apply => Request::Apply {
                 old: first,
                 changes: next,
-                direction: Direction::Forward,
+                how: Applying::whole(Direction::Forward),
             },
             Command::Merge => Request::Merge {
                 base: first,
@@ -184,6 +192,10 @@ pub fn write_answer<'a, R: Read + Drop, W: Write>(
         Command::Diff => {
             let how = Comparing::whole(Format::Csv);
             write_whole_answer(diff(alloc, settings, how, old, new), output)
+        }
+        Command::RowDiff => {
+            let how = RowComparing::whole(Format::Csv);
+            write_whole_answer(diff_rows(alloc, settings.form, how, old, new), output)
         }
         Command::SortedDiff => {
             let how = SortedChanges::Csv;
@@ -387,6 +399,24 @@ pub fn compared_in_parts<'a>(
     new: &[u8],
 ) -> Result<Answer, Fault<'a>> {
     asked(alloc, settings, Command::SortedDiff, [old, new, b""])
+}
+
+/// The answer to `apply` where changes need not fit.
+///
+/// # Errors
+///
+/// Fails where an input is bad.
+pub fn applied_partly(
+    alloc: Global,
+    direction: Direction,
+    old: &[u8],
+    changes: &[u8],
+) -> Result<Partly, Fail> {
+    let (old, changes) = (stream("old", old), stream("changes", changes));
+    match apply_partly(alloc, PLAIN, direction, old, changes) {
+        Ok(partly) => Ok(partly),
+        Err(fault) => Err(Fail::new(fault)),
+    }
 }
 
 /// The answer to `apply`.

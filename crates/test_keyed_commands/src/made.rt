@@ -37,6 +37,8 @@ pub fn changes(alloc: Global, count: usize) -> Result<String, AllocError> {
 pub fn inputs(alloc: Global, command: Command, count: usize) -> Result<[String; 3], AllocError> {
     let next = match command {
         Command::Apply => changes(alloc, count)?,
+        // Where all rows differ, the most work is done to find that they do.
+        Command::RowDiff => table(alloc, 1..count.saturating_add(1), "p")?,
         _ => table(alloc, 0..count, "q")?,
     };
     Ok([

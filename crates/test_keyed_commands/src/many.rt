@@ -1,11 +1,11 @@
 //! Tests: tables of hundreds of rows and more, made by a rule: looked up, laid over, merged, read in parts and made again.
 
 use crate::commands::{
-    Command, KINDS, ORDERED, PLAIN, TEXT, answered, applied, asked, compared, compared_in_parts,
-    expect, joined, joined_in_parts, merged, merged_by, under,
+    Command, KINDS, ORDERED, PLAIN, TEXT, answered, applied, applied_partly, asked, compared,
+    compared_in_parts, expect, joined, joined_in_parts, merged, merged_by, under,
 };
 use crate::made::{put_rows, table};
-use keyed_commands::{Conflicts, Format, Merging, Unit};
+use keyed_commands::{Conflicts, Direction, Format, Merging, Unit};
 use std::alloc::{AllocError, Global};
 use std::fmt::Write;
 use std::test::Fail;
@@ -224,6 +224,32 @@ fn changes_made_again_give_the_new_table(rt: HostRuntime) -> Result<(), Fail> {
     expect(made, 0, new.as_bytes())?;
     let refused = answered(applied(alloc, PLAIN, new.as_bytes(), &changes.bytes))?;
     assert_eq!(rt; refused.status, 1);
+    Ok(())
+}
+
+/// The changes from a table to another are all made to the first, and none to the second, also where they need not fit; taken back it is the
+/// other way about. Those that are not made are the changes as they were given.
+#[test]
+fn changes_that_do_not_fit_are_kept(rt: HostRuntime) -> Result<(), Fail> {
+    let alloc = rt.alloc();
+    let old = shaped(alloc, 2, 1)?;
+    let new = shaped(alloc, 3, 2)?;
+    let (old, new) = (old.as_bytes(), new.as_bytes());
+    let changes = answered(compared(alloc, PLAIN, Format::Csv, old, new))?.bytes;
+    for (direction, from, to) in [
+        (Direction::Forward, old, new),
+        (Direction::Backward, new, old),
+    ] {
+        let made = applied_partly(alloc, direction, from, &changes)?;
+        expect(Ok(made.answer), 0, to)?;
+        assert_eq!(rt;
+            made.rejected.as_slice(),
+            b"change,key,first,second\n".as_slice()
+        );
+        let kept = applied_partly(alloc, direction, to, &changes)?;
+        expect(Ok(kept.answer), 1, to)?;
+        assert_eq!(rt; kept.rejected.as_slice(), changes.as_slice());
+    }
     Ok(())
 }
 

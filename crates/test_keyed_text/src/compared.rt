@@ -1,6 +1,6 @@
 //! Tests: two texts compared line by line.
 
-use keyed_lines::{Becomes, Line, compare_lines, hunks_of};
+use keyed_lines::{Line, Part, compare_lines, hunks_of};
 use std::alloc::{AllocError, Global};
 use std::fmt::Write;
 use std::test::Fail;
@@ -9,10 +9,10 @@ use std::test::Fail;
 fn signs(alloc: Global, lines: &[Line<'_>]) -> Result<String, AllocError> {
     let mut signs = String::new(alloc);
     for line in lines {
-        signs.push(match line.becomes {
-            Becomes::Kept => '=',
-            Becomes::Removed => '-',
-            Becomes::Added => '+',
+        signs.push(match line {
+            Part::Kept(..) => '=',
+            Part::Removed(_) => '-',
+            Part::Added(_) => '+',
         })?;
     }
     Ok(signs)

@@ -1,0 +1,243 @@
+-- Two tables that are read part by part, and what is written of them: the first part, another one, and the whole.
+use Rattle.std.proofs.Common.{◌≡◌, ◌∙◌, ◌⊎◌, ℕ, Bool, true, false, List, [], ◌∷◌, ◌++◌, Option, None, Some, append-nil, inl, inr, map, refl, sym, ap, subst, subst₂}
+use Rattle.std.specs.Prelude.{IsNone, MatchBool, is_none}
+use Rattle.std.specs.Io.KnownBytes.{Appends, Keeps}
+use Rattle.std.specs.List.{AllByRecursion}
+use Rattle.std.specs.List.Sorted.{IsStrictlySortedBy}
+use Rattle.std.specs.Map.{keys_of}
+use Rattle.std.specs.declared.cmp.Ordering.TheVariants.{Greater, Less}
+use Rattle.std.proofs.KnownBytes.{Appends-kept, Appends-trans}
+use Rattle.std.proofs.lemmas.List.{map-append}
+use Rattle.eob_joins.specs.Laws.{AreBelow}
+use Rattle.keyed_columns.specs.declared.columns.Columns.{Columns}
+use Rattle.keyed_rows.specs.declared.row.ReadRow.{ReadRow}
+use Rattle.keyed_files.specs.Parts.{AreRead, HasParts, IsFull, RisesTo, TakesUpTo, key_cmp, keys_in}
+use Rattle.keyed_files.specs.Reading.{HasGiven, PlacesOf, ReadsRest, parts_of, picked}
+use Rattle.keyed_files.specs.declared.opened.Two.{Two}
+use Rattle.keyed_files.specs.declared.parts.Parts.{Parts}
+use Rattle.keyed_files.specs.declared.source.Source.{Source}
+use Rattle.keyed_files.proofs.TableLemmas.{table-read}
+use Rattle.keyed_text.specs.Texts.{AreRows}
+use Rattle.keyed_commands.specs.Answers.{TableRows}
+use Rattle.keyed_commands.specs.PartAnswers.{IsByKey, SaysOf, left_columns, on_later, right_columns, status_both}
+use Rattle.keyed_commands.specs.SortedParts.{AreCut, HasTaken, HasWritten, IsCutAt, IsFresh, IsLesser, IsSpent, ReadsAll, WritesAll, WritesPart, WritesTables, bound_of, table_of}
+use Rattle.keyed_commands.specs.TablesRead.{Gathers, ReadsTable}
+use Rattle.keyed_commands.specs.declared.sorted.PartWritten.{PartWritten}
+use Rattle.keyed_commands.specs.declared.sorted.TwoParts.{TwoParts}
+use Rattle.keyed_commands.specs.declared.sorted.Work.{Work}
+use Rattle.keyed_commands.specs.declared.sorted.Work.TheVariants as work
+use Rattle.keyed_commands.proofs.PartReadLemmas.{all_first, all_weaker, at_most_both, cut_there, gathers_alone, not_less, only_alone, rises_sorted, sorted_after, sorted_first, still_beyond, tables_below, taken_all, taken_filled, taken_more, taken_none}
+use Rattle.keyed_commands.proofs.PartsSaidLemmas.{said_both}
+use Rattle.keyed_commands.proofs.ReadLemmas.{table-gathered}
+
+abbrev Key : Type 0
+Key = List (List ℕ)
+
+none_is : {X : Type 0} (x : Option X) → IsNone x → x ≡ None
+none_is None n = refl
+none_is (Some x) n = absurd (cc)
+
+-- rows come out by key in each part
+pub by_key_later : (how : Work) → IsByKey how → IsByKey (on_later how)
+by_key_later (work.Changes job form) h = tt
+by_key_later (work.Join job form) h = record { keys = h.keys; rows = h.rows }
+
+-- the tables of rows, one after the other
+tables_both : (rows more : List ReadRow) → table_of (rows ++ more) ≡ table_of rows ++ table_of more
+tables_both [] more = refl
+tables_both (row ∷ rows) more = ap (λ l. (row.key, row.cells ∷ []) ∷ l) (tables_both rows more)
+
+keys_both : (rows more : List ReadRow) → keys_of (table_of (rows ++ more)) ≡ keys_of (table_of rows) ++ keys_of (table_of more)
+keys_both [] more = refl
+keys_both (row ∷ rows) more = ap (λ l. row.key ∷ l) (keys_both rows more)
+
+all_two : {X : Type 0} (P : X → Type 0) (xs ys : List X) → AllByRecursion P xs → AllByRecursion P ys → AllByRecursion P (xs ++ ys)
+all_two P [] ys g h = h
+all_two P (x ∷ xs) ys g h = (g.0, all_two P xs ys g.1 h)
+
+module _ {R : Type 0} (rem : R → Option (List ℕ)) where
+  taken_sorted : (start now : Parts R) (taken : List ReadRow) → HasTaken rem start now taken → IsStrictlySortedBy key_cmp (keys_in taken)
+  taken_sorted start now taken h =
+      sorted_first (keys_in taken) (keys_in now.waiting.items)
+      (subst (IsStrictlySortedBy key_cmp) (map-append (λ row. row.key) taken now.waiting.items) (rises_sorted (keys_in (taken ++ now.waiting.items)) now.last h.rises))
+
+  -- the table of a part
+  part_table : (start now : Parts R) (taken rows : List ReadRow) (table : TableRows) → HasTaken rem start now (taken ++ rows) → Gathers false rows table → table ≡ table_of rows
+  part_table start now taken rows table h g =
+      only_alone rows table
+      (sorted_after (keys_in taken) (keys_in rows) (subst (IsStrictlySortedBy key_cmp) (map-append (λ row. row.key) taken rows) (taken_sorted start now (taken ++ rows) h))) g
+
+  module _ (start read new : TwoParts R) (left right l r : List ReadRow) (hl : HasTaken rem start.left read.left left) (hr : HasTaken rem start.right read.right right)
+      (fl : IsFull read.left) (fr : IsFull read.right) where
+    -- the parts are cut once more, or all rows are taken
+    cut_by : (bound : Option Key) → TakesUpTo bound read.left new.left l → TakesUpTo bound read.right new.right r
+        → IsLesser key_cmp (bound_of read.left) (bound_of read.right) bound
+        → ((b : Key) → bound ≡ Some b → AllByRecursion (λ row. key_cmp row.key b ≡ Greater → ⊥) left × AllByRecursion (λ row. key_cmp row.key b ≡ Greater → ⊥) right)
+        → (last : Bool) → last ≡ is_none bound → MatchBool last (IsSpent new.left × IsSpent new.right) (AreCut new (left ++ l) (right ++ r))
+    cut_by None tl tr lesser within last e =
+        let none = lesser.none.0 refl in
+        subst (λ b. MatchBool b (IsSpent new.left × IsSpent new.right) (AreCut new (left ++ l) (right ++ r))) (sym e) (
+          taken_all rem start.left read.left new.left left l None hl fl tl refl (none_is (bound_of read.left) none.0),
+          taken_all rem start.right read.right new.right right r None hr fr tr refl (none_is (bound_of read.right) none.1),
+        )
+    cut_by (Some b) tl tr lesser within last e =
+        subst (λ b. MatchBool b (IsSpent new.left × IsSpent new.right) (AreCut new (left ++ l) (right ++ r))) (sym e) (
+          b,
+          cut_there rem start.left read.left new.left left l (Some b) hl fl tl b refl lesser.least.0 (within b refl).0,
+          cut_there rem start.right read.right new.right right r (Some b) hr fr tr b refl lesser.least.1 (within b refl).1,
+        )
+
+  -- the first part is written
+  pub written_first : (how : Work) (start new : TwoParts R) (before after : Option (List ℕ)) (written : PartWritten) → IsFresh start.left → IsFresh start.right
+      → WritesPart rem how start new before after written → HasWritten rem how start new before after written
+  written_first how start new before after written left right w =
+      let reads = w.reads in
+      let read = reads.read in
+      let takes = reads.takes in
+      let hl = taken_filled rem start.left start.left read.left [] (taken_none rem start.left left) reads.fills_left in
+      let hr = taken_filled rem start.right start.right read.right [] (taken_none rem start.right right) reads.fills_right in
+      let tl = taken_more rem reads.bound start.left read.left new.left [] takes.left hl takes.takes_left.0 in
+      let tr = taken_more rem reads.bound start.right read.right new.right [] takes.right hr takes.takes_right.0 in
+      record {
+        left = takes.left;
+        right = takes.right;
+        left_taken = tl;
+        right_taken = tr;
+        cut = cut_by start read new [] [] takes.left takes.right hl hr reads.full_left reads.full_right reads.bound takes.takes_left takes.takes_right reads.lesser
+            (λ b e. (tt, tt)) written.is_last (w.last ∙ takes.last);
+        text = w.text;
+        says = subst₂ (λ p q. SaysOf how p q w.text written.status) (part_table start.left new.left [] takes.left w.part.left.pairs.items tl takes.left_table)
+            (part_table start.right new.right [] takes.right w.part.right.pairs.items tr takes.right_table) w.says;
+        puts = w.puts;
+      }
+
+  module _ (how later : Work) (start mid new : TwoParts R) (before between after : Option (List ℕ)) (first next whole : PartWritten) (same : on_later how ≡ later)
+      (h : HasWritten rem how start mid before between first) (more : first.is_last ≡ false) (w : WritesPart rem later mid new between after next)
+      (status : whole.status ≡ status_both first.status next.status) (last : whole.is_last ≡ next.is_last) where
+    abbrev read : TwoParts R
+    read = w.reads.read
+
+    hl : HasTaken rem start.left read.left h.left
+    hl = taken_filled rem start.left mid.left read.left h.left h.left_taken w.reads.fills_left
+
+    hr : HasTaken rem start.right read.right h.right
+    hr = taken_filled rem start.right mid.right read.right h.right h.right_taken w.reads.fills_right
+
+    tl : HasTaken rem start.left new.left (h.left ++ w.reads.takes.left)
+    tl = taken_more rem w.reads.bound start.left read.left new.left h.left w.reads.takes.left hl w.reads.takes.takes_left.0
+
+    tr : HasTaken rem start.right new.right (h.right ++ w.reads.takes.right)
+    tr = taken_more rem w.reads.bound start.right read.right new.right h.right w.reads.takes.right hr w.reads.takes.takes_right.0
+
+    cut : AreCut mid h.left h.right
+    cut = subst (λ b. MatchBool b (IsSpent mid.left × IsSpent mid.right) (AreCut mid h.left h.right)) more h.cut
+
+    -- the next key at which they are cut is not less
+    up : (b : Key) → w.reads.bound ≡ Some b → key_cmp cut.0 b ≡ Greater → ⊥
+    up b e = elim w.reads.lesser.is_one [
+      | inl is ↦ not_less rem start.left mid.left read.left h.left h.left_taken w.reads.fills_left cut.0 b cut.1 (sym e ∙ is)
+      | inr is ↦ not_less rem start.right mid.right read.right h.right h.right_taken w.reads.fills_right cut.0 b cut.2 (sym e ∙ is)
+    ]
+
+    still_within : (b : Key) → w.reads.bound ≡ Some b → (taken : List ReadRow) → AllByRecursion (λ row. key_cmp row.key cut.0 ≡ Greater → ⊥) taken
+        → AllByRecursion (λ row. key_cmp row.key b ≡ Greater → ⊥) taken
+    still_within b e taken within =
+        all_weaker (λ row. key_cmp row.key cut.0 ≡ Greater → ⊥) (λ row. key_cmp row.key b ≡ Greater → ⊥) (λ row n. at_most_both row.key cut.0 b n (up b e)) taken within
+
+    -- the rows of the part are beyond those before it
+    beyond_left : AllByRecursion (λ row. key_cmp cut.0 row.key ≡ Less) w.reads.takes.left
+    beyond_left =
+        all_first (λ row. key_cmp cut.0 row.key ≡ Less) w.reads.takes.left new.left.waiting.items
+        (subst (AllByRecursion (λ row. key_cmp cut.0 row.key ≡ Less)) w.reads.takes.takes_left.0.waiting
+        (still_beyond rem start.left mid.left read.left h.left h.left_taken w.reads.fills_left cut.0 cut.1))
+
+    beyond_right : AllByRecursion (λ row. key_cmp cut.0 row.key ≡ Less) w.reads.takes.right
+    beyond_right =
+        all_first (λ row. key_cmp cut.0 row.key ≡ Less) w.reads.takes.right new.right.waiting.items
+        (subst (AllByRecursion (λ row. key_cmp cut.0 row.key ≡ Less)) w.reads.takes.takes_right.0.waiting
+        (still_beyond rem start.right mid.right read.right h.right h.right_taken w.reads.fills_right cut.0 cut.2))
+
+    below : AreBelow key_cmp (keys_of (table_of h.left) ++ keys_of (table_of h.right)) (keys_of (table_of w.reads.takes.left) ++ keys_of (table_of w.reads.takes.right))
+    below =
+        subst₂ (AreBelow key_cmp) (keys_both h.left h.right) (keys_both w.reads.takes.left w.reads.takes.right)
+        (tables_below cut.0 (h.left ++ h.right) (w.reads.takes.left ++ w.reads.takes.right)
+        (all_two (λ row. key_cmp row.key cut.0 ≡ Greater → ⊥) h.left h.right cut.1.within cut.2.within)
+        (all_two (λ row. key_cmp cut.0 row.key ≡ Less) w.reads.takes.left w.reads.takes.right beyond_left beyond_right))
+
+    says_part : SaysOf (on_later how) (table_of w.reads.takes.left) (table_of w.reads.takes.right) w.text next.status
+    says_part =
+        subst (λ o. SaysOf o (table_of w.reads.takes.left) (table_of w.reads.takes.right) w.text next.status) (sym same)
+        (subst₂ (λ p q. SaysOf later p q w.text next.status) (part_table start.left new.left h.left w.reads.takes.left w.part.left.pairs.items tl w.reads.takes.left_table)
+        (part_table start.right new.right h.right w.reads.takes.right w.part.right.pairs.items tr w.reads.takes.right_table) w.says)
+
+    -- another part is written
+    pub written_next : HasWritten rem how start new before after whole
+    written_next = record {
+      left = h.left ++ w.reads.takes.left;
+      right = h.right ++ w.reads.takes.right;
+      left_taken = tl;
+      right_taken = tr;
+      cut = cut_by start read new h.left h.right w.reads.takes.left w.reads.takes.right hl hr w.reads.full_left w.reads.full_right w.reads.bound
+          w.reads.takes.takes_left w.reads.takes.takes_right w.reads.lesser
+          (λ b e. (still_within b e h.left cut.1.within, still_within b e h.right cut.2.within)) whole.is_last (last ∙ w.last ∙ w.reads.takes.last);
+      text = h.text ++ w.text;
+      says = subst (SaysOf how (table_of (h.left ++ w.reads.takes.left)) (table_of (h.right ++ w.reads.takes.right)) (h.text ++ w.text)) (sym status)
+          (subst₂ (λ p q. SaysOf how p q (h.text ++ w.text) (status_both first.status next.status)) (sym (tables_both h.left w.reads.takes.left))
+          (sym (tables_both h.right w.reads.takes.right))
+          (said_both (table_of h.left) (table_of w.reads.takes.left) (table_of h.right) (table_of w.reads.takes.right) below how h.text w.text first.status next.status h.says says_part));
+      puts = Appends-trans before between after h.text w.text h.puts w.puts;
+    }
+
+  -- all rows are read
+  reads_all : (start now : Parts R) (taken : List ReadRow) → HasTaken rem start now taken → IsSpent now → ReadsAll rem start (table_of taken)
+  reads_all start now taken h spent = (
+    taken,
+    gathers_alone taken (taken_sorted start now taken h),
+    λ d c text given begun.
+        let parts : HasParts rem d c text given taken now = h.has d c text given begun in (
+          parts.records,
+          subst (λ b. AreRead rem b d c text (given ++ parts.records) now.source.value) spent.0 parts.read,
+          ap (map parts_of) (sym (append-nil taken) ∙ ap (λ l. taken ++ l) (sym spent.1)) ∙ parts.rows ∙ ap (λ q. map (picked q) parts.records) h.places,
+        ),
+  )
+
+  -- the whole is written
+  pub written_all : (how : Work) (start now : TwoParts R) (before between after : Option (List ℕ)) (whole : PartWritten) → whole.is_last ≡ true
+      → HasWritten rem how start now before between whole → Keeps between after → WritesAll rem how start before after whole.status
+  written_all how start now before between after whole last h kept =
+      let spent : IsSpent now.left × IsSpent now.right =
+      subst (λ b. MatchBool b (IsSpent now.left × IsSpent now.right) (AreCut now h.left h.right)) last h.cut in
+      record {
+        left = table_of h.left;
+        right = table_of h.right;
+        left_read = reads_all start.left now.left h.left h.left_taken spent.0;
+        right_read = reads_all start.right now.right h.right h.right_taken spent.1;
+        text = h.text;
+        says = h.says;
+        puts = Appends-kept before between after h.text h.puts kept;
+      }
+
+  -- a table that is read part by part is that of its source
+  table_of_source : (columns : Columns) (source : Source R) (start : Parts R) (table : TableRows) → PlacesOf source columns start.places
+      → ((d : ℕ) (c : Option ℕ) (text : List ℕ) (given : List (List (List ℕ))) → HasGiven d c rem text given source → HasParts rem d c text given [] start)
+      → ReadsAll rem start table → ReadsTable rem false columns source table
+  table_of_source columns source start table places begins h =
+      let rest : ReadsRest rem start.places source [] h.0 = λ d c text given begun.
+      let all = h.2 d c text given (begins d c text given begun) in
+      (all.0, all.1, record { more = h.0; rows = refl; parts = all.2 }) in
+      table-gathered rem false columns source [] h.0 table refl (table-read rem columns start.places source [] h.0 places rest) h.1
+
+  pub written_tables : (how : Work) (tables : Two R) (start : TwoParts R) (before after : Option (List ℕ)) (status : ℕ)
+      → PlacesOf tables.first.source.value (left_columns how) start.left.places → PlacesOf tables.next.source.value (right_columns how) start.right.places
+      → ((d : ℕ) (c : Option ℕ) (text : List ℕ) (given : List (List (List ℕ))) → HasGiven d c rem text given tables.first.source.value → HasParts rem d c text given [] start.left)
+      → ((d : ℕ) (c : Option ℕ) (text : List ℕ) (given : List (List (List ℕ))) → HasGiven d c rem text given tables.next.source.value → HasParts rem d c text given [] start.right)
+      → WritesAll rem how start before after status → WritesTables rem how tables before after status
+  written_tables how tables start before after status left_places right_places left_begins right_begins w = record {
+    left = w.left;
+    right = w.right;
+    left_read = table_of_source (left_columns how) tables.first.source.value start.left w.left left_places left_begins w.left_read;
+    right_read = table_of_source (right_columns how) tables.next.source.value start.right w.right right_places right_begins w.right_read;
+    text = w.text;
+    says = w.says;
+    puts = w.puts;
+  }

@@ -1,0 +1,33 @@
+use Rattle.std.proofs.Common.{◌∙◌, ap, subst, sym}
+use Rattle.std.proofs.lemmas.Result.{IfOk-weaker}
+use Rattle.keyed_columns.specs.Keys.{AreChangedColumnsBy}
+use Rattle.keyed_columns.specs.Spelled.{IsSpelledAs}
+use Rattle.keyed_columns.specs.declared.columns.Columns.{Columns}
+use Rattle.keyed_files.specs.Opening.{form_of, text_of_stream}
+use Rattle.keyed_commands.specs.AppliedTexts.{PartlyTexts, watched_left}
+use Rattle.keyed_commands.specs.Rejected.{plain}
+use Rattle.keyed_commands.proofs.TextAnswerLemmas.{partly-streams, two-alike}
+use Rattle.keyed_commands.proofs.commands.partly.apply_partly.Goals as goal
+
+pub returns : goal.returns
+returns g c =
+    let settings = c.args.settings in
+    let direction = c.args.direction in
+    let how = c.in_ok-how.how in
+    let named = record c.in_ok-inputs.inputs { first = c.rename.new.self; next = c.how_marked.new.changes } in
+    let P : Columns → Type 0 = λ columns. AreChangedColumnsBy settings.key named.first.source.value.header.names named.next.source.value.header.names
+    named.next.source.value.header.gone columns in
+    IfOk-weaker c.partly_files.result _ _
+    (λ partly read. two-alike (λ f h t u. PartlyTexts settings direction f h t u partly)
+    (text_of_stream g.R.Read.remaining settings.form c.args.old) _ (text_of_stream g.R.Read.remaining settings.form c.args.changes) _
+    (form_of settings.form c.args.old) _ (form_of settings.form c.args.changes) _
+    c.watch-old.ensures.text c.watch-changes.ensures.text c.watch-old.ensures.form c.watch-changes.ensures.form
+    (partly-streams (watched_left g.R.Read.remaining) settings direction c.watch-old.result c.watch-changes.result c.in_ok-inputs.inputs
+    named c.new-2.result how partly
+    (c.in_ok-how.ensures.form ∙ c.changes_form-form.ensures ∙ ap plain (sym c.watch-changes.ensures.form))
+    c.in_ok-how.ensures.going c.in_ok-how.ensures.coming c.in_ok-inputs.ensures.first c.in_ok-inputs.ensures.next
+    c.in_ok-inputs.ensures.gone
+    c.in_ok-rename.ensures c.in_ok-how.ensures.same c.new-2.ensures.form c.new-2.ensures.groups c.new-2.ensures.unordered c.new-2.ensures.order
+    (subst P (sym c.new-2.ensures.columns) c.in_ok-columns.ensures.columns)
+    (subst (IsSpelledAs named.first.source.value.header.spelling.names named.first.source.value.header.spelling.spelled) (sym c.new-2.ensures.columns) c.in_ok-columns.ensures.spelled)
+    read)) c.partly_files.ensures

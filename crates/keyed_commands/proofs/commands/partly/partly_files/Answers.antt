@@ -1,0 +1,36 @@
+use Rattle.std.proofs.Common.{subst}
+use Rattle.std.specs.Prelude.{is_none}
+use Rattle.std.proofs.lemmas.Result.{IfOk-weaker}
+use Rattle.keyed_requests.specs.AnswerForm.{in_style}
+use Rattle.keyed_tables.specs.Arranged.{noted}
+use Rattle.keyed_commands.specs.Rejected.{AnswersPartly}
+use Rattle.keyed_commands.specs.Turned.{changes_in}
+use Rattle.keyed_commands.proofs.commands.partly.partly_files.Goals as goal
+
+pub returns : goal.returns
+returns g c =
+    let tables = c.in_ok-tables.tables in
+    let job = c.read_to_change.new.self in
+    let style = c.style_under-style.result in
+    let read = c.in_ok-tables.ensures in
+    let how = c.args.how.now in
+    let direction = c.args.direction in
+    IfOk-weaker c.at.result _ _
+    (λ partly is. record {
+      old = tables.0.pairs.items;
+      changes = tables.1.pairs.items;
+      old_read = read.table;
+      changes_read = read.changes;
+      notes = read.notes;
+      applied = record {
+        style = style;
+        keys = noted job.order;
+        by_cells = is_none job.row_order.files;
+        applied = subst (λ j. AnswersPartly direction how partly (in_style style j.form) j.columns.now (noted job.order) (is_none job.row_order.files) tables.0.pairs.items (changes_in direction tables.1.pairs.items))
+            read.same
+            (subst (λ j. AnswersPartly direction how partly j.form j.columns.now (noted j.order) (is_none j.row_order.files) tables.0.pairs.items (changes_in direction tables.1.pairs.items))
+            c.in_style-job.ensures
+            (rw is at c.partly_in.ensures));
+        order = λ unordered. let after = read.unordered unordered in (after.keys, after.rows);
+      };
+    }) c.at.ensures

@@ -1,0 +1,13 @@
+use Rattle.std.proofs.Common.{◌∙◌, ap}
+use Rattle.std.specs.Prelude.{◌||◌}
+use Rattle.keyed_columns.specs.Names.{has_lone}
+use Rattle.keyed_commands.proofs.SortedTextLemmas.{diffs-written}
+use Rattle.keyed_commands.proofs.sorted.diff_as_csv.Goals as goal
+
+pub returns : goal.returns
+returns g c =
+    diffs-written g.R.Read.remaining c.args.layout c.sorted.result c.in_ok-marked.marked c.in_ok-columns.columns c.args.versions (g.W.Write.contents c.args.output.now)
+    (g.W.Write.contents c.write_tables.new.output) c.in_ok-differ.differ c.in_ok-finished.finished.status c.status_with.result
+    c.sorted.ensures.form c.sorted.ensures.columns c.in_ok-columns.ensures c.in_ok-marked.ensures
+    ((rw c.in_ok-differ.ensures at c.has_lone.ensures) ∙ ap (λ p. has_lone p.0 p.1 || has_lone p.1 p.0) c.column_changes.ensures) c.status_with.ensures
+    (c.in_ok-finished.ensures tt)

@@ -1,0 +1,16 @@
+use Rattle.std.proofs.Common.{subst}
+use Rattle.keyed_commands.specs.PartAnswers.{IsByKey}
+use Rattle.keyed_commands.proofs.PartsWrittenLemmas.{by_key_later, written_next}
+use Rattle.keyed_commands.proofs.sorted.write_later.Goals as goal
+
+pub loop-init : goal.loop-init
+loop-init g c how start before same by_key h = h
+
+pub loop-preserved : goal.loop-preserved
+loop-preserved g c how start before same by_key h =
+    written_next g.R.Read.remaining how c.args.work.now start c.loop.tables c.write_part.new.tables before (g.W.Write.contents c.loop.output)
+    (g.W.Write.contents c.write_part.new.output) c.loop.whole c.in_ok-next.next c.and-whole.result same (c.loop.invariant how start before same by_key h) c.if-is_last.false
+    (c.in_ok-next.ensures (subst IsByKey same (by_key_later how by_key))) c.and-whole.ensures.status c.and-whole.ensures.last
+
+pub returns-then-is_last-clause-rest : goal.returns-then-is_last-clause-rest
+returns-then-is_last-clause-rest g c = c.loop.invariant

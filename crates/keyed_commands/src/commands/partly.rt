@@ -1,0 +1,177 @@
+//! The answer to `apply`, of streams, where changes need not fit: the table with those made to it that do, and the others as changes.
+ghost use Rattle.std.specs.Prelude.{◌≡◌, ◌==◌, IfOk, OnOk, is_none, length};
+ghost use Rattle.keyed_tables.specs.Arranged.{noted};
+ghost use Rattle.keyed_files.specs.Gone.{IsTurned};
+ghost use Rattle.keyed_files.specs.Opening.{form_of};
+ghost use Rattle.keyed_commands.specs.AppliedTexts.{PartlySources, PartlyStreams, watched_left};
+ghost use Rattle.keyed_commands.specs.Rejected.{AnswersPartly, beside, other_way, plain};
+ghost use Rattle.keyed_commands.specs.Turned.{changes_in};
+
+use crate::answer::Answer;
+use crate::job::{Changes, Job, Table};
+use crate::made_table::answer_of_rows;
+use crate::parted::part_changes;
+use crate::rejected::{ChangesForm, changes_text};
+use crate::styles::{Noting, Watched, spelling_of, style_under, watch};
+use crate::turned::{changes_in, pairs_in};
+use eob_joins::Change;
+use keyed_columns::{Columns, Content};
+use keyed_faults::{Fault, Reason, at};
+use keyed_files::{Opened, Stream, Two};
+use keyed_requests::{Direction, Form, Settings, Writing};
+use keyed_rows::{Cells, Group, Key};
+use std::alloc::Global;
+use std::io::Read;
+
+/// A table to which the changes are made that fit, with status 1 where some do not, and a text of those.
+#[derive(Drop)]
+pub struct Partly {
+    pub answer: Answer,
+    pub rejected: Vec<u8>,
+}
+
+/// The answer to `apply`, as [`apply`](crate::apply) gives it, of those changes that fit, and a text of the others: changes as they were
+/// given, also where they are taken back, under their header, with the byte between cells that the changes have. The text has its header
+/// where there is no such change, and where the answer has none.
+///
+/// # Errors
+///
+/// Returns the errors of [`apply`](crate::apply).
+pub fn apply_partly<'a, R: Read + Drop>(
+    alloc: Global,
+    settings: Settings<'a>,
+    direction: Direction,
+    old: Stream<'a, R>,
+    changes: Stream<'a, R>,
+) -> Result<Partly, Fault<'a>>
+    ensures { IfOk result (PartlyStreams R.remaining settings.entry direction old.entry changes.entry) }
+{
+    let form = changes_form(settings.form, &changes);
+    let old = watch(alloc, settings.form, Noting::Noted, old);
+    let changes = watch(alloc, settings.form, Noting::Unnoted, changes);
+    let mut inputs = Two::new(alloc, settings.form, Content::Changes, old, changes)?;
+    inputs.first.rename(alloc, settings)?;
+    let how = how_marked(form, direction, &mut inputs.next)?;
+    let columns = inputs.changed_columns(alloc, settings.key)?;
+    partly_files(
+        Job::new(alloc, settings, &columns),
+        &how,
+        direction,
+        &mut inputs,
+    )
+}
+
+// The form of changes that are read so, with their header and in no style of a table.
+fn changes_form<R>(form: Form, changes: &Stream<'_, R>) -> Form
+    ensures { result ≡ plain (form_of form changes.now) }
+{
+    Form {
+        delimiter: changes.delimiter.unwrap_or(form.delimiter),
+        writing: Writing::PLAIN,
+        ..form
+    }
+}
+
+// How changes are written again that have such a header, which is turned in a direction.
+fn how_marked<'a, R>(
+    form: Form,
+    direction: Direction,
+    changes: &mut Opened<'a, R>,
+) -> Result<ChangesForm, Fault<'a>>
+    ensures form { IfOk result (λ how. how.form ≡ form) }
+    ensures going { IfOk result (λ how. how.going ≡ changes.old.source.value.header.gone) }
+    ensures coming { IfOk result (λ how. how.coming ≡ changes.old.source.value.header.came) }
+    ensures same { OnOk result (IsTurned direction changes.old.source.value changes.new.source.value) }
+{
+    let going = copied_gone(changes)?;
+    changes.turn(Direction::Backward);
+    let coming = copied_gone(changes)?;
+    changes.turn(other_way(direction));
+    Ok(ChangesForm {
+        form,
+        going,
+        coming,
+    })
+}
+
+// The names of the columns that go.
+fn copied_gone<'a, R>(changes: &Opened<'a, R>) -> Result<Cells, Fault<'a>>
+    ensures { IfOk result (λ gone. gone ≡ changes.now.source.value.header.gone) }
+{
+    let gone: Result<_, _> = changes.source.gone().clone();
+    at(changes.file, gone)
+}
+
+// The other direction.
+fn other_way(direction: Direction) -> Direction
+    ensures { result ≡ other_way direction }
+{
+    match direction {
+        Direction::Forward => Direction::Backward,
+        Direction::Backward => Direction::Forward,
+    }
+}
+
+fn partly_files<'a, R: Read + Drop>(
+    mut job: Job<'_, Columns>,
+    how: &ChangesForm,
+    direction: Direction,
+    inputs: &mut Two<'a, Watched<R>>,
+) -> Result<Partly, Fault<'a>>
+    ensures { IfOk result
+        (PartlySources (watched_left R.remaining) job.entry how.now direction inputs.old) }
+{
+    let tables = job.read_to_change(inputs)?;
+    let (old, changes) = tables;
+    let noted = inputs.first.source.get_ref().style();
+    let style = style_under(job.form.writing.heading, noted);
+    let spelling = spelling_of(&job, &inputs.first)?;
+    let job = job.in_style(style, spelling);
+    at(
+        inputs.next.file,
+        partly_in(&job, how, direction, old, changes),
+    )
+}
+
+// The answer in a direction: changes that are taken back are parted turned about, and written as they were given.
+fn partly_in(
+    job: &Job<'_, Columns>,
+    how: &ChangesForm,
+    direction: Direction,
+    old: Table,
+    changes: Changes,
+) -> Result<Partly, Reason>
+    ensures { IfOk result (λ partly. AnswersPartly direction how.now partly job.now.form
+        job.now.columns.now (noted job.now.order) (is_none job.now.row_order.files)
+        old.pairs.items (changes_in direction changes.pairs.items)) }
+{
+    let changes = changes_in(job.alloc, direction, changes)?;
+    let parted = part_changes(job.alloc, old, changes)?;
+    let whole = are_none(&parted.rejected);
+    let given = pairs_in(job.alloc, direction, parted.rejected)?;
+    let made = answer_of_rows(job, "table", parted.rows)?;
+    let rejected = changes_text(job, how, given)?;
+    let answer = beside(whole, made);
+    Ok(Partly { answer, rejected })
+}
+
+// Whether no change is rejected.
+fn are_none(rejected: &[(Key, Change<Group>)]) -> bool
+    ensures { result ≡ (length rejected.now == 0) }
+{
+    rejected.is_empty()
+}
+
+// The answer where all changes are made, or where some are not.
+fn beside(whole: bool, answer: Answer) -> Answer
+    ensures { result ≡ beside whole answer }
+{
+    if whole {
+        answer
+    } else {
+        Answer {
+            status: 1,
+            ..answer
+        }
+    }
+}
