@@ -1,5 +1,5 @@
 //! Callers of the commands: what a program knows of the answers to `diff`, `apply`, `merge`, `join`, `overlay` and `lookup` of texts that it
-//! knows when it is written; and callers of the reader and the writer of rows (`texts`).
+//! knows when it is written; and callers of the reader and the writer of rows (`texts`), and of the rows that a report shows (`reports`).
 #![tactic(auto)]
 
 ghost use Rattle.std.specs.Prelude.{◌≡◌, ◌∷◌, [], IfOk, codes};
@@ -31,6 +31,7 @@ macro_rules! joining {
 pub mod laws;
 pub mod layers;
 pub mod lookups;
+pub mod reports;
 pub mod sorted;
 pub mod texts;
 

@@ -1,7 +1,13 @@
 //! Text as a person reads it in a terminal: cells lined up in columns.
+ghost use Rattle.std.specs.Prelude.{◌≡◌, ◌++◌, ◌∷◌, [], IfOk, OnOk, codes, string_bytes};
+ghost use Rattle.std.specs.Prelude.{None, Some, replicate};
+ghost use Rattle.keyed_layout.specs.Lines.{AppendsBoth, AppendsShown, AreBothShown, AreLinedUp};
+ghost use Rattle.keyed_layout.specs.Lines.{AreNamedBoth, AreSpaced, IsLineOf, IsNamed, IsSpaced};
+ghost use Rattle.keyed_layout.specs.Lines.{IsTextOf, Puts, begin_of, end_of, picked_cells};
+ghost use Rattle.keyed_layout.specs.Lines.{picked_pairs, texts_of};
 
 use keyed_columns::Columns;
-use keyed_faults::{ShownCell, ShownName, shown_cell};
+use keyed_faults::{ShownCell, shown_cell};
 use keyed_numbers::{Alike, is_same_cell};
 use keyed_rows::{Cells, Group, Iter, Key};
 use std::alloc::{AllocError, Global};
@@ -15,19 +21,27 @@ pub enum Colour {
     Yellow,
 }
 
-impl Colour {
-    // What makes a terminal show what follows in this colour.
-    fn begin(self) -> &'static str {
-        match self {
-            Colour::Red => "\x1b[31m",
-            Colour::Green => "\x1b[32m",
-            Colour::Yellow => "\x1b[33m",
-        }
+// What makes a terminal show what follows in a colour, if there is one.
+fn begin(colour: Option<Colour>) -> &'static str
+    ensures { result.now ≡ begin_of colour }
+{
+    match colour {
+        Some(Colour::Red) => "\x1b[31m",
+        Some(Colour::Green) => "\x1b[32m",
+        Some(Colour::Yellow) => "\x1b[33m",
+        None => "",
     }
 }
 
-// What ends any colour.
-const PLAIN: &str = "\x1b[0m";
+// What ends a colour, if there is one.
+fn end(colour: Option<Colour>) -> &'static str
+    ensures { result.now ≡ end_of colour }
+{
+    match colour {
+        Some(_) => "\x1b[0m",
+        None => "",
+    }
+}
 
 /// A line of cells, and its colour, if it has one.
 #[derive(Drop)]
@@ -49,14 +63,27 @@ pub type Grid = Vec<Line>;
 /// # Errors
 ///
 /// Returns `AllocError` if a request for memory was refused.
-pub fn put_shown(alloc: Global, line: &mut Line, cells: &Cells) -> Result<(), AllocError> {
+pub fn put_shown(alloc: Global, line: &mut Line, cells: &Cells) -> Result<(), AllocError>
+    ensures { OnOk result (AppendsShown cells.now line.old line.new) }
+{
     put_cells_of(alloc, line, cells.iter())
 }
 
-fn put_cells_of(alloc: Global, line: &mut Line, cells: Iter<'_>) -> Result<(), AllocError> {
+fn put_cells_of(alloc: Global, line: &mut Line, cells: Iter<'_>) -> Result<(), AllocError>
+    ensures { OnOk result (AppendsShown cells.entry line.old line.new) }
+{
     for cell in cells {
-        line.cells.push(shown_cell(alloc, cell)?)?;
+        put_cell(alloc, line, cell)?;
     }
+    Ok(())
+}
+
+// Puts a cell after those of a line.
+fn put_cell(alloc: Global, line: &mut Line, cell: &[u8]) -> Result<(), AllocError>
+    ensures { OnOk result (AppendsShown (cell.now ∷ []) line.old line.new) }
+{
+    let text = shown_cell(alloc, cell)?;
+    line.cells.push(text)?;
     Ok(())
 }
 
@@ -70,10 +97,12 @@ pub fn put_picked(
     line: &mut Line,
     picked: &[bool],
     cells: &Cells,
-) -> Result<(), AllocError> {
+) -> Result<(), AllocError>
+    ensures { OnOk result (AppendsShown (picked_cells picked.now cells.now) line.old line.new) }
+{
     for (cell, is_picked) in cells.iter().zip(picked.iter()) {
         if *is_picked {
-            line.cells.push(shown_cell(alloc, cell)?)?;
+            put_cell(alloc, line, cell)?;
         }
     }
     Ok(())
@@ -84,7 +113,9 @@ pub fn put_picked(
 /// # Errors
 ///
 /// Returns `AllocError` if a request for memory was refused.
-pub fn heading(alloc: Global, columns: &Columns) -> Result<Line, AllocError> {
+pub fn heading(alloc: Global, columns: &Columns) -> Result<Line, AllocError>
+    ensures { IfOk result (IsLineOf [] (columns.now.key ++ columns.now.rest)) }
+{
     let mut line = line_of_word(alloc, "")?;
     put_shown(alloc, &mut line, &columns.key)?;
     put_shown(alloc, &mut line, &columns.rest)?;
@@ -100,7 +131,9 @@ pub fn heading_of_picked(
     alloc: Global,
     columns: &Columns,
     picked: &[bool],
-) -> Result<Line, AllocError> {
+) -> Result<Line, AllocError>
+    ensures { IfOk result (IsLineOf [] (columns.now.key ++ picked_cells picked.now columns.now.rest)) }
+{
     let mut line = line_of_word(alloc, "")?;
     put_shown(alloc, &mut line, &columns.key)?;
     put_picked(alloc, &mut line, picked, &columns.rest)?;
@@ -112,16 +145,21 @@ pub fn heading_of_picked(
 /// # Errors
 ///
 /// Returns `AllocError` if a request for memory was refused.
-pub fn line_under(alloc: Global, word: &str, key: &Key) -> Result<Line, AllocError> {
+pub fn line_under(alloc: Global, word: &str, key: &Key) -> Result<Line, AllocError>
+    ensures { IfOk result (IsLineOf word.now key.now) }
+{
     let mut line = line_of_word(alloc, word)?;
     put_cells_of(alloc, &mut line, key.iter())?;
     Ok(line)
 }
 
 // A line with no colour of one word.
-fn line_of_word(alloc: Global, word: &str) -> Result<Line, AllocError> {
+fn line_of_word(alloc: Global, word: &str) -> Result<Line, AllocError>
+    ensures { IfOk result (IsLineOf word.now []) }
+{
+    let text = String::from_str(alloc, word)?;
     let mut cells = Vec::new(alloc);
-    cells.push(String::from_str(alloc, word)?)?;
+    cells.push(text)?;
     Ok(Line {
         colour: None,
         cells,
@@ -141,33 +179,68 @@ pub fn put_both(
     picked: &[bool],
     old: &Cells,
     new: &Cells,
-) -> Result<(), AllocError> {
+) -> Result<(), AllocError>
+    ensures { OnOk result
+        (AppendsBoth (picked_pairs alikes.now picked.now old.now new.now) line.old line.new) }
+{
     let cells = old.iter().zip(new.iter());
     for ((cell, next), (alike, is_picked)) in cells.zip(alikes.iter().zip(picked.iter())) {
         if *is_picked {
-            line.cells.push(both_shown(alloc, *alike, cell, next)?)?;
+            put_pair(alloc, line, *alike, cell, next)?;
         }
     }
     Ok(())
 }
 
-// Two cells as one: the new one where they are the same.
-fn both_shown(
+// Puts two cells as one after those of a line.
+fn put_pair(
     alloc: Global,
+    line: &mut Line,
     alike: Alike<'_>,
     old: &[u8],
     new: &[u8],
-) -> Result<String, AllocError> {
+) -> Result<(), AllocError>
+    ensures { OnOk result
+        (AppendsBoth ((alike.entry, (old.now, new.now)) ∷ []) line.old line.new) }
+{
+    let text = both_shown(alloc, alike, old, new)?;
+    line.cells.push(text)?;
+    Ok(())
+}
+
+// Two cells as one: the new one where they are the same.
+fn both_shown(alloc: Global, alike: Alike<'_>, old: &[u8], new: &[u8]) -> Result<String, AllocError>
+    ensures { IfOk result
+        (λ text. AreBothShown (alike.entry, (old.now, new.now)) (string_bytes text)) }
+{
     if is_same_cell(alike, old, new) {
-        shown_cell(alloc, new)
+        let text = shown_cell(alloc, new)?;
+        Ok(text)
     } else {
-        both_cells(alloc, old, new)
+        let text = both_named(alloc, old, new)?;
+        Ok(text)
     }
 }
 
 // Two cells that differ, of which an empty one is `""`.
-fn both_cells(alloc: Global, old: &[u8], new: &[u8]) -> Result<String, AllocError> {
-    format!(in alloc; "{} -> {}", ShownName(old), ShownName(new))
+fn both_named(alloc: Global, old: &[u8], new: &[u8]) -> Result<String, AllocError>
+    ensures { IfOk result (λ text. AreNamedBoth old.now new.now (string_bytes text)) }
+{
+    let mut text = named(alloc, old)?;
+    let after = named(alloc, new)?;
+    text.push_str(" -> ")?;
+    text.push_str(&after)?;
+    Ok(text)
+}
+
+// A cell among other text.
+fn named(alloc: Global, cell: &[u8]) -> Result<String, AllocError>
+    ensures { IfOk result (λ text. IsNamed cell.now (string_bytes text)) }
+{
+    match cell {
+        [] => String::from_str(alloc, "\"\""),
+        _ => shown_cell(alloc, cell),
+    }
 }
 
 /// Puts a version of the rows under a key, a line each.
@@ -208,7 +281,9 @@ fn put_no_row(alloc: Global, grid: &mut Grid, name: &str, key: &Key) -> Result<(
 /// # Errors
 ///
 /// Returns `AllocError` if a request for memory was refused.
-pub fn line_up(alloc: Global, grid: &[Line]) -> Result<String, AllocError> {
+pub fn line_up(alloc: Global, grid: &[Line]) -> Result<String, AllocError>
+    ensures { IfOk result (λ text. AreLinedUp grid.now (string_bytes text)) }
+{
     let widths = widths_of(alloc, grid)?;
     let mut text = String::new(alloc);
     for line in grid {
@@ -243,33 +318,58 @@ fn widen(widths: &mut Vec<usize>, line: &[String]) -> Result<(), AllocError> {
 }
 
 // Puts a line whose columns have these widths.
-fn put_line(text: &mut String, line: &Line, widths: &[usize]) -> Result<(), AllocError> {
-    match line.colour {
-        Some(colour) => {
-            text.push_str(colour.begin())?;
-            put_cells(text, &line.cells, widths)?;
-            text.push_str(PLAIN)?;
-        }
-        None => put_cells(text, &line.cells, widths)?,
-    }
+fn put_line(text: &mut String, line: &Line, widths: &[usize]) -> Result<(), AllocError>
+    ensures { OnOk result (Puts (IsTextOf line.now) (string_bytes text.old) (string_bytes text.new)) }
+{
+    text.push_str(begin(line.colour))?;
+    put_cells(text, line, widths)?;
+    text.push_str(end(line.colour))?;
     text.push('\n')?;
     Ok(())
 }
 
 // Puts the cells of a line. The gap before a cell is put with it, so that none stands after the last one.
-fn put_cells(text: &mut String, cells: &[String], widths: &[usize]) -> Result<(), AllocError> {
+fn put_cells(text: &mut String, line: &Line, widths: &[usize]) -> Result<(), AllocError>
+    ensures { OnOk result (Puts (AreSpaced (texts_of line.now)) (string_bytes text.old) (string_bytes text.new)) }
+{
+    let mut widths = widths.iter();
     let mut gap: usize = 0;
-    for (cell, widest) in cells.iter().zip(widths.iter()) {
-        if !cell.is_empty() {
-            for _ in 0..gap {
-                text.push(' ')?;
-            }
-            text.push_str(cell)?;
-            gap = 0;
-        }
-        let width = cell.as_str().width();
-        let behind = widest.saturating_sub(width).saturating_add(Line::GAP);
-        gap = gap.saturating_add(behind);
+    for cell in &line.cells {
+        put_after(text, gap, cell)?;
+        gap = gap_behind(gap, cell, widths.next());
     }
     Ok(())
+}
+
+// Puts so many spaces and a cell, or nothing where the cell is empty.
+fn put_after(text: &mut String, gap: usize, cell: &str) -> Result<(), AllocError>
+    ensures { OnOk result (Puts (IsSpaced cell.now) (string_bytes text.old) (string_bytes text.new)) }
+{
+    if !cell.is_empty() {
+        put_spaces(text, gap)?;
+        text.push_str(cell)?;
+    }
+    Ok(())
+}
+
+// Puts so many spaces.
+fn put_spaces(text: &mut String, count: usize) -> Result<(), AllocError>
+    ensures { OnOk result (string_bytes text.new ≡ string_bytes text.old ++ replicate count 32) }
+{
+    for _ in 0..count {
+        text.push(' ')?;
+    }
+    Ok(())
+}
+
+// How many spaces stand before the next cell, where so many stood before this one in a column of this width.
+fn gap_behind(gap: usize, cell: &str, widest: Option<&usize>) -> usize {
+    let before = if cell.is_empty() { gap } else { 0 };
+    let width = cell.width();
+    let widest = match widest {
+        Some(widest) => *widest,
+        None => width,
+    };
+    let behind = widest.saturating_sub(width).saturating_add(Line::GAP);
+    before.saturating_add(behind)
 }

@@ -1,1 +1,4 @@
 pub mod EscapeLemmas
+pub mod RowLaws
+pub mod RowLemmas
+pub mod TableLemmas

@@ -24,6 +24,6 @@ pub use changed_rows::{RowChange, row_changes};
 pub use counts::{Counts, count, count_rows};
 pub use joined_json::{JsonSides, put_json_row};
 pub use json_lines::{json_columns, json_rows};
-pub use laws::law_html_is_text;
+pub use laws::{law_html_is_text, law_lone_count, law_one_row_each, law_pairs, law_told_differs};
 pub use report::{Report, write_report};
 pub use stopped::{Stopped, Version, write_stopped};

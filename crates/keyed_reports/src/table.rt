@@ -1,4 +1,11 @@
 //! What changed between two tables, as a table on a terminal.
+ghost use Rattle.std.specs.Prelude.{◌≡◌, ◌++◌, ◌∷◌, [], ℕ, IfOk, List, None, OnOk, length, map, string_bytes};
+ghost use Rattle.either_or_both.specs.Prelude.{map_places};
+ghost use Rattle.keyed_layout.specs.Lines.{AreLinedUp, texts_of};
+ghost use Rattle.keyed_layout.specs.declared.lined_up.Line.{Line};
+ghost use Rattle.keyed_reports.specs.RowChanges.{row_behind};
+ghost use Rattle.keyed_reports.specs.TableLines.{AreCells, AreLinesOf, HasTextOfRows, IsLineOfRow, IsTable};
+ghost use Rattle.keyed_reports.specs.TableLines.{IsTextOfRows};
 
 use crate::blocks::{blocks, lead_of};
 use crate::changed_rows::{RowChange, word_of};
@@ -22,15 +29,37 @@ use std::fmt::Write;
 /// # Errors
 ///
 /// Returns `AllocError` if a request for memory was refused.
-pub fn table(alloc: Global, colours: Colours, report: &Report<'_>) -> Result<String, AllocError> {
-    let mut text = format!(in alloc; "{}", report.column_changes)?;
+pub fn table(alloc: Global, colours: Colours, report: &Report<'_>) -> Result<String, AllocError>
+    ensures { IfOk result (λ text. report.now.view.width ≡ None → IsTable report.now.view
+        report.now.alikes.now report.now.columns.now (map row_behind report.now.rows.now) (string_bytes text)) }
+{
+    let before = format!(in alloc; "{}", report.column_changes)?;
     let shown = columns_of(alloc, report)?;
-    text.push_str(&render_rows(alloc, colours, report, &shown)?)?;
+    let rows = render_rows(alloc, colours, report, &shown)?;
+    let after = said_after(alloc, report, &shown)?;
+    let text = joined(before, &rows, &after)?;
+    Ok(text)
+}
+
+// How many rows and how many columns are not shown, if any are not, and the counts.
+fn said_after(alloc: Global, report: &Report<'_>, shown: &[bool]) -> Result<String, AllocError> {
+    let mut text = String::new(alloc);
     if report.more > 0 {
         writeln!(text, "and {} more", report.more)?;
     }
-    text.push_str(&left_out(alloc, report, &shown)?)?;
+    text.push_str(&left_out(alloc, report, shown)?)?;
     writeln!(text, "{}", report.counts)?;
+    Ok(text)
+}
+
+// Three texts as one.
+fn joined(first: String, next: &str, last: &str) -> Result<String, AllocError>
+    ensures { IfOk result
+        (λ text. string_bytes text ≡ string_bytes first ++ (next.now ++ last.now)) }
+{
+    let mut text = first;
+    text.push_str(next)?;
+    text.push_str(last)?;
     Ok(text)
 }
 
@@ -40,14 +69,46 @@ fn render_rows(
     colours: Colours,
     report: &Report<'_>,
     shown: &[bool],
-) -> Result<String, AllocError> {
+) -> Result<String, AllocError>
+    ensures { IfOk result (λ text. report.now.view.width ≡ None → IsTextOfRows report.now.alikes.now
+        shown.now report.now.columns.now (map row_behind report.now.rows.now) (string_bytes text)) }
+{
     if report.rows.is_empty() {
         return Ok(String::new(alloc));
     }
+    match report.view.width {
+        None => {
+            let text = whole_rows(alloc, colours, report, shown)?;
+            Ok(text)
+        }
+        Some(most) => render_blocks(alloc, colours, report, shown, most),
+    }
+}
+
+// The rows under the names of the columns that are shown, lined up.
+fn whole_rows(
+    alloc: Global,
+    colours: Colours,
+    report: &Report<'_>,
+    shown: &[bool],
+) -> Result<String, AllocError>
+    ensures { IfOk result (λ text. (grid : List Line) × AreLinesOf report.now.alikes.now shown.now
+        report.now.columns.now (map row_behind report.now.rows.now) grid × AreLinedUp grid (string_bytes text)) }
+{
     let grid = grid_of(alloc, colours, report, shown)?;
-    let Some(most) = report.view.width else {
-        return line_up(alloc, &grid);
-    };
+    let text = line_up(alloc, &grid)?;
+    Ok(text)
+}
+
+// The same in blocks of columns whose lines take so many columns of a terminal at most.
+fn render_blocks(
+    alloc: Global,
+    colours: Colours,
+    report: &Report<'_>,
+    shown: &[bool],
+    most: usize,
+) -> Result<String, AllocError> {
+    let grid = grid_of(alloc, colours, report, shown)?;
     let blocks = blocks_of(alloc, report, shown, &grid, most)?;
     if blocks.len() == 1 {
         return line_up(alloc, &grid);
@@ -58,8 +119,7 @@ fn render_rows(
         if place > 0 {
             text.push('\n')?;
         }
-        let lines = line_up(alloc, &grid_of(alloc, colours, report, block)?)?;
-        text.push_str(&lines)?;
+        text.push_str(&whole_rows(alloc, colours, report, block)?)?;
     }
     Ok(text)
 }
@@ -84,12 +144,25 @@ fn grid_of(
     colours: Colours,
     report: &Report<'_>,
     shown: &[bool],
-) -> Result<Grid, AllocError> {
-    let mut grid: Grid = Vec::new(alloc);
-    grid.push(heading_of_picked(alloc, report.columns, shown)?)?;
+) -> Result<Grid, AllocError>
+    ensures { IfOk result (λ grid. AreLinesOf report.now.alikes.now shown.now report.now.columns.now
+        (map row_behind report.now.rows.now) grid.items) }
+{
+    let heading = heading_of_picked(alloc, report.columns, shown)?;
+    let mut grid = grid_under(alloc, heading)?;
     for row in report.rows {
-        grid.push(line_of(alloc, colours, report.alikes, shown, row)?)?;
+        let line = line_of(alloc, colours, report.alikes, shown, row)?;
+        grid.push(line)?;
     }
+    Ok(grid)
+}
+
+// A grid of one line.
+fn grid_under(alloc: Global, heading: Line) -> Result<Grid, AllocError>
+    ensures { IfOk result (λ grid. grid.items ≡ heading ∷ []) }
+{
+    let mut grid = Vec::new(alloc);
+    grid.push(heading)?;
     Ok(grid)
 }
 
@@ -100,20 +173,46 @@ fn line_of(
     alikes: &[Alike<'_>],
     shown: &[bool],
     row: &RowChange<'_>,
-) -> Result<Line, AllocError> {
+) -> Result<Line, AllocError>
+    ensures { IfOk result (IsLineOfRow alikes.now shown.now (row_behind row.now)) }
+{
     let (key, change) = *row;
     let mut line = line_under(alloc, word_of(change), key)?;
-    line.colour = match colours {
+    put_row(alloc, &mut line, alikes, shown, change)?;
+    Ok(coloured(line, colours, change))
+}
+
+// Puts the cells of a row that changed, of the columns that are shown, after those of a line.
+fn put_row(
+    alloc: Global,
+    line: &mut Line,
+    alikes: &[Alike<'_>],
+    shown: &[bool],
+    change: Change<&Cells>,
+) -> Result<(), AllocError>
+    ensures { OnOk result ((cells : List (List ℕ)) × AreCells alikes.now shown.now
+        (map_places (λ cells. cells.now) (λ cells. cells.now) change.entry) cells
+        × (texts_of line.new ≡ texts_of line.old ++ cells)) }
+{
+    match change {
+        EitherOrBoth::Left(cells) => put_picked(alloc, line, shown, cells),
+        EitherOrBoth::Both(old, new) => {
+            put_both(alloc, line, alikes, shown, old, new)?;
+            Ok(())
+        }
+        EitherOrBoth::Right(cells) => put_picked(alloc, line, shown, cells),
+    }
+}
+
+// A line in the colour of its change, where there are colours.
+fn coloured(line: Line, colours: Colours, change: Change<&Cells>) -> Line
+    ensures { texts_of result ≡ texts_of line }
+{
+    let colour = match colours {
         Colours::On => Some(colour_of(change)),
         Colours::Off => None,
     };
-    match change {
-        EitherOrBoth::Left(cells) | EitherOrBoth::Right(cells) => {
-            put_picked(alloc, &mut line, shown, cells)?
-        }
-        EitherOrBoth::Both(old, new) => put_both(alloc, &mut line, alikes, shown, old, new)?,
-    }
-    Ok(line)
+    Line { colour, ..line }
 }
 
 fn colour_of(change: Change<&Cells>) -> Colour {

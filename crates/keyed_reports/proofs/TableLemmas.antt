@@ -1,0 +1,29 @@
+-- Lines of rows that changed, one after another.
+use Rattle.std.proofs.Common.{◌≡◌, ◌∙◌, ◌+◌, ◌<◌, ◌++◌, ℕ, List, [], ◌∷◌, ap, get_or, length, map, refl, subst, sym, take}
+use Rattle.std.specs.List.{AllZip}
+use Rattle.std.proofs.lemmas.List.{map-append, take_more}
+use Rattle.either_or_both.specs.Prelude.{map_places}
+use Rattle.eob_both.specs.declared.either_or_both.EitherOrBoth.{EitherOrBoth}
+use Rattle.eob_both.specs.declared.either_or_both.EitherOrBoth.TheVariants.{Left, Both, Right}
+use Rattle.keyed_reports.specs.RowChanges.{word_of}
+
+-- the word of a row is that of what stands behind its references
+pub word-behind : {R S : Type 0} (f : R → S) (change : EitherOrBoth R R) → word_of (map_places f f change) ≡ word_of change
+word-behind f (Left old) = refl
+word-behind f (Both old new) = refl
+word-behind f (Right new) = refl
+
+module _ {A L : Type 0} (holds : A → L → Type 0) where
+  one_more : (xs : List A) (lines : List L) (x : A) (line : L) → AllZip holds xs lines → holds x line → AllZip holds (xs ++ x ∷ []) (lines ++ line ∷ [])
+  one_more [] [] x line h k = (k, tt)
+  one_more [] (l ∷ lines) x line h k = absurd h
+  one_more (y ∷ xs) [] x line h k = absurd h
+  one_more (y ∷ xs) (l ∷ lines) x line h k = (h.0, one_more xs lines x line h.1 k)
+
+  -- the line of one row more
+  pub line-more : {X : Type 0} (f : X → A) (xs : List X) (i : ℕ) (x : X) (lines : List L) (line : L) → i < length xs → x ≡ get_or xs i x
+      → AllZip holds (map f (take i xs)) lines → holds (f x) line → AllZip holds (map f (take (i + 1) xs)) (lines ++ line ∷ [])
+  line-more f xs i x lines line h at all one =
+      let more : take (i + 1) xs ≡ take i xs ++ x ∷ [] = take_more xs i x h ∙ ap (λ y. take i xs ++ y ∷ []) (sym at) in
+      subst (λ l. AllZip holds l (lines ++ line ∷ [])) (sym (ap (map f) more ∙ map-append f (take i xs) (x ∷ [])))
+      (one_more (map f (take i xs)) lines (f x) line all one)
