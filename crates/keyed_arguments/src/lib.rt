@@ -498,7 +498,9 @@ fn command<'a>(alloc: Global) -> Result<clap::Command<'a>, AllocError> {
     let below = subcommands(alloc)?;
     clap::Command::new(alloc, "keyed")
         .version("0.1.0")
-        .about("Compares, changes, merges and joins tables of CSV by key.")
+        .about(
+            "Compares, changes, merges and joins tables of CSV by key. FILE:TABLE is a table of an SQLite file.",
+        )
         .subcommand_required(true)
         .subcommands(below)
 }

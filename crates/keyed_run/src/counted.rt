@@ -1,9 +1,10 @@
-//! A runtime whose files, and whose standard input, are counted line by line as they are read, and streams that the line which says so makes
-//! room for.
+//! A runtime whose files, and whose standard input, are counted line by line as they are read, and streams that the line which says so
+//! makes room for. Its SQLite files are read as the texts of their tables.
 
 ghost use Rattle.std.specs.Prelude.{◌≡◌, ◌+◌, IfOk, string_len};
 
 use crate::progress::ProgressLine;
+use keyed_sqlite::{Databases, Opened};
 use std::alloc::{Allocator, Global};
 use std::fmt::Display;
 use std::fs::{Metadata, OpenFile, OpenOptions, Permissions};
@@ -12,11 +13,13 @@ use std::io::{BufRead, IsTerminal, Lines, Read, Seek, SeekFrom, Write};
 use std::path::PathBuf;
 use std::rt::{Clock, Files};
 
-/// A runtime, and the line that says how far its files are read. What it says on its standard error is said when that line is gone.
+/// A runtime, the line that says how far its files are read, and how its SQLite files are. What it says on its standard error is said when
+/// that line is gone.
 #[derive(Drop)]
 pub struct CountedRuntime<'p, 'r, R> {
     pub rt: &'r R,
     pub line: &'p ProgressLine<'r, R>,
+    pub databases: &'p Databases,
 }
 
 /// A file or a standard input that is counted as it is read.
@@ -140,14 +143,18 @@ impl<'p, 'r, R: Input + Clock + Eprint> Input for CountedRuntime<'p, 'r, R> {
 }
 
 impl<'p, 'r, R: Files + Clock + Eprint> Files for CountedRuntime<'p, 'r, R> {
-    type File = Counted<'p, 'r, R, R::File>;
+    type File = Counted<'p, 'r, R, Opened<R::File>>;
 
     type Dir = R::Dir;
 
-    fn open_file(&self, how: &OpenOptions, path: &str) -> io::Result<Counted<'p, 'r, R, R::File>> {
+    fn open_file(
+        &self,
+        how: &OpenOptions,
+        path: &str,
+    ) -> io::Result<Counted<'p, 'r, R, Opened<R::File>>> {
         Ok(Counted {
             line: self.line,
-            file: self.rt.open_file(how, path)?,
+            file: self.databases.open(self.rt, how, path)?,
         })
     }
 

@@ -15,6 +15,7 @@ use keyed_commands::{
     write_git_unmerged, write_git_unopened, write_into_file,
 };
 use keyed_cut::{Cut, write_cut};
+use keyed_sqlite::{Databases, Reading};
 use leavable::{LeavableOutput, WhenLeft};
 use progress::ProgressLine;
 use std::alloc::{AllocError, Global};
@@ -136,8 +137,14 @@ fn answer_counted<'r, R: Files + Input + Clock + Eprint + AllocGlobal, W: Write 
     asked: Asked<'_>,
     output: &mut W,
 ) -> u8 {
-    let counted = CountedRuntime { rt, line };
-    let status = answer(&counted, asked, &mut ClearedOutput::new(line, output));
+    let databases = Databases::new(rt.alloc(), reading_of(&asked));
+    let counted = CountedRuntime {
+        rt,
+        line,
+        databases: &databases,
+    };
+    let mut output = ClearedOutput::new(line, output);
+    let status = answer(&counted, &databases, asked, &mut output);
     line.clear();
     status
 }
@@ -148,7 +155,13 @@ fn cut_counted<'r, R: Files + Clock + Eprint + AllocGlobal>(
     line: &ProgressLine<'r, R>,
     cut: Cut<'_>,
 ) -> u8 {
-    let status = cut_tables(&CountedRuntime { rt, line }, cut);
+    let databases = Databases::new(rt.alloc(), Reading::LeftAlone);
+    let counted = CountedRuntime {
+        rt,
+        line,
+        databases: &databases,
+    };
+    let status = cut_tables(&counted, cut);
     line.clear();
     status
 }
@@ -202,8 +215,26 @@ fn shown_error(alloc: Global, words: &[String]) -> Result<ParseError, AllocError
     }
 }
 
+// How SQLite files are read. Git has a merge write over a version of the file, which may be none of them.
+fn reading_of(asked: &Asked<'_>) -> Reading {
+    match asked {
+        Asked::Answer { command, .. } => match command {
+            Command::Sorted { .. } => Reading::Sorted,
+            Command::Whole { .. } | Command::Lookup { .. } | Command::Overlay { .. } => {
+                Reading::Tables
+            }
+        },
+        Asked::GitDiff { .. } => Reading::Tables,
+        Asked::GitUnopened { .. }
+        | Asked::GitUnmerged { .. }
+        | Asked::GitMerge { .. }
+        | Asked::GitSetup { .. } => Reading::LeftAlone,
+    }
+}
+
 fn answer<R: Files + Input + Eprint + AllocGlobal, W: Write>(
     rt: &R,
+    databases: &Databases,
     asked: Asked<'_>,
     output: &mut W,
 ) -> u8 {
@@ -219,7 +250,7 @@ fn answer<R: Files + Input + Eprint + AllocGlobal, W: Write>(
         Err(_closed) if output.has_stopped() => 0,
         Err(fault) => match merge {
             Some(merge) => trouble_for_git(rt, merge, fault),
-            None => trouble(rt, fault),
+            None => trouble_with_file(rt, databases, fault),
         },
     }
 }
@@ -309,6 +340,19 @@ fn has_text<R: Env>(rt: &R, name: &str) -> bool {
 fn trouble<R: Eprint>(rt: &R, fault: Fault<'_>) -> u8 {
     let _ = eprintln!(rt; "keyed: {fault}");
     TROUBLE
+}
+
+// Says what is wrong, of an SQLite file why it was refused, and returns the status of trouble.
+fn trouble_with_file<R: Eprint>(rt: &R, databases: &Databases, fault: Fault<'_>) -> u8 {
+    match databases.why(fault.file) {
+        Ok(Some(why)) => {
+            let file = Shown(fault.file.as_bytes());
+            let _ = eprintln!(rt; "keyed: {file}: {why}");
+            TROUBLE
+        }
+        Ok(None) => trouble(rt, fault),
+        Err(AllocError) => trouble(rt, of_words(Reason::NoMemory)),
+    }
 }
 
 // Says what is wrong with a merge for git, and returns the status of trouble with one.
