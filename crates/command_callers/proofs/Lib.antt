@@ -17,3 +17,5 @@ pub mod LiteralTexts
 pub mod KnownText
 pub mod KnownLaws
 pub mod KnownSides
+pub mod KnownOnly
+pub mod SomeColumns

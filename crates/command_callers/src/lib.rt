@@ -32,6 +32,7 @@ pub mod laws;
 pub mod layers;
 pub mod lookups;
 pub mod reports;
+pub mod some_columns;
 pub mod sorted;
 pub mod texts;
 

@@ -4,6 +4,7 @@ pub mod ChangeLemmas
 pub mod ChangesBackLemmas
 pub mod ColumnsBackLemmas
 pub mod ComeLemmas
+pub mod DiffOnlyLemmas
 pub mod DiffedTextLemmas
 pub mod GatheredLemmas
 pub mod GoneLemmas
@@ -12,6 +13,7 @@ pub mod KeyLemmas
 pub mod LawLemmas
 pub mod LookupLemmas
 pub mod LossLemmas
+pub mod MadeLemmas
 pub mod NotedLemmas
 pub mod OnceLemmas
 pub mod OneSideLemmas

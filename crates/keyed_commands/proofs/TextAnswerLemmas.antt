@@ -25,7 +25,7 @@ use Rattle.keyed_commands.specs.ChangesRead.{SaysChanges}
 use Rattle.keyed_commands.specs.FileOrder.{begun_keys, noted_with, placed_with}
 use Rattle.keyed_commands.specs.MergedTexts.{AnswersBy, MergesSources, MergesStreams, MergesTexts}
 use Rattle.keyed_commands.specs.TablesRead.{IsUnordered, ReadsTable, SaysTable}
-use Rattle.keyed_commands.specs.Turned.{changes_in}
+use Rattle.keyed_commands.specs.MadeChanges.{made_in}
 use Rattle.keyed_commands.specs.declared.answer.Answer.{Answer}
 use Rattle.keyed_commands.specs.declared.commands.partly.Partly.{Partly}
 use Rattle.keyed_commands.specs.declared.job.Job.{Job}
@@ -127,7 +127,8 @@ module _ {R : Type 0} (rem : R → Option (List ℕ)) (settings : Settings) (dir
             style = read.applied.style;
             keys = read.applied.keys;
             by_cells = read.applied.by_cells;
-            applied = subst (λ f. holds (in_style read.applied.style f) job.columns.now read.applied.keys read.applied.by_cells read.old (changes_in direction read.changes)) form read.applied.applied;
+            applied = subst (λ f. holds (in_style read.applied.style f) job.columns.now read.applied.keys read.applied.by_cells read.old
+                (made_in named.first.source.value.header.names named.next.source.value.header.names job.columns.now direction read.old read.changes)) form read.applied.applied;
             order = λ by_key. read.applied.order (unordered by_key);
           };
         },

@@ -18,8 +18,8 @@ use Rattle.keyed_commands.specs.Answers.{AllFit, AnswersPatched, Stops, TableCha
 use Rattle.keyed_commands.specs.ChangesRead.{ReadsChanges, SaysChanges}
 use Rattle.keyed_commands.specs.Rejected.{AnswersPartly, plain}
 use Rattle.keyed_commands.specs.FileOrder.{AreKeysOfBoth, NotesBoth, noted_with}
+use Rattle.keyed_commands.specs.MadeChanges.{made_in}
 use Rattle.keyed_commands.specs.TablesRead.{AreNamesBy, IsUnordered, ReadsTable, SaysTable}
-use Rattle.keyed_commands.specs.Turned.{changes_in}
 use Rattle.keyed_commands.specs.declared.answer.Answer.{Answer}
 use Rattle.keyed_commands.specs.declared.commands.partly.Partly.{Partly}
 use Rattle.keyed_commands.specs.declared.job.Job.{Job}
@@ -51,7 +51,7 @@ pub record AppliedIn (holds : OfChanges) (form : Form) (columns : Columns) (unor
 
 -- what is answered of two texts: the first says a table and the second one changes, under the columns of the table that they make, of
 -- which those go that the header of changes says, and whose heading is spelled as the header of the first text is; backward, each change is
--- turned about, and the columns go that came
+-- turned about, and the columns go that came; where the changes do not name each column of the table, they have its cells in the others
 pub record ChangesTexts (holds : OfChanges) (settings : Settings) (direction : Direction) (old_form changes_form : Form) (old_text changes_text : List ℕ) : Type 0 where
   pub columns : Columns
   pub header : List (List ℕ)
@@ -69,7 +69,7 @@ pub record ChangesTexts (holds : OfChanges) (settings : Settings) (direction : D
   pub spelled_said : SpelledOf old_form Rows old_text spelled
   pub spells : IsSpelledAs header spelled columns
   pub headed : old_form.has_header ≡ settings.form.has_header
-  pub applied : AppliedIn holds settings.form columns (settings.keeps_order ≡ false) old (changes_in direction changes)
+  pub applied : AppliedIn holds settings.form columns (settings.keeps_order ≡ false) old (made_in names changes_header columns direction old changes)
   pub ordered : AreKeysOfBoth old_form changes_form Changes old_text changes_text names changes_header columns columns noted_with settings.keeps_order applied.keys
 
 -- what `apply` says of its answer
@@ -100,7 +100,8 @@ module _ {R : Type 0} (remaining : R → Option (List ℕ)) where
     pub changes : TableChanges
     pub old_read : ReadsTable remaining job.groups job.columns.now inputs.first.source.value old
     pub changes_read : ReadsChanges remaining job.groups job.columns.now inputs.next.source.value changes
-    pub applied : AppliedIn holds job.form job.columns.now (IsUnordered job) old (changes_in direction changes)
+    pub applied : AppliedIn holds job.form job.columns.now (IsUnordered job) old
+        (made_in inputs.first.source.value.header.names inputs.next.source.value.header.names job.columns.now direction old changes)
     pub notes : NotesBoth remaining Changes job.columns.now job.columns.now inputs.first.source.value inputs.next.source.value noted_with (noted job.order)
         applied.keys
 

@@ -6,11 +6,13 @@ pub mod ChangesRead
 pub mod ComeOut
 pub mod ConflictCells
 pub mod JoinAnswers
+pub mod DiffOnly
 pub mod FileOrder
 pub mod Keys
 pub mod Laws
 pub mod LookupAnswers
 pub mod Lost
+pub mod MadeChanges
 pub mod MergedTexts
 pub mod NotedStyles
 pub mod OneSide

@@ -34,7 +34,7 @@ use Rattle.keyed_requests.specs.declared.request.SortedRequest.TheVariants as so
 use Rattle.keyed_requests.specs.declared.request.Wanted.{Wanted}
 use Rattle.keyed_requests.specs.declared.request.Wanted.TheVariants as wanted
 use Rattle.keyed_commands.specs.AppliedTexts.{AppliesStreams, PartlyStreams}
-use Rattle.keyed_commands.specs.Beside.{DiffsStreamsBy}
+use Rattle.keyed_commands.specs.DiffOnly.{DiffsStreamsBy}
 use Rattle.keyed_commands.specs.JoinAnswers.{JoinsStreams}
 use Rattle.keyed_commands.specs.LookupAnswers.{LooksUpStreams}
 use Rattle.keyed_commands.specs.MergedTexts.{IsReported, MergesStreams}

@@ -20,6 +20,7 @@ mod job;
 mod laws;
 mod line_diff;
 mod lost_cells;
+mod made_changes;
 mod made_table;
 mod marks;
 mod output;

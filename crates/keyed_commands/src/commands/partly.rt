@@ -1,19 +1,21 @@
 //! The answer to `apply`, of streams, where changes need not fit: the table with those made to it that do, and the others as changes.
-ghost use Rattle.std.specs.Prelude.{◌≡◌, ◌==◌, IfOk, OnOk, is_none, length};
+ghost use Rattle.std.specs.Prelude.{◌≡◌, ◌==◌, IfOk, OnOk, is_none, length, option_map};
 ghost use Rattle.keyed_tables.specs.Arranged.{noted};
 ghost use Rattle.keyed_files.specs.Gone.{IsTurned};
 ghost use Rattle.keyed_files.specs.Opening.{form_of};
 ghost use Rattle.keyed_commands.specs.AppliedTexts.{PartlySources, PartlyStreams, watched_left};
+ghost use Rattle.keyed_commands.specs.MadeChanges.{made_with};
 ghost use Rattle.keyed_commands.specs.Rejected.{AnswersPartly, beside, other_way, plain};
 ghost use Rattle.keyed_commands.specs.Turned.{changes_in};
 
 use crate::answer::Answer;
 use crate::job::{Changes, Job, Table};
+use crate::made_changes::{made_changes, missing_columns};
 use crate::made_table::answer_of_rows;
 use crate::parted::part_changes;
 use crate::rejected::{ChangesForm, changes_text};
 use crate::styles::{Noting, Watched, spelling_of, style_under, watch};
-use crate::turned::{changes_in, pairs_in};
+use crate::turned::pairs_in;
 use eob_joins::Change;
 use keyed_columns::{Columns, Content};
 use keyed_faults::{Fault, Reason, at};
@@ -121,6 +123,9 @@ fn partly_files<'a, R: Read + Drop>(
     ensures { IfOk result
         (PartlySources (watched_left R.remaining) job.entry how.now direction inputs.old) }
 {
+    let (before, after) = (inputs.first.header(), inputs.next.header());
+    let missing = missing_columns(job.alloc, before, after, &job.columns.rest);
+    let missing = at(inputs.next.file, missing)?;
     let tables = job.read_to_change(inputs)?;
     let (old, changes) = tables;
     let noted = inputs.first.source.get_ref().style();
@@ -129,29 +134,32 @@ fn partly_files<'a, R: Read + Drop>(
     let job = job.in_style(style, spelling);
     at(
         inputs.next.file,
-        partly_in(&job, how, direction, old, changes),
+        partly_in(&job, how, missing, direction, old, changes),
     )
 }
 
-// The answer in a direction: changes that are taken back are parted turned about, and written as they were given.
+// The answer in a direction, of changes that are missing these columns: those that are taken back are parted turned about, and written as
+// they were given.
 fn partly_in(
     job: &Job<'_, Columns>,
     how: &ChangesForm,
+    missing: Option<Vec<bool>>,
     direction: Direction,
     old: Table,
     changes: Changes,
 ) -> Result<Partly, Reason>
     ensures { IfOk result (λ partly. AnswersPartly direction how.now partly job.now.form
         job.now.columns.now (noted job.now.order) (is_none job.now.row_order.files)
-        old.pairs.items (changes_in direction changes.pairs.items)) }
+        old.pairs.items (made_with (option_map (λ are. are.items) missing) old.pairs.items
+        (changes_in direction changes.pairs.items))) }
 {
-    let changes = changes_in(job.alloc, direction, changes)?;
-    let parted = part_changes(job.alloc, old, changes)?;
+    let made = made_changes(job.alloc, missing, direction, old, changes)?;
+    let parted = part_changes(job.alloc, made.old, made.changes)?;
     let whole = are_none(&parted.rejected);
     let given = pairs_in(job.alloc, direction, parted.rejected)?;
-    let made = answer_of_rows(job, "table", parted.rows)?;
+    let table = answer_of_rows(job, "table", parted.rows)?;
     let rejected = changes_text(job, how, given)?;
-    let answer = beside(whole, made);
+    let answer = beside(whole, table);
     Ok(Partly { answer, rejected })
 }
 

@@ -4,7 +4,7 @@ use Rattle.std.proofs.lemmas.Result.{IfOk-weaker}
 use Rattle.keyed_requests.specs.AnswerForm.{in_style}
 use Rattle.keyed_tables.specs.Arranged.{noted}
 use Rattle.keyed_commands.specs.AppliedTexts.{AnswersApplied}
-use Rattle.keyed_commands.specs.Turned.{changes_in}
+use Rattle.keyed_commands.specs.MadeChanges.{made_in}
 use Rattle.keyed_commands.proofs.commands.apply.apply_files.Goals as goal
 
 pub returns : goal.returns
@@ -13,6 +13,9 @@ returns g c =
     let job = c.read_to_change.new.self in
     let style = c.style_under-style.result in
     let read = c.in_ok-tables.ensures in
+    let source = c.args.inputs.old in
+    let old = tables.0.pairs.items in
+    let made = made_in source.first.source.value.header.names source.next.source.value.header.names c.args.job.columns.now c.args.direction old tables.1.pairs.items in
     IfOk-weaker c.at.result _ _
     (λ answer is. record {
       old = tables.0.pairs.items;
@@ -24,11 +27,11 @@ returns g c =
         style = style;
         keys = noted job.order;
         by_cells = is_none job.row_order.files;
-        applied = subst (λ j. AnswersApplied (in_style style j.form) j.columns.now (noted job.order) (is_none job.row_order.files) tables.0.pairs.items (changes_in c.args.direction tables.1.pairs.items) answer)
+        applied = subst (λ j. AnswersApplied (in_style style j.form) j.columns.now (noted job.order) (is_none job.row_order.files) old made answer)
             read.same
-            (subst (λ j. AnswersApplied j.form j.columns.now (noted j.order) (is_none j.row_order.files) tables.0.pairs.items (changes_in c.args.direction tables.1.pairs.items) answer)
+            (subst (λ j. AnswersApplied j.form j.columns.now (noted j.order) (is_none j.row_order.files) old made answer)
             c.in_style-job.ensures
-            (record { fits = rw is at c.apply_in.ensures.fits; misfits = rw is at c.apply_in.ensures.misfits }));
+            (rw is at c.apply_in.ensures));
         order = λ unordered. let after = read.unordered unordered in (after.keys, after.rows);
       };
     }) c.at.ensures

@@ -3,8 +3,8 @@ use Rattle.std.specs.Prelude.{is_none}
 use Rattle.std.proofs.lemmas.Result.{IfOk-weaker}
 use Rattle.keyed_requests.specs.AnswerForm.{in_style}
 use Rattle.keyed_tables.specs.Arranged.{noted}
+use Rattle.keyed_commands.specs.MadeChanges.{made_in}
 use Rattle.keyed_commands.specs.Rejected.{AnswersPartly}
-use Rattle.keyed_commands.specs.Turned.{changes_in}
 use Rattle.keyed_commands.proofs.commands.partly.partly_files.Goals as goal
 
 pub returns : goal.returns
@@ -15,6 +15,9 @@ returns g c =
     let read = c.in_ok-tables.ensures in
     let how = c.args.how.now in
     let direction = c.args.direction in
+    let source = c.args.inputs.old in
+    let old = tables.0.pairs.items in
+    let made = made_in source.first.source.value.header.names source.next.source.value.header.names c.args.job.columns.now direction old tables.1.pairs.items in
     IfOk-weaker c.at.result _ _
     (λ partly is. record {
       old = tables.0.pairs.items;
@@ -26,9 +29,9 @@ returns g c =
         style = style;
         keys = noted job.order;
         by_cells = is_none job.row_order.files;
-        applied = subst (λ j. AnswersPartly direction how partly (in_style style j.form) j.columns.now (noted job.order) (is_none job.row_order.files) tables.0.pairs.items (changes_in direction tables.1.pairs.items))
+        applied = subst (λ j. AnswersPartly direction how partly (in_style style j.form) j.columns.now (noted job.order) (is_none job.row_order.files) old made)
             read.same
-            (subst (λ j. AnswersPartly direction how partly j.form j.columns.now (noted j.order) (is_none j.row_order.files) tables.0.pairs.items (changes_in direction tables.1.pairs.items))
+            (subst (λ j. AnswersPartly direction how partly j.form j.columns.now (noted j.order) (is_none j.row_order.files) old made)
             c.in_style-job.ensures
             (rw is at c.partly_in.ensures));
         order = λ unordered. let after = read.unordered unordered in (after.keys, after.rows);
