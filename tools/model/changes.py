@@ -4,7 +4,7 @@ from collections import Counter
 from model.cells import as_json, named
 from model.reports import FORMS, counts_of
 from model.sameness import hows_of, is_same
-from model.tables import Table
+from model.tables import Table, as_record
 
 
 class Changes:
@@ -58,6 +58,36 @@ class Changes:
                 versions += [("table", it, has.get(it)), ("expected", it, goes.get(it))]
         for form in self.some_of(forms) if versions else []:
             self.expect_stopped(["apply", "ours", "changes"], form, [], key, rest, versions, {"table": "misfit", "expected": "misfit"})
+
+    def check_part(self):
+        """Changes of some columns alone, and the table that they make, whose other cells stay as they are."""
+        key, others = self.columns_of(self.base, self.ours)[1:]
+        if self.repeats or not self.has_header or not others or not set(key) <= {*self.base.columns} & {*self.ours.columns}:
+            return
+        only = self.rng.sample(others, self.rng.randint(1, min(3, len(others))))
+        before, after = self.base.columns, self.ours.columns
+        part = [it for it in dict.fromkeys([*after, *before]) if it in only]
+        old, new = (self.found_under(key, part, it) for it in (self.base, self.ours))
+        changed = [it for it in self.in_order(key, {*old, *new}, self.base, self.ours) if old.get(it) != new.get(it)]
+        rows = [[sign, *it, *version[it]] for it in changed for sign, version in (("-", old), ("+", new)) if it in version]
+        status = int(bool(changed) or any((it in before) != (it in after) for it in part))
+        answer = self.ask("diff", "base", "ours", "--format", "csv", "--only", as_record(only))
+        fate = lambda it: "-" if it not in after else "+" if it not in before else "=" if it.startswith(("-", "+", "=")) else ""
+        self.expect("diff --only", answer, status, ["change", *(fate(it) + it for it in [*key, *part])], rows)
+        self.put("part", answer[1].decode("latin-1"))
+        named = [*key, *part]
+        stay = [it for it in (named if {*before} <= {*named} else [*before, *(it for it in named if it not in before)]) if it in after or it not in part]
+        whole = {tuple(row[name] for name in key): row for row in self.base.rows}
+        made = []
+        for it in self.in_order(key, {*new}, self.base, Table(named, [dict(zip(named, row[1:])) for row in rows])):
+            cells = {**whole.get(it, {}), **dict(zip(key, it))} | (dict(zip(part, new[it])) if it in changed else {})
+            made.append([cells.get(name, "") for name in stay])
+        self.expect("apply of some columns", self.ask("apply", "base", "part"), 0, stay, made, "base")
+
+    @staticmethod
+    def found_under(key, columns, table):
+        """The cells of these columns by key."""
+        return {tuple(row[name] for name in key): tuple(row.get(name, "") for name in columns) for row in table.rows}
 
     def said_of_columns(self):
         """What is said of the columns of the base and of ours, and whether one of them has one alone."""

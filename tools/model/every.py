@@ -15,6 +15,7 @@ class EveryCheck(Round, Reports, Changes, Merges, Joins, Options, Faults):
 
     def check(self):
         self.check_changes()
+        self.check_part()
         self.check_report()
         self.check_merge()
         self.check_merge(by_cell=True)

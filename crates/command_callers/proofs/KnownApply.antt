@@ -1,5 +1,5 @@
 -- What `apply` answers of a table and changes that are known.
-use Rattle.std.proofs.Common.{◌≡◌, ◌∙◌, ◌++◌, ℕ, Bool, Bor, false, true, List, [], ◌∷◌, filter, length, map, nat_eq, take, IsPermutation, Option, None, Some, ap, refl, subst, sym, true≢false}
+use Rattle.std.proofs.Common.{◌≡◌, ◌∙◌, ◌++◌, ℕ, Bool, Bor, false, true, List, [], ◌∷◌, filter, length, map, nat_eq, take, IsPermutation, Option, None, Some, ap, ap₂, refl, subst, sym, true≢false}
 use Rattle.std.specs.Prelude.{⊤, flat_map, if◌then◌else◌}
 use Rattle.std.specs.Cmp.Lexicographic.{bytes_decides, pointwise}
 use Rattle.std.specs.List.{AllByRecursion}
@@ -35,18 +35,22 @@ use Rattle.keyed_files.specs.declared.sign.SignedRow.{SignedRow}
 use Rattle.keyed_rows.specs.declared.row.ReadRow.{ReadRow}
 use Rattle.keyed_tables.specs.Gathered.{alone}
 use Rattle.keyed_text.specs.Texts.{AreRows}
+use Rattle.keyed_text.specs.declared.style.Style.{Style}
 use Rattle.keyed_text.proofs.TextLemmas.{rows-once}
 use Rattle.keyed_commands.specs.Answers.{AllFit, AnswersTable, Stops, TableChanges, TableRows, key_cmp}
 use Rattle.keyed_commands.specs.AppliedTexts.{AppliesTexts}
 use Rattle.keyed_commands.specs.ChangesRead.{SaysChanges, come_by, come_rows, gone_by, gone_rows, signed_parts, signed_under}
+use Rattle.keyed_commands.specs.MadeChanges.{made_in, made_with, missing_by}
 use Rattle.keyed_commands.specs.Turned.{changes_in}
 use Rattle.keyed_commands.specs.declared.answer.Answer.{Answer}
 use Rattle.keyed_commands.proofs.AnswerLemmas.{key_exact, key_total}
+use Rattle.keyed_commands.proofs.MadeLemmas.{made-rises}
 use Rattle.keyed_commands.proofs.TurnedLemmas.{turned-rises}
-use Rattle.command_callers.specs.Answered.{IsInStyle}
+use Rattle.command_callers.specs.Answered.{IsButForEnd, IsInStyle}
 use Rattle.command_callers.proofs.KnownJoins.{joined, kept_joined, value_has}
 use Rattle.command_callers.proofs.KnownMerge.{loses_by, styled_loss, styled_table}
 use Rattle.command_callers.proofs.KnownRows.{alone_rise, gathered}
+use Rattle.command_callers.proofs.KnownStyles.{IsStyled, named_style}
 use Rattle.command_callers.proofs.KnownTables.{IsKnown, IsPlain, KeyedRows, header_is, heads_plainly, names_are, plain_key, rows_by, table_is, IsTableFileOf}
 
 -- a row with the cell that its sign is, if there is one
@@ -233,7 +237,7 @@ module _ {settings : Settings} {direction : Direction} {old_form changes_form : 
     changes = merge key_cmp (map alone gone) (map alone come)
 
     abbrev made : TableChanges
-    made = changes_in direction changes
+    made = made_with (missing_by old_fields changed rest) (map alone old) (changes_in direction changes)
 
     abbrev pub applied_rows : TableRows
     applied_rows = kept applied (merge key_cmp (map alone old) made)
@@ -248,18 +252,20 @@ module _ {settings : Settings} {direction : Direction} {old_form changes_form : 
         changes_are changes_form changes_text changes_fields changes_records changes_known settings.groups a.changes_header a.changes_header a.columns a.changes a.changes_say
         changed key rest gone come new_names columns_known.key columns_known.rest gone_moved gone_up come_moved come_up
 
-    made_changes : changes_in direction a.changes ≡ made
-    made_changes = ap (changes_in direction) changes_table
+    made_changes : made_in a.names a.changes_header a.columns direction a.old a.changes ≡ made
+    made_changes =
+        ap₂ (λ o c. made_in o c a.columns direction a.old a.changes) old_names new_names
+        ∙ ap (λ r. made_with (missing_by old_fields changed r) a.old (changes_in direction a.changes)) columns_known.rest
+        ∙ ap₂ (λ o c. made_with (missing_by old_fields changed rest) o (changes_in direction c)) old_table changes_table
 
     -- where changes do not fit, the answer is a report
-    pub apply_stops : (AllFit key_cmp (map alone old) (changes_in direction (merge key_cmp (map alone gone) (map alone come))) → ⊥) → Stops answer
+    pub apply_stops : (AllFit key_cmp (map alone old) made → ⊥) → Stops answer
     apply_stops misfit =
         a.applied.applied.misfits (λ all. misfit (subst (λ t. AllFit key_cmp t made) old_table (subst (λ c. AllFit key_cmp a.old c) made_changes all)))
 
     -- each change is from the rows that the table has under its key
-    module _ (fit : AllByRecursion (λ z. left_place z.1 ≡ value_under key_cmp (map alone old) z.0)
-        (changes_in direction (merge key_cmp (map alone gone) (map alone come)))) where
-      all_fit : AllFit key_cmp a.old (changes_in direction a.changes)
+    module _ (fit : AllByRecursion (λ z. left_place z.1 ≡ value_under key_cmp (map alone old) z.0) made) where
+      all_fit : AllFit key_cmp a.old (made_in a.names a.changes_header a.columns direction a.old a.changes)
       all_fit =
           subst (λ c. AllFit key_cmp a.old c) (sym made_changes)
           (subst (λ t. AllFit key_cmp t made) (sym old_table)
@@ -269,16 +275,18 @@ module _ {settings : Settings} {direction : Direction} {old_form changes_form : 
       told =
           let patched = a.applied.applied.fits all_fit in
           let rises : Rising key_cmp made =
-          changes_rise direction changes (IsJoin-merge key_cmp key_total (map alone gone) (map alone come) (alone_rise key_cmp key_total gone gone_up) (alone_rise key_cmp key_total come come_up)).rises in
+          made-rises (missing_by old_fields changed rest) (map alone old) (changes_in direction changes)
+          (changes_rise direction changes (IsJoin-merge key_cmp key_total (map alone gone) (map alone come) (alone_rise key_cmp key_total gone gone_up) (alone_rise key_cmp key_total come come_up)).rises) in
           let are : patched.0 ≡ applied_rows =
           kept_joined key_cmp key_total key_exact (map alone old) made (alone_rise key_cmp key_total old old_up) rises applied patched.0
           (subst (λ t. IsKeptOfJoin key_cmp applied t made patched.0) old_table (subst (λ c. IsKeptOfJoin key_cmp applied a.old c patched.0) made_changes patched.1)) in
           subst (λ r. AnswersTable (in_style a.applied.style settings.form) a.columns a.applied.keys a.applied.by_cells r answer) are patched.2
 
       -- where they fit, it is the table that they make
-      pub apply_whole : loses_by order rest applied_rows ≡ false → IsInStyle (λ s. IsTableFileOf (in_style s settings.form) order key rest applied_rows) answer
-      apply_whole none =
-          styled_table a.applied.style settings.form a.columns a.applied.keys a.applied.by_cells applied_rows answer order key rest
+      pub apply_whole : (named : Style) → IsStyled old_form settings.form.writing.heading old_text named → loses_by order rest applied_rows ≡ false
+          → IsInStyle (IsButForEnd named) (λ s. IsTableFileOf (in_style s settings.form) order key rest applied_rows) answer
+      apply_whole named known none =
+          styled_table a.applied.style (named_style old_form settings.form.writing.heading old_text named a.applied.style known a.applied.styled) settings.form a.columns a.applied.keys a.applied.by_cells applied_rows answer order key rest
           columns_known.order columns_known.key columns_known.rest (a.applied.order plain.order)
           (heads_plainly old_form settings.form a.applied.style old_text old_fields old_records old_known settings.groups a.header a.names a.spelled a.columns a.old
           a.headed a.old_says a.spelled_said a.spells) none told

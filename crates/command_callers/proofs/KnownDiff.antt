@@ -31,6 +31,14 @@ same_tables old new = pointwise (λ x y. pointwise (pointwise nat_eq) x.0 y.0 &&
 abbrev pub changes_between : KeyedRows → KeyedRows → TableChanges
 changes_between old new = kept (changed rows_eq) (merge key_cmp (map alone old) (map alone new))
 
+-- they are what is kept of the join of both
+pub changes_are : (old new : KeyedRows) → Up key_cmp (λ k. ⊤) old → Up key_cmp (λ k. ⊤) new → (before after : TableRows) (changes : TableChanges)
+    → before ≡ map alone old → after ≡ map alone new → IsKeptOfJoin key_cmp (changed rows_eq) before after changes → changes ≡ changes_between old new
+changes_are old new old_up new_up before after changes is_old is_new h =
+    kept_joined key_cmp key_total key_exact (map alone old) (map alone new) (alone_rise key_cmp key_total old old_up) (alone_rise key_cmp key_total new new_up) (changed rows_eq) changes
+    (subst (λ t. IsKeptOfJoin key_cmp (changed rows_eq) t (map alone new) changes) is_old
+    (subst (λ t. IsKeptOfJoin key_cmp (changed rows_eq) before t changes) is_new h))
+
 -- the key of two tables, all their names, and those beside the key
 abbrev pub diff_key : (old new : List (List ℕ)) → List (List ℕ)
 diff_key old new = first_name (old ∷ new ∷ [])
@@ -77,10 +85,7 @@ module _ {settings : Settings} {old_form new_form : Form} {old_text new_text : L
       new_fields (diff_key old_fields new_fields) (diff_rest old_fields new_fields) new new_names columns_known.key columns_known.rest new_moved new_up
 
   pub changes_known : (changes : TableChanges) → IsKeptOfJoin key_cmp (changed rows_eq) d.old d.new changes → changes ≡ changes_between old new
-  changes_known changes h =
-      kept_joined key_cmp key_total key_exact (map alone old) (map alone new) (alone_rise key_cmp key_total old old_up) (alone_rise key_cmp key_total new new_up) (changed rows_eq) changes
-      (subst (λ t. IsKeptOfJoin key_cmp (changed rows_eq) t (map alone new) changes) old_table
-      (subst (λ t. IsKeptOfJoin key_cmp (changed rows_eq) d.old t changes) new_table h))
+  changes_known changes h = changes_are old new old_up new_up d.old d.new changes old_table new_table h
 
   pub diff_bytes : answer.bytes.items ≡ diff_text settings.form old_fields new_fields old new
   diff_bytes =

@@ -5,6 +5,7 @@ use Rattle.std.specs.Prelude.{⊤, IfOk, Result}
 use Rattle.eob_lists.specs.Join.{Rising, value_under}
 use Rattle.eob_lists.proofs.MergeLemmas.{Up}
 use Rattle.eob_joins.proofs.TableLemmas.{same_table}
+use Rattle.keyed_text.specs.declared.style.Style.{Style}
 use Rattle.keyed_requests.specs.AnswerForm.{in_style, writes_heading}
 use Rattle.keyed_requests.specs.FormBytes.{comment_of, delimiter_of}
 use Rattle.keyed_requests.specs.declared.merging.Unit.TheVariants as unit
@@ -37,10 +38,11 @@ use Rattle.keyed_commands.specs.TextLaws.{AnswersTableOf, DiffSaysLaw, DiffedTex
 use Rattle.keyed_commands.specs.declared.answer.Answer.{Answer}
 use Rattle.keyed_commands.specs.declared.answer.Outcome.TheVariants.{Made}
 use Rattle.keyed_commands.proofs.AnswerLemmas.{key_exact, key_total}
-use Rattle.command_callers.specs.Answered.{IsInStyle, SaysOnlyChanges}
+use Rattle.command_callers.specs.Answered.{IsButForEnd, IsInStyle, SaysOnlyChanges}
 use Rattle.command_callers.proofs.KnownApply as apply
 use Rattle.command_callers.proofs.KnownDiff as diff
 use Rattle.command_callers.proofs.KnownMerge as merge
+use Rattle.command_callers.proofs.KnownStyles.{IsStyled, named_style}
 use Rattle.command_callers.proofs.KnownTables.{IsKnown, IsPlain, KeyedRows, came_out, header_is, known_text, names_are, rows_by, table_is, IsTableFileOf, table_file_is}
 
 -- what follows of a value that is given, where one is
@@ -151,8 +153,9 @@ module _ {settings : Settings} {old_form new_form : Form} {old_text new_text : L
       law settings old_form new_form old_text new_text difference answer has old_has new_has parts begins plain.order old_once new_once plain.key plain.renames d a
 
   module _ (new : KeyedRows) (new_up : Up key_cmp (λ k. ⊤) new) (new_moved : IsPermutation (rows_by new_fields key rest new_records) new) where
-    makes_other : IsInStyle (λ s. IsTableFileOf (in_style s settings.form) order key rest (map alone new)) answer
-    makes_other =
+    makes_other : (named : Style) → IsStyled old_form settings.form.writing.heading old_text named
+        → IsInStyle (IsButForEnd named) (λ s. IsTableFileOf (in_style s settings.form) order key rest (map alone new)) answer
+    makes_other named known =
         let columns = apply.columns_known a plain old_fields changes_fields old_records changes_records old_known changes_known in
         let header = header_is new_form new_text new_fields new_records new_known settings.groups made.header made.header a.columns made.table made.says in
         let table : made.table ≡ map alone new =
@@ -161,6 +164,7 @@ module _ {settings : Settings} {old_form new_form : Form} {old_text new_text : L
         let written = in_style a.applied.style settings.form in
         record {
           style = a.applied.style;
+          styled = named_style old_form settings.form.writing.heading old_text named a.applied.style known a.applied.styled;
           bytes = table_file_is written a.columns None true (map alone new) answer.bytes.items order key rest columns.order columns.key columns.rest (refl, refl)
               (λ writes. made.spells ∙ sym made.names)
               (subst (λ t. IsTableFile written a.columns None true t answer.bytes.items) table made.answers.2);
@@ -181,9 +185,9 @@ module _ {first settings : Settings} {first_form old_form new_form changes_form 
     (changes_known : apply.AreKnown settings.form difference.bytes.items changes_fields changes_records) (new : KeyedRows) (new_up : Up key_cmp (λ k. ⊤) new)
     (new_moved : IsPermutation (rows_by new_fields (apply.apply_key old_fields (names_said Changes changes_fields))
     (apply.apply_rest old_fields (names_said Changes changes_fields) (names_going 1 changes_fields)) new_records) new) where
-  pub made_other : IsInStyle (λ s. IsTableFileOf (in_style s settings.form) (apply.apply_order old_fields (names_said Changes changes_fields) (names_going 1 changes_fields))
+  pub made_other : (named : Style) → IsStyled old_form settings.form.writing.heading old_text named → IsInStyle (IsButForEnd named) (λ s. IsTableFileOf (in_style s settings.form) (apply.apply_order old_fields (names_said Changes changes_fields) (names_going 1 changes_fields))
       (apply.apply_key old_fields (names_said Changes changes_fields)) (apply.apply_rest old_fields (names_said Changes changes_fields) (names_going 1 changes_fields)) (map alone new)) answer
-  made_other =
+  made_other named known =
       let differs : DiffsTexts settings old_form new_form old_text new_text difference =
       subst (λ s. DiffsTexts s old_form new_form old_text new_text difference) alike
       (subst₂ (λ f t. DiffsTexts first f new_form t new_text difference) form_alike text_alike d) in
@@ -192,7 +196,7 @@ module _ {first settings : Settings} {first_form old_form new_form changes_form 
       makes_other differs applies law plain has old_has new_has parts begins
       (names_once old_form old_text old_literal old_fields old_records old_is old_rows old_once) (names_once new_form new_text new_literal new_fields new_records new_is new_rows new_once)
       old_fields new_fields changes_fields old_records new_records changes_records (known_text old_form old_text old_literal old_fields old_records old_is old_has old_rows old_once)
-      (known_text new_form new_text new_literal new_fields new_records new_is new_has new_rows new_once) changes_known new new_up new_moved
+      (known_text new_form new_text new_literal new_fields new_records new_is new_has new_rows new_once) changes_known new new_up new_moved named known
 
 -- what `merge` makes of three versions, of which one alone changed what stands under each key, is the file of the rows that have each change
 module _ {settings : Settings} {base_form ours_form theirs_form : Form} {base_text ours_text theirs_text : List ℕ} {answer : Answer}

@@ -1,5 +1,5 @@
 -- What `overlay` answers of two texts that are known.
-use Rattle.std.proofs.Common.{◌≡◌, ◌∙◌, ℕ, false, List, [], ◌∷◌, filter, map, IsPermutation, Option, None, Some, ap, refl, subst}
+use Rattle.std.proofs.Common.{◌≡◌, ◌∙◌, ℕ, false, List, [], ◌∷◌, filter, map, IsPermutation, Option, None, Some, refl, subst}
 use Rattle.std.specs.Prelude.{⊤, IfSome, option_map}
 use Rattle.std.specs.List.{AllZip}
 use Rattle.std.specs.Option.{option_and_then}
@@ -9,6 +9,7 @@ use Rattle.eob_lists.specs.Join.{Rising, value_under}
 use Rattle.eob_lists.proofs.MergeLemmas.{IsJoin-merge, Up, merge}
 use Rattle.eob_joins.specs.Tables.{kept}
 use Rattle.eob_joins.proofs.TableLemmas.{kept_law, retabled, same_table}
+use Rattle.keyed_text.specs.declared.style.Style.{Style}
 use Rattle.keyed_requests.specs.AnswerForm.{in_style}
 use Rattle.keyed_requests.specs.declared.overlays.Layer.{Layer}
 use Rattle.keyed_requests.specs.declared.overlays.Layer.TheVariants as layer
@@ -25,12 +26,14 @@ use Rattle.keyed_files.specs.Opening.{form_of, text_of_stream}
 use Rattle.keyed_files.specs.declared.opened.Stream.{Stream}
 use Rattle.keyed_tables.specs.Gathered.{alone}
 use Rattle.keyed_commands.specs.Answers.{TableRows, key_cmp}
-use Rattle.keyed_commands.specs.OverlayAnswers.{AreLaidOver, AreNamed, OverlaidIn, OverlaysStreams, Said, SaysRows, SpellsFirst, laid_rows}
+use Rattle.keyed_commands.specs.NotedStyles.{IsStyleOf}
+use Rattle.keyed_commands.specs.OverlayAnswers.{AreLaidOver, AreNamed, OverlaidIn, OverlaysStreams, Said, SaysRows, SpellsFirst, StylesFirst, laid_rows}
 use Rattle.keyed_commands.specs.TablesRead.{AreNames, SaysTable}
 use Rattle.keyed_commands.specs.declared.answer.Answer.{Answer}
 use Rattle.keyed_commands.proofs.AnswerLemmas.{key_exact, key_total}
-use Rattle.command_callers.specs.Answered.{IsInStyle}
+use Rattle.command_callers.specs.Answered.{IsButForEnd, IsInStyle}
 use Rattle.command_callers.proofs.KnownRows.{alone_rise}
+use Rattle.command_callers.proofs.KnownStyles.{IsStyled, named_style}
 use Rattle.command_callers.proofs.KnownTables.{IsKnown, IsPlain, KeyedRows, columns_are, header_is, heads_plainly, plain_names, rows_by, table_is, IsTableFileOf, table_file_is}
 
 -- what stands under a key of two tables, one over the other
@@ -62,6 +65,24 @@ laid_is layer below above rows up rises laid =
     (kept_law key_cmp key_total (EitherOrBoth (List (List (List ℕ))) (List (List (List ℕ)))) (List (List (List ℕ))) (over layer) both (merge key_cmp below above)
     (record { rises = join.rises; values = join.values })))
 
+-- what is said of the style of an answer, in other words
+abbrev pub restyled : {P Q : Style → Type 0} {layer : Layer} {form : Form} {columns : Columns} {unordered : Type 0} {tables : List TableRows} {answer : Answer}
+    → ((style : Style) → P style → Q style) → OverlaidIn layer P form columns unordered tables answer → OverlaidIn layer Q form columns unordered tables answer
+restyled so laid = record {
+  rows = laid.rows;
+  keys = laid.keys;
+  by_cells = laid.by_cells;
+  laid = laid.laid;
+  order = laid.order;
+  answers = record {
+    style = laid.answers.style;
+    styled = so laid.answers.style laid.answers.styled;
+    text = laid.answers.text;
+    status = laid.answers.status;
+    outcome = laid.answers.outcome;
+  };
+}
+
 -- what `overlay` answers of two texts
 pub record OverlaysTexts (settings : Settings) (layer : Layer) (below_form above_form : Form) (below_text above_text : List ℕ) (answer : Answer) : Type 0 where
   pub columns : Columns
@@ -75,7 +96,7 @@ pub record OverlaysTexts (settings : Settings) (layer : Layer) (below_form above
   pub below_spells : SpelledOf below_form Rows below_text below.spelled
   pub spells : IsSpelledAs below.header below.spelled columns
   pub headed : below_form.has_header ≡ settings.form.has_header
-  pub overlaid : OverlaidIn layer settings.form columns (settings.keeps_order ≡ false) (below.rows ∷ above.rows ∷ []) answer
+  pub overlaid : OverlaidIn layer (IsStyleOf below_form settings.form.writing.heading below_text) settings.form columns (settings.keeps_order ≡ false) (below.rows ∷ above.rows ∷ []) answer
 
 module _ {R : Type 0} (rem : R → Option (List ℕ)) (settings : Settings) (layer : Layer) (below above : Stream R) (below_text above_text : List ℕ) (answer : Answer) where
   abbrev OfTexts : Type 0
@@ -90,7 +111,7 @@ module _ {R : Type 0} (rem : R → Option (List ℕ)) (settings : Settings) (lay
   two : (columns : Columns) (said : List Said) → AreNamed settings.key said
       → AreColumnsBy settings.key (map (λ table. table.names) said) (map (λ table. table.names) said) columns
       → AllZip (SaysRows rem settings columns) (below ∷ above ∷ []) said → SpellsFirst rem settings columns (below ∷ above ∷ []) said
-      → OverlaidIn layer settings.form columns (settings.keeps_order ≡ false) (map (λ table. table.rows) said) answer
+      → OverlaidIn layer (StylesFirst rem settings (below ∷ above ∷ [])) settings.form columns (settings.keeps_order ≡ false) (map (λ table. table.rows) said) answer
       → text_of_stream rem settings.form below ≡ Some below_text → text_of_stream rem settings.form above ≡ Some above_text → OfTexts
   two columns [] named columned says spells laid e f = absurd says
   two columns (first ∷ []) named columned says spells laid e f = absurd says.1
@@ -107,7 +128,7 @@ module _ {R : Type 0} (rem : R → Option (List ℕ)) (settings : Settings) (lay
         below_spells = (says_text columns below below_text first e says.0).1;
         spells = subst (λ m. IfSome m (λ t. IsSpelledAs first.header first.spelled columns)) e spells;
         headed = refl;
-        overlaid = laid;
+        overlaid = restyled (λ style. subst (λ m. IfSome m (λ t. IsStyleOf (form_of settings.form below) settings.form.writing.heading t style)) e) laid;
       }
   two columns (first ∷ next ∷ other ∷ more) named columned says spells laid e f = absurd says.1.1
 
@@ -173,12 +194,14 @@ module _ {settings : Settings} {layer : Layer} {below_form above_form : Form} {b
       (subst (λ t. AreLaidOver layer [] (o.below.rows ∷ t ∷ []) o.overlaid.rows) above_table o.overlaid.laid))
 
   -- the answer is the table of the rows of both, one over the other
-  pub overlay_whole : IsInStyle (λ s. IsTableFileOf (in_style s settings.form) (overlay_order below_fields above_fields) key rest (laid_table layer (map alone below) (map alone above))) answer
-  overlay_whole =
+  pub overlay_whole : (named : Style) → IsStyled below_form settings.form.writing.heading below_text named
+      → IsInStyle (IsButForEnd named) (λ s. IsTableFileOf (in_style s settings.form) (overlay_order below_fields above_fields) key rest (laid_table layer (map alone below) (map alone above))) answer
+  overlay_whole named known =
       let told = o.overlaid.answers in
       let form = in_style told.style settings.form in
       record {
         style = told.style;
+        styled = named_style below_form settings.form.writing.heading below_text named told.style known told.styled;
         bytes =
             subst (λ rows. IsTableFileOf form (overlay_order below_fields above_fields) key rest rows answer.bytes.items) rows_known
             (table_file_is form o.columns o.overlaid.keys o.overlaid.by_cells o.overlaid.rows answer.bytes.items

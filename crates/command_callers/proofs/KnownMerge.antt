@@ -27,10 +27,11 @@ use Rattle.keyed_commands.specs.MergedTexts.{AnswersBy, AnswersByCell, AnswersBy
 use Rattle.keyed_commands.specs.declared.answer.Answer.{Answer}
 use Rattle.keyed_commands.specs.declared.answer.Outcome.TheVariants.{Made}
 use Rattle.keyed_commands.proofs.AnswerLemmas.{key_exact, key_total}
-use Rattle.command_callers.specs.Answered.{IsInStyle}
+use Rattle.command_callers.specs.Answered.{IsButForEnd, IsInStyle}
 use Rattle.command_callers.proofs.KnownCells.{gives_once, merged_by_cell, none_unresolved, settled_rows}
 use Rattle.command_callers.proofs.KnownJoins.{merged_rows, no_conflict, three}
 use Rattle.command_callers.proofs.KnownRows.{alone_rise}
+use Rattle.command_callers.proofs.KnownStyles.{IsStyled, named_style}
 use Rattle.command_callers.proofs.KnownTables.{HeadsPlainly, IsKnown, IsPlain, KeyedRows, header_is, heads_plainly, names_are, plain_key, rows_by, table_is, IsTableFileOf, table_file_is}
 
 -- whether rows lose cells, by the columns that are written and the names beside the key
@@ -38,16 +39,17 @@ abbrev pub loses_by : List Place → (rest : List (List ℕ)) → TableRows → 
 loses_by order rest rows = ltb (length (filter is_rest order)) (length rest) && list_any (λ row. loses_cells (length (filter is_rest order)) row.1) rows
 
 -- an answer with a table of which no cell is lost
-pub styled_table : (style : Style) (form : Form) (columns : Columns) (keys : Option (List (List (List ℕ)))) (by_cells : Bool) (rows : TableRows) (answer : Answer) (order : List Place) (key rest : List (List ℕ))
+pub styled_table : {Of : Style → Type 0} (style : Style) → Of style → (form : Form) (columns : Columns) (keys : Option (List (List (List ℕ)))) (by_cells : Bool) (rows : TableRows) (answer : Answer) (order : List Place) (key rest : List (List ℕ))
     → columns.order.items ≡ order → columns.key ≡ key → columns.rest ≡ rest → (keys ≡ None) × (by_cells ≡ true) → HeadsPlainly (in_style style form) columns
     → loses_by order rest rows ≡ false
-    → AnswersTable (in_style style form) columns keys by_cells rows answer → IsInStyle (λ s. IsTableFileOf (in_style s form) order key rest rows) answer
-styled_table style form columns keys by_cells rows answer order key rest eo ek er plainly heads none h =
+    → AnswersTable (in_style style form) columns keys by_cells rows answer → IsInStyle Of (λ s. IsTableFileOf (in_style s form) order key rest rows) answer
+styled_table style styled form columns keys by_cells rows answer order key rest eo ek er plainly heads none h =
     let keeps : loses columns rows ≡ false = ap (λ o. loses_by o columns.rest rows) eo ∙ ap (λ r. loses_by order r rows) er ∙ none in
     let told : (answer.status ≡ 0) × (answer.outcome ≡ Made) × IsTableFile (in_style style form) columns keys by_cells rows answer.bytes.items =
     subst (λ b. MatchBool b (Stops answer) ((answer.status ≡ 0) × (answer.outcome ≡ Made) × IsTableFile (in_style style form) columns keys by_cells rows answer.bytes.items)) keeps h in
     record {
       style = style;
+      styled = styled;
       bytes = table_file_is (in_style style form) columns keys by_cells rows answer.bytes.items order key rest eo ek er plainly heads told.2;
       status = told.0;
       outcome = told.1;
@@ -168,16 +170,17 @@ module _ {settings : Settings} {by : Unit} {base_form ours_form theirs_form : Fo
   merged_three = kept (merged rows_eq) (three key_cmp (map alone base) (map alone ours) (map alone theirs))
 
   -- where no row of the three is in conflict, the answer is the table of the merged rows
-  pub merge_whole : by ≡ unit.Row → AllByRecursion (λ z. clashes rows_eq z.1 ≡ false) (three key_cmp (map alone base) (map alone ours) (map alone theirs))
-      → loses_by order rest merged_three ≡ false → IsInStyle (λ s. IsTableFileOf (in_style s settings.form) order key rest merged_three) answer
-  merge_whole is settled none =
+  pub merge_whole : (named : Style) → IsStyled ours_form settings.form.writing.heading ours_text named → by ≡ unit.Row
+      → AllByRecursion (λ z. clashes rows_eq z.1 ≡ false) (three key_cmp (map alone base) (map alone ours) (map alone theirs))
+      → loses_by order rest merged_three ≡ false → IsInStyle (IsButForEnd named) (λ s. IsTableFileOf (in_style s settings.form) order key rest merged_three) answer
+  merge_whole named known is settled none =
       let free : HasNoConflict m.base m.ours m.theirs =
       from_tables HasNoConflict (no_conflict key_cmp key_total key_exact rows_eq (map alone base) (map alone ours) (map alone theirs) base_rises ours_rise theirs_rise settled) in
       let told = (by_row is).whole free in
       let are : told.0 ≡ merged_three =
       merged_rows key_cmp key_total key_exact rows_eq (map alone base) (map alone ours) (map alone theirs) base_rises ours_rise theirs_rise told.0
       (of_tables (λ b o t. Tabulates key_cmp told.0 (λ k. merged_place rows_eq (value_under key_cmp b k) (value_under key_cmp o k) (value_under key_cmp t k))) told.1) in
-      styled_table m.merged.style settings.form m.columns m.merged.keys m.merged.by_cells merged_three answer order key rest
+      styled_table m.merged.style (named_style ours_form settings.form.writing.heading ours_text named m.merged.style known m.merged.styled) settings.form m.columns m.merged.keys m.merged.by_cells merged_three answer order key rest
       columns_known.order columns_known.key columns_known.rest (m.merged.order plain.order) heads none
       (subst (λ r. AnswersTable made_in m.columns m.merged.keys m.merged.by_cells r answer) are told.2)
 
@@ -192,11 +195,11 @@ module _ {settings : Settings} {by : Unit} {base_form ours_form theirs_form : Fo
   abbrev pub merged_cells_of_three : TableRows
   merged_cells_of_three = kept merged_by_cell (three key_cmp (map alone base) (map alone ours) (map alone theirs))
 
-  pub merge_cells : by ≡ unit.Cell
+  pub merge_cells : (named : Style) → IsStyled ours_form settings.form.writing.heading ours_text named → by ≡ unit.Cell
       → AllByRecursion (λ z. unresolved_row rows_eq can_by_row z.1 ≡ false) (three key_cmp (map alone base) (map alone ours) (map alone theirs))
       → AllByRecursion (λ z. BecameOf rows_eq GivesRow z.1 (merged_by_cell z.1)) (three key_cmp (map alone base) (map alone ours) (map alone theirs))
-      → loses_by order rest merged_cells_of_three ≡ false → IsInStyle (λ s. IsTableFileOf (in_style s settings.form) order key rest merged_cells_of_three) answer
-  merge_cells is settled became none =
+      → loses_by order rest merged_cells_of_three ≡ false → IsInStyle (IsButForEnd named) (λ s. IsTableFileOf (in_style s settings.form) order key rest merged_cells_of_three) answer
+  merge_cells named known is settled became none =
       let free : HasNoneUnresolved m.base m.ours m.theirs =
       from_tables HasNoneUnresolved (none_unresolved rows_eq GivesRow gives_once key_cmp key_total key_exact (map alone base) (map alone ours) (map alone theirs)
       base_rises ours_rise theirs_rise can_by_row settled) in
@@ -205,7 +208,7 @@ module _ {settings : Settings} {by : Unit} {base_form ours_form theirs_form : Fo
       settled_rows rows_eq GivesRow gives_once key_cmp key_total key_exact (map alone base) (map alone ours) (map alone theirs) base_rises ours_rise theirs_rise
       merged_by_cell became told.0 told.1
       (of_tables (λ b o t. (k : List (List ℕ)) → Became rows_eq GivesRow (value_under key_cmp b k) (value_under key_cmp o k) (value_under key_cmp t k) (value_under key_cmp told.0 k)) told.2) in
-      styled_table m.merged.style settings.form m.columns m.merged.keys m.merged.by_cells merged_cells_of_three answer order key rest
+      styled_table m.merged.style (named_style ours_form settings.form.writing.heading ours_text named m.merged.style known m.merged.styled) settings.form m.columns m.merged.keys m.merged.by_cells merged_cells_of_three answer order key rest
       columns_known.order columns_known.key columns_known.rest (m.merged.order plain.order) heads none
       (subst (λ r. AnswersTable made_in m.columns m.merged.keys m.merged.by_cells r answer) are told.3)
 

@@ -9,6 +9,7 @@ use Rattle.std.specs.Ordering.{is_lt, nat_cmp}
 use Rattle.std.proofs.lemmas.List.{append-nil}
 use Rattle.eob_lists.proofs.MergeLemmas.{Up}
 use Rattle.eob_joins.proofs.TableLemmas.{same_table}
+use Rattle.keyed_text.specs.declared.style.Style.{Style}
 use Rattle.keyed_requests.specs.AnswerForm.{in_style}
 use Rattle.keyed_requests.specs.FormBytes.{comment_of, delimiter_of}
 use Rattle.keyed_requests.specs.declared.overlays.Layer.{Layer}
@@ -29,13 +30,16 @@ use Rattle.keyed_text.proofs.TextLemmas.{rows-once}
 use Rattle.keyed_commands.specs.Answers.{IsTableFile, TableRows, key_cmp}
 use Rattle.keyed_commands.specs.ComeOut.{AlikeRows, HasGroups}
 use Rattle.keyed_commands.specs.FileOrder.{Keys, KeysOf, noted_keys}
-use Rattle.keyed_commands.specs.OverlayAnswers.{AreKnown, AreLaidOver, AreNamed, OverlaidIn, OverlaysStreams, Said, SaysRows, SpellsFirst, laid_under}
+use Rattle.keyed_commands.specs.NotedStyles.{IsStyleOf}
+use Rattle.keyed_commands.specs.OverlayAnswers.{AreKnown, AreLaidOver, AreNamed, OverlaidIn, OverlaysStreams, Said, SaysRows, SpellsFirst, StylesFirst, laid_under}
 use Rattle.keyed_commands.specs.TablesRead.{AreNames, SaysTable}
 use Rattle.keyed_commands.specs.declared.answer.Answer.{Answer}
 use Rattle.keyed_commands.proofs.AnswerLemmas.{key_exact, key_total}
 use Rattle.keyed_commands.proofs.OverlayLemmas.{laid_alone}
-use Rattle.command_callers.specs.Answered.{IsInStyle}
+use Rattle.command_callers.specs.Answered.{IsButForEnd, IsInStyle}
+use Rattle.command_callers.proofs.KnownLayers.{restyled}
 use Rattle.command_callers.proofs.KnownRows.{alone_rise}
+use Rattle.command_callers.proofs.KnownStyles.{IsStyled, named_style}
 use Rattle.command_callers.proofs.KnownTables.{IsKnown, KeyedRows, columns_are, header_is, heads_plainly, plain_names, rows_by, table_is, IsTableFileOf, table_file_shown}
 
 -- two things are moved: they stand as they stood, or the other way about
@@ -110,7 +114,7 @@ pub record OverlaysText (settings : Settings) (layer : Layer) (form : Form) (tex
   pub keyed : KeysOf form Rows text said.names columns said.keys
   pub spells : IsSpelledAs said.header said.spelled columns
   pub headed : form.has_header ≡ settings.form.has_header
-  pub overlaid : OverlaidIn layer settings.form columns (settings.keeps_order ≡ false) (said.rows ∷ []) answer
+  pub overlaid : OverlaidIn layer (IsStyleOf form settings.form.writing.heading text) settings.form columns (settings.keeps_order ≡ false) (said.rows ∷ []) answer
   pub ordered : overlaid.keys ≡ noted_keys settings.keeps_order said.keys
 
 module _ {R : Type 0} (rem : R → Option (List ℕ)) (settings : Settings) (layer : Layer) (table : Stream R) (text : List ℕ) (answer : Answer)
@@ -121,7 +125,7 @@ module _ {R : Type 0} (rem : R → Option (List ℕ)) (settings : Settings) (lay
   one : (said : List Said) → AreNamed settings.key said
       → AreColumnsBy settings.key (map (λ table. table.names) said) (map (λ table. table.names) said) told.columns
       → AllZip (SaysRows rem settings told.columns) (table ∷ []) said → SpellsFirst rem settings told.columns (table ∷ []) said
-      → (laid : OverlaidIn layer settings.form told.columns (settings.keeps_order ≡ false) (map (λ table. table.rows) said) answer)
+      → (laid : OverlaidIn layer (StylesFirst rem settings (table ∷ [])) settings.form told.columns (settings.keeps_order ≡ false) (map (λ table. table.rows) said) answer)
       → (AreKnown rem settings (table ∷ []) → laid.keys ≡ noted_keys settings.keeps_order (flat_map (λ table. table.keys) said)) → OverlaysText settings layer form text answer
   one [] named columned says spells laid ordered = absurd says
   one (first ∷ []) named columned says spells laid ordered =
@@ -140,7 +144,7 @@ module _ {R : Type 0} (rem : R → Option (List ℕ)) (settings : Settings) (lay
         keyed = known.2;
         spells = subst (λ m. IfSome m (λ t. IsSpelledAs first.header first.spelled told.columns)) is spells;
         headed = refl;
-        overlaid = laid;
+        overlaid = restyled (λ style. subst (λ m. IfSome m (λ t. IsStyleOf form settings.form.writing.heading t style)) is) laid;
         ordered = ordered (there, tt) ∙ ap (noted_keys settings.keeps_order) (append-nil first.keys);
       }
   one (first ∷ next ∷ more) named columned says spells laid ordered = absurd says.1
@@ -201,8 +205,9 @@ module _ {settings : Settings} {layer : Layer} {form : Form} {text : List ℕ} {
   module _ (noted : Keys) (are : noted_keys true (map (λ row. map (cell_under Rows fields row) (one_key fields)) records) ≡ Some noted)
       (before : stands_before noted (alone b) (alone a) ≡ true) where
     -- the rows come out as they stand in the file
-    pub in_file_order : IsInStyle (λ s. IsTableFileOf (in_style s settings.form) (one_order fields) (one_key fields) (one_rest fields) (map alone (b ∷ a ∷ []))) answer
-    in_file_order =
+    pub in_file_order : (named : Style) → IsStyled form settings.form.writing.heading text named
+        → IsInStyle (IsButForEnd named) (λ s. IsTableFileOf (in_style s settings.form) (one_order fields) (one_key fields) (one_rest fields) (map alone (b ∷ a ∷ []))) answer
+    in_file_order named styled =
         let told = o.overlaid.answers in
         let written = in_style told.style settings.form in
         let order : o.overlaid.keys ≡ Some noted =
@@ -214,6 +219,7 @@ module _ {settings : Settings} {layer : Layer} {form : Form} {text : List ℕ} {
         come_out b a o.overlaid.by_cells is.1.0 is.0 (sorted_two (stands_before noted) (alone a) (alone b) is.1.0 is.1.1 is.1.2 before) is.1.3 in
         record {
           style = told.style;
+          styled = named_style form settings.form.writing.heading text named told.style styled told.styled;
           bytes =
               subst (λ rows. IsTableFileOf written (one_order fields) (one_key fields) (one_rest fields) rows answer.bytes.items) shown
               (table_file_shown written o.columns is.0 answer.bytes.items (one_order fields) (one_key fields) (one_rest fields) columns_known.order columns_known.key columns_known.rest

@@ -1,19 +1,29 @@
 -- What `diff` tells of two texts that are known, where all columns are compared.
-use Rattle.std.proofs.Common.{◌≡◌, ◌∙◌, ◌++◌, ℕ, true, false, List, [], ◌∷◌, filter, map, IsPermutation, ap, subst, sym, true≢false}
-use Rattle.std.specs.Prelude.{⊤}
+use Rattle.std.proofs.Common.{◌≡◌, ◌∙◌, ◌++◌, ℕ, true, false, List, [], ◌∷◌, filter, length, map, IsPermutation, ap, subst, subst₂, sym, true≢false}
+use Rattle.std.specs.Prelude.{⊤, replicate}
 use Rattle.eob_lists.proofs.MergeLemmas.{Up}
+use Rattle.eob_both.specs.declared.either_or_both.EitherOrBoth.{EitherOrBoth}
 use Rattle.eob_joins.proofs.TableLemmas.{by_test}
+use Rattle.keyed_reports.specs.RowChanges.{row_changes, rows_eq}
+use Rattle.keyed_reports.specs.Shown.{shown_rows}
+use Rattle.keyed_reports.specs.ShownColumns.{columns_shown}
+use Rattle.keyed_reports.specs.TableLines.{HasTextOfRows, versions_of}
+use Rattle.keyed_requests.specs.declared.request.Comparing.{Comparing}
 use Rattle.keyed_requests.specs.declared.request.Form.{Form}
 use Rattle.keyed_requests.specs.declared.request.Picked.TheVariants.{All}
 use Rattle.keyed_requests.specs.declared.request.Settings.{Settings}
+use Rattle.keyed_columns.specs.Alikes.{as_they_stand}
 use Rattle.keyed_columns.specs.ColumnNames.{HaveNames, column_names, has_name, is_beside}
+use Rattle.keyed_columns.specs.Keys.{ArePickedColumns}
+use Rattle.keyed_columns.specs.declared.columns.Columns.{Columns}
 use Rattle.keyed_tables.specs.Gathered.{alone}
-use Rattle.keyed_commands.specs.Answers.{key_cmp, status_of}
-use Rattle.keyed_commands.specs.Reported.{ReportsTexts, names_among}
+use Rattle.keyed_commands.specs.Answers.{TableChanges, key_cmp, status_of}
+use Rattle.keyed_commands.specs.ComeOut.{AlikePlaces, AlikeRows}
+use Rattle.keyed_commands.specs.Reported.{IsTold, ReportsTexts, names_among}
 use Rattle.keyed_commands.specs.TablesRead.{headers_differ}
 use Rattle.keyed_commands.specs.declared.answer.Answer.{Answer}
-use Rattle.command_callers.proofs.KnownDiff.{diff_key, same_tables}
-use Rattle.command_callers.proofs.KnownTables.{IsKnown, IsPlain, KeyedRows, columns_are, header_is, names_are, rows_by, table_is}
+use Rattle.command_callers.proofs.KnownDiff.{changes_are, changes_between, diff_key, same_tables}
+use Rattle.command_callers.proofs.KnownTables.{IsKnown, IsPlain, KeyedRows, came_out, columns_are, header_is, names_are, rows_by, table_is}
 
 -- the names of two tables, and those beside the key
 abbrev pub report_names : (old new : List (List ℕ)) → List (List ℕ)
@@ -27,7 +37,7 @@ abbrev pub names_compared : (old new header : List (List ℕ)) → List (List �
 names_compared old new header = filter (has_name (diff_key old new ++ report_rest old new)) header
 
 module _ {settings : Settings} {old_form new_form : Form} {old_text new_text : List ℕ} {answer : Answer}
-    (r : ReportsTexts settings All old_form new_form old_text new_text answer) (plain : IsPlain settings)
+    {how : Comparing} (r : ReportsTexts settings how old_form new_form old_text new_text answer) (whole : how.view.columns ≡ All) (plain : IsPlain settings)
     (old_fields new_fields : List (List ℕ)) (old_records new_records : List (List (List ℕ)))
     (old_known : IsKnown old_form old_text old_fields old_records) (new_known : IsKnown new_form new_text new_fields new_records)
     (old new : KeyedRows) (old_up : Up key_cmp (λ k. ⊤) old) (new_up : Up key_cmp (λ k. ⊤) new)
@@ -43,7 +53,7 @@ module _ {settings : Settings} {old_form new_form : Form} {old_text new_text : L
   columns_known =
       subst (λ n. HaveNames (diff_key n new_fields) (report_names n new_fields) r.columns) old_names
       (subst (λ n. HaveNames (diff_key r.names n) (report_names r.names n) r.columns) new_names
-      (subst (HaveNames (diff_key r.names r.next_header) (report_names r.names r.next_header)) (sym r.columned.2)
+      (subst (HaveNames (diff_key r.names r.next_header) (report_names r.names r.next_header)) (sym (subst (λ by. ArePickedColumns by r.columned.0 r.columns) whole r.columned.2))
       (columns_are settings.key (r.names ∷ r.next_header ∷ []) (r.names ∷ r.next_header ∷ []) r.columned.0 plain.key r.columned.1)))
 
   old_table : r.old ≡ map alone old
@@ -61,6 +71,26 @@ module _ {settings : Settings} {old_form new_form : Form} {old_text new_text : L
       ap (λ key. filter (has_name (key ++ r.columns.rest)) header) columns_known.key
       ∙ ap (λ rest. filter (has_name (diff_key old_fields new_fields ++ rest)) header) columns_known.rest
       ∙ ap (names_compared old_fields new_fields) is
+
+  -- the rows of changes that are shown
+  abbrev rows_told : TableChanges → List (List (List ℕ) × EitherOrBoth (List (List ℕ)) (List (List ℕ)))
+  rows_told changes = shown_rows how.view.rows (row_changes rows_eq settings.groups changes)
+
+  -- a table of them, under columns, of which these stand beside the key
+  abbrev IsTableOf : Columns → List (List ℕ) → TableChanges → Type 0
+  IsTableOf columns rest changes =
+      HasTextOfRows (replicate (length rest) as_they_stand) (columns_shown how.view.shown (replicate (length rest) as_they_stand) (length rest) (map versions_of (rows_told changes)))
+      columns (rows_told changes) answer.bytes.items
+
+  -- a table has the rows of the changes between the two
+  pub report_table : IsTold how.format how.view → (columns : Columns) × HaveNames (diff_key old_fields new_fields) (report_names old_fields new_fields) columns
+      × IsTableOf columns (report_rest old_fields new_fields) (changes_between old new)
+  report_table is_told =
+      let tells = r.told.table is_told in
+      let joined = tells.come_out in
+      let changes = came_out r.told.keys r.told.by_cells (AlikePlaces AlikeRows AlikeRows) joined.0 tells.changes (r.told.order plain.order) joined.2
+      ∙ changes_are old new old_up new_up r.old r.new joined.0 old_table new_table joined.1 in
+      (r.columns, columns_known, subst₂ (IsTableOf r.columns) columns_known.rest changes tells.table)
 
   -- the status where the tables are not the same, and where they are and no column comes or goes
   pub report_differs : same_tables (map alone old) (map alone old) ≡ true → same_tables (map alone old) (map alone new) ≡ false → answer.status ≡ 1

@@ -3,9 +3,11 @@ pub mod WrittenParts
 pub mod KnownRows
 pub mod KnownJoins
 pub mod KnownCells
+pub mod KnownColumns
 pub mod KnownTables
 pub mod KnownDiff
 pub mod KnownSorted
+pub mod KnownStyles
 pub mod KnownReport
 pub mod KnownJoinText
 pub mod KnownMerge
@@ -17,3 +19,5 @@ pub mod LiteralTexts
 pub mod KnownText
 pub mod KnownLaws
 pub mod KnownSides
+pub mod KnownOnly
+pub mod SomeColumns

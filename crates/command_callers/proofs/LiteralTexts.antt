@@ -52,6 +52,11 @@ pub with_y : AreRows 44 None (codes "id,a\n1,y\n") (id_a ∷ one_y ∷ [])
 unfolding csv_on_literals Reached
 with_y = (st.StartRecord, [], (_, refl, refl, (_, refl, refl, (refl, refl))), refl)
 
+-- the same after a byte order mark, with each cell in quotes and CR LF after each row
+pub fully_with_y : AreRows 44 None (239 ∷ 187 ∷ 191 ∷ codes "\"id\",\"a\"\r\n\"1\",\"y\"\r\n") (id_a ∷ one_y ∷ [])
+unfolding csv_on_literals Reached
+fully_with_y = (st.AfterCr, 10 ∷ [], (_, refl, refl, (_, refl, refl, (refl, refl))), refl)
+
 pub with_z : AreRows 44 None (codes "id,a\n1,z\n") (id_a ∷ one_z ∷ [])
 unfolding csv_on_literals Reached
 with_z = (st.StartRecord, [], (_, refl, refl, (_, refl, refl, (refl, refl))), refl)

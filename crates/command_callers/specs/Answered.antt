@@ -23,9 +23,14 @@ SaysOnlyChanges text key rest changes = (form : Form) (header : List (List ℕ))
     → delimiter_of form ≡ 44 → comment_of form ≡ None → form.has_header ≡ true → columns.key ≡ key → columns.rest ≡ rest
     → SaysChanges form false text header header columns others → others ≡ changes
 
--- an answer is a table, with what is said of its text in some style
-pub record IsInStyle (IsText : Style → List ℕ → Type 0) (answer : Answer) : Type 0 where
+-- this style, whether its last row has an end or none
+abbrev pub IsButForEnd : Style → Style → Type 0
+IsButForEnd named style = style ≡ record named { has_end = style.has_end }
+
+-- an answer is a table in a style of which this is said, with what is said of its text in that style
+pub record IsInStyle (IsStyled : Style → Type 0) (IsText : Style → List ℕ → Type 0) (answer : Answer) : Type 0 where
   pub style : Style
+  pub styled : IsStyled style
   pub bytes : IsText style answer.bytes.items
   pub status : answer.status ≡ 0
   pub outcome : answer.outcome ≡ Made
@@ -46,16 +51,15 @@ IsFileOf rows text = (style : Style) × IsSpelledIn rows style text
 abbrev pub plainly : Style
 plainly = record { has_mark = false; quotes = WhereNeeded; line_end = Lf; has_end = true }
 
--- a byte order mark, quotes everywhere, CR LF between rows, and none after the last
+-- a byte order mark, quotes everywhere, and CR LF after each row
 abbrev pub fully : Style
-fully = record { has_mark = true; quotes = Everywhere; line_end = CrLf; has_end = false }
+fully = record { has_mark = true; quotes = Everywhere; line_end = CrLf; has_end = true }
 
--- an answer is the file of these rows in some style, or with each row in a spelling of its own; it would be this text in the plain style,
--- and that one in the other
-pub record IsTableInStyle (rows : List (List (List ℕ))) (plain full : List ℕ) (answer : Answer) : Type 0 where
-  pub file : IsInStyle (IsSpelledIn rows) answer
-  pub plain_text : file_in rows plainly ≡ plain
-  pub full_text : file_in rows fully ≡ full
+-- an answer is the file of these rows in this style, whose last row has an end or none, or with each row in a spelling of its own; with an end
+-- of each row, and all of them in the style, it is this text
+pub record IsTableInStyle (rows : List (List (List ℕ))) (named : Style) (text : List ℕ) (answer : Answer) : Type 0 where
+  pub file : IsInStyle (IsButForEnd named) (IsSpelledIn rows) answer
+  pub whole : file_in rows named ≡ text
 
 -- the text of a header and a row with semicolons between cells, each in its spelling
 abbrev pub spelled_rows : Style → (header row : RowSpelling) → List ℕ

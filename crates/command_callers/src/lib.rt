@@ -1,10 +1,16 @@
 //! Callers of the commands: what a program knows of the answers to `diff`, `apply`, `merge`, `join`, `overlay` and `lookup` of texts that it
-//! knows when it is written; and callers of the reader and the writer of rows (`texts`), and of the rows that a report shows (`reports`).
+//! knows when it is written; and callers of the reader and the writer of rows (`texts`), of the rows that a report shows (`reports`), and of
+//! the laws of columns and of cells that are shown (`columns`).
 #![tactic(auto)]
 
-ghost use Rattle.std.specs.Prelude.{◌≡◌, ◌∷◌, [], IfOk, codes};
+ghost use Rattle.std.specs.Prelude.{◌≡◌, ◌∷◌, [], IfOk, codes, true};
+ghost use Rattle.eob_both.specs.declared.either_or_both.EitherOrBoth.TheVariants.{Left, Both, Right};
+ghost use Rattle.keyed_columns.specs.Alikes.{as_they_stand};
+ghost use Rattle.keyed_columns.specs.ColumnNames.{HaveNames};
+ghost use Rattle.keyed_columns.specs.declared.columns.Columns.{Columns};
+ghost use Rattle.keyed_reports.specs.TableLines.{HasTextOfRows};
 ghost use Rattle.keyed_commands.specs.Answers.{Stops};
-ghost use Rattle.command_callers.specs.Answered.{IsTableInStyle};
+ghost use Rattle.command_callers.specs.Answered.{IsTableInStyle, fully, plainly};
 
 // A file of this name and this text, with the delimiter of the settings.
 macro_rules! file {
@@ -28,10 +34,12 @@ macro_rules! joining {
     };
 }
 
+pub mod columns;
 pub mod laws;
 pub mod layers;
 pub mod lookups;
 pub mod reports;
+pub mod some_columns;
 pub mod sorted;
 pub mod texts;
 
@@ -90,6 +98,12 @@ const REPORT: Comparing<'static> = Comparing {
     sameness: None,
 };
 
+const TABLE: Comparing<'static> = Comparing {
+    format: Format::Report(Look::PLAIN),
+    view: View::WHOLE,
+    sameness: None,
+};
+
 const BY_CELL: Merging<'static> = Merging {
     unit: Unit::Cell,
     conflicts: Conflicts::Report,
@@ -133,6 +147,25 @@ pub fn reported_row(alloc: Global) -> Result<Answer, Fault<'static>>
     let old = file!("old.csv", b"id,a\n1,x\n");
     let new = file!("new.csv", b"id,a\n1,y\n");
     diff(alloc, PLAIN, REPORT, old, new)
+}
+
+/// Returns a table for a person of two tables: a line for the row that changed, with both cells, for the one that was removed, and for the one
+/// that was added, in this order, under the names of the columns.
+///
+/// # Errors
+///
+/// Returns the errors of `diff`.
+pub fn told_rows(alloc: Global) -> Result<Answer, Fault<'static>>
+    ensures { IfOk result (λ answer. (columns : Columns)
+        × HaveNames (codes "id" ∷ []) (codes "id" ∷ codes "a" ∷ []) columns
+        × HasTextOfRows (as_they_stand ∷ []) (true ∷ []) columns
+        ((codes "1" ∷ [], Both (codes "x" ∷ []) (codes "z" ∷ []))
+        ∷ (codes "2" ∷ [], Left (codes "y" ∷ []))
+        ∷ (codes "3" ∷ [], Right (codes "w" ∷ [])) ∷ []) answer.bytes.items) }
+{
+    let old = file!("old.csv", b"id,a\n1,x\n2,y\n");
+    let new = file!("new.csv", b"id,a\n3,w\n1,z\n");
+    diff(alloc, PLAIN, TABLE, old, new)
 }
 
 /// Returns a report of two tables that are the same, with status 0.
@@ -243,15 +276,15 @@ pub fn stale_change(alloc: Global) -> Result<Answer, Fault<'static>>
 pub fn applied(alloc: Global) -> Result<Answer, Fault<'static>>
     ensures { IfOk result (IsTableInStyle
         ((codes "id" ∷ codes "a" ∷ []) ∷ (codes "1" ∷ codes "y" ∷ []) ∷ [])
-        (codes "id,a\n1,y\n")
-        (239 ∷ 187 ∷ 191 ∷ codes "\"id\",\"a\"\r\n\"1\",\"y\"")) }
+        plainly (codes "id,a\n1,y\n")) }
 {
     let old = file!("old.csv", b"id,a\n1,x\n");
     let changes = file!("changes.csv", b"change,id,a\n-,1,x\n+,1,y\n");
     apply(alloc, PLAIN, Direction::Forward, old, changes)
 }
 
-/// Returns a table with the same changes taken back: the row that went, in the place of the one that came.
+/// Returns a table with the same changes taken back: the row that went, in the place of the one that came. It begins with a byte order mark,
+/// and has quotes around each cell and CR LF after each row, as the table that is given.
 ///
 /// # Errors
 ///
@@ -259,10 +292,9 @@ pub fn applied(alloc: Global) -> Result<Answer, Fault<'static>>
 pub fn taken_back(alloc: Global) -> Result<Answer, Fault<'static>>
     ensures { IfOk result (IsTableInStyle
         ((codes "id" ∷ codes "a" ∷ []) ∷ (codes "1" ∷ codes "x" ∷ []) ∷ [])
-        (codes "id,a\n1,x\n")
-        (239 ∷ 187 ∷ 191 ∷ codes "\"id\",\"a\"\r\n\"1\",\"x\"")) }
+        fully (239 ∷ 187 ∷ 191 ∷ codes "\"id\",\"a\"\r\n\"1\",\"x\"\r\n")) }
 {
-    let new = file!("new.csv", b"id,a\n1,y\n");
+    let new = file!("new.csv", b"\xef\xbb\xbf\"id\",\"a\"\r\n\"1\",\"y\"\r\n");
     let changes = file!("changes.csv", b"change,id,a\n-,1,x\n+,1,y\n");
     apply(alloc, PLAIN, Direction::Backward, new, changes)
 }
@@ -275,8 +307,7 @@ pub fn taken_back(alloc: Global) -> Result<Answer, Fault<'static>>
 pub fn changed_ids(alloc: Global) -> Result<Answer, Fault<'static>>
     ensures { IfOk result (IsTableInStyle
         ((codes "id" ∷ []) ∷ (codes "1" ∷ []) ∷ (codes "3" ∷ []) ∷ [])
-        (codes "id\n1\n3\n")
-        (239 ∷ 187 ∷ 191 ∷ codes "\"id\"\r\n\"1\"\r\n\"3\"")) }
+        plainly (codes "id\n1\n3\n")) }
 {
     let old = file!("old.csv", b"id\n1\n2\n");
     let changes = file!("changes.csv", b"change,id\n-,2\n+,3\n");
@@ -291,8 +322,7 @@ pub fn changed_ids(alloc: Global) -> Result<Answer, Fault<'static>>
 pub fn dropped_column(alloc: Global) -> Result<Answer, Fault<'static>>
     ensures { IfOk result (IsTableInStyle
         ((codes "id" ∷ []) ∷ (codes "2" ∷ []) ∷ [])
-        (codes "id\n2\n")
-        (239 ∷ 187 ∷ 191 ∷ codes "\"id\"\r\n\"2\"")) }
+        plainly (codes "id\n2\n")) }
 {
     let old = file!("old.csv", b"id,a\n1,x\n2,\n");
     let changes = file!("changes.csv", b"change,id,-a\n-,1,x\n");
@@ -312,7 +342,8 @@ pub fn lost_cell(alloc: Global) -> Result<Answer, Fault<'static>>
     apply(alloc, PLAIN, Direction::Forward, old, changes)
 }
 
-/// Returns two versions of a table merged over their base: the row that one of them changed, and the one that the other added.
+/// Returns two versions of a table merged over their base: the row that one of them changed, and the one that the other added. It
+/// begins with a byte order mark, and has quotes around each cell and CR LF after each row, as ours.
 ///
 /// # Errors
 ///
@@ -320,11 +351,10 @@ pub fn lost_cell(alloc: Global) -> Result<Answer, Fault<'static>>
 pub fn merged(alloc: Global) -> Result<Answer, Fault<'static>>
     ensures { IfOk result (IsTableInStyle
         ((codes "id" ∷ codes "a" ∷ []) ∷ (codes "1" ∷ codes "y" ∷ []) ∷ (codes "2" ∷ codes "z" ∷ []) ∷ [])
-        (codes "id,a\n1,y\n2,z\n")
-        (239 ∷ 187 ∷ 191 ∷ codes "\"id\",\"a\"\r\n\"1\",\"y\"\r\n\"2\",\"z\"")) }
+        fully (239 ∷ 187 ∷ 191 ∷ codes "\"id\",\"a\"\r\n\"1\",\"y\"\r\n\"2\",\"z\"\r\n")) }
 {
     let base = file!("base.csv", b"id,a\n1,x\n");
-    let ours = file!("ours.csv", b"id,a\n1,y\n");
+    let ours = file!("ours.csv", b"\xef\xbb\xbf\"id\",\"a\"\r\n\"1\",\"y\"\r\n");
     let theirs = file!("theirs.csv", b"id,a\n1,x\n2,z\n");
     merge(alloc, PLAIN, Merging::PLAIN, base, ours, theirs)
 }
@@ -351,8 +381,7 @@ pub fn conflict(alloc: Global) -> Result<Answer, Fault<'static>>
 pub fn merged_by_cell(alloc: Global) -> Result<Answer, Fault<'static>>
     ensures { IfOk result (IsTableInStyle
         ((codes "id" ∷ codes "a" ∷ codes "b" ∷ []) ∷ (codes "1" ∷ codes "z" ∷ codes "w" ∷ []) ∷ [])
-        (codes "id,a,b\n1,z,w\n")
-        (239 ∷ 187 ∷ 191 ∷ codes "\"id\",\"a\",\"b\"\r\n\"1\",\"z\",\"w\"")) }
+        plainly (codes "id,a,b\n1,z,w\n")) }
 {
     let base = file!("base.csv", b"id,a,b\n1,x,y\n");
     let ours = file!("ours.csv", b"id,a,b\n1,z,y\n");

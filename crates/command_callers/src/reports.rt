@@ -1,12 +1,14 @@
-//! Callers of `row_changes`: which rows a report shows of changes that are known, and as what.
-ghost use Rattle.std.specs.Prelude.{◌≡◌, ◌∷◌, [], IfOk, codes, map};
+//! Callers of `row_changes` and of its laws: which rows a report shows of changes that are known, and as what.
+ghost use Rattle.std.specs.Prelude.{◌≡◌, ◌∷◌, [], IfOk, codes, length, map, true};
 ghost use Rattle.eob_both.specs.declared.either_or_both.EitherOrBoth.TheVariants.{Left, Both, Right};
-ghost use Rattle.keyed_reports.specs.RowChanges.{row_behind};
-ghost use Rattle.command_callers.specs.Shown.{changed_groups, changed_rows};
+ghost use Rattle.keyed_reports.specs.RowChanges.{count_of, lone, row_behind, rows_eq, told_by};
+ghost use Rattle.command_callers.specs.Shown.{changed_groups, changed_rows, rows_after, rows_before};
 
 use eob_both::EitherOrBoth;
 use eob_joins::Change;
-use keyed_reports::{RowChange, row_changes};
+use keyed_reports::{
+    RowChange, law_lone_count, law_one_row_each, law_pairs, law_told_differs, row_changes,
+};
 use keyed_rows::{Cells, Group, Key};
 use std::alloc::{AllocError, Global};
 
@@ -26,6 +28,50 @@ pub fn rows_shown<'a>(
         ∷ (codes "3" ∷ [], Right (codes "w" ∷ [])) ∷ []) }
 {
     row_changes(alloc, false, changes)
+}
+
+/// Returns the same, as it follows from what each key has before and after.
+///
+/// # Errors
+///
+/// Returns `AllocError` if a request for memory was refused.
+pub fn pairs_shown<'a>(
+    alloc: Global,
+    changes: &'a [(Key, Change<Group>)],
+) -> Result<Vec<RowChange<'a>>, AllocError>
+    requires { changes.now ≡ changed_rows }
+    ensures { IfOk result (λ rows. map row_behind rows.items
+        ≡ (codes "1" ∷ [], Both (codes "x" ∷ []) (codes "z" ∷ []))
+        ∷ (codes "2" ∷ [], Left (codes "y" ∷ []))
+        ∷ (codes "3" ∷ [], Right (codes "w" ∷ [])) ∷ []) }
+{
+    law_pairs::<Key>();
+    row_changes(alloc, false, changes)
+}
+
+/// Returns how many rows `x` the rows after lack of those before: there were two, and there is one.
+pub fn count_gone() -> usize
+    ensures { result ≡ count_of rows_eq (codes "x" ∷ []) (lone rows_eq rows_before rows_after) }
+{
+    law_lone_count();
+    1
+}
+
+/// Returns how many rows are told of these that have other cells than before: all that are told, one that changed.
+pub fn count_that_differ() -> usize
+    ensures { result ≡ length (told_by rows_eq rows_eq rows_before rows_after) }
+{
+    law_told_differs();
+    1
+}
+
+/// Returns how many rows are told of a key with one row before and another one after, where any two rows count as the same: none.
+pub fn count_where_all_are_same() -> usize
+    ensures { result ≡ length (told_by rows_eq (λ row other. true)
+        ((codes "x" ∷ []) ∷ []) ((codes "z" ∷ []) ∷ [])) }
+{
+    law_one_row_each();
+    0
 }
 
 /// Returns the rows that are told of keys that stand more than once. Of the first key one of two rows `x` became `z`. Of the second one `p`

@@ -270,10 +270,8 @@ fn sorted_changes(how: Comparing<'_>, wanted: Wanted) -> Result<SortedChanges<'_
     match (how.format, wanted) {
         (Format::Csv, _) => match how.view.columns {
             Picked::All => Ok(SortedChanges::Csv),
-            Picked::Only(_) | Picked::AllBut(_) => Err(ParseError::Value {
-                option: "ignore",
-                wrong: "not with --format csv and --sorted: leave out --sorted",
-            }),
+            Picked::Only(_) => Err(not_in_parts("only")),
+            Picked::AllBut(_) => Err(not_in_parts("ignore")),
         },
         (Format::Report(_), Wanted::Status) => Ok(json),
         (Format::Report(Look::Json), Wanted::Answer) => match how.view.rows {
@@ -284,6 +282,14 @@ fn sorted_changes(how: Comparing<'_>, wanted: Wanted) -> Result<SortedChanges<'_
             }),
         },
         (Format::Report(_), Wanted::Answer) => Err(ParseError::SortedTable),
+    }
+}
+
+// That an option is none of changes that are written as CSV part by part.
+fn not_in_parts(option: &'static str) -> ParseError {
+    ParseError::Value {
+        option,
+        wrong: "not with --format csv and --sorted: leave out --sorted",
     }
 }
 

@@ -15,7 +15,7 @@ static PARTS: [(&str, &str, &str); 3] = [
     (
         "only",
         "COLUMN[,COLUMN..]",
-        "The columns that are compared and shown, beside those of the key",
+        "The columns that are compared and shown, beside those of the key; in CSV the others stay",
     ),
     (
         "ignore",
@@ -112,7 +112,7 @@ pub fn comparing_of<'a>(
     })
 }
 
-// Tells that nothing is left out of changes as CSV, but those of rows that differ in columns alone that are ignored.
+// Tells that no row is left out of changes as CSV, but one that differs in columns alone that are ignored or not compared.
 fn check_whole(matches: &ArgMatches<'_>) -> Result<(), ParseError> {
     if let Some(option) = first_given(matches) {
         return Err(ParseError::Value {
@@ -120,18 +120,24 @@ fn check_whole(matches: &ArgMatches<'_>) -> Result<(), ParseError> {
             wrong: "not with --format csv: the changes that apply takes are of cells as they stand",
         });
     }
-    if matches.get_str("ignore").is_some() && matches.get_flag("group") {
-        return Err(ParseError::Value {
-            option: "ignore",
-            wrong: "not with --format csv and --group: a group changes as a whole",
-        });
-    }
     for (option, _, _) in &PARTS {
-        if *option != "ignore" && matches.get_str(option).is_some() {
-            return Err(ParseError::Value {
-                option,
-                wrong: "not with --format csv: a part of the changes is no patch that apply takes",
-            });
+        let wrong = match *option {
+            "limit" => {
+                Some("not with --format csv: a part of the changes is no patch that apply takes")
+            }
+            _ if matches.get_flag("group") => {
+                Some("not with --format csv and --group: a group changes as a whole")
+            }
+            "only" if matches.get_flag("no-header") => Some(
+                "not with --format csv and --no-header: the header says of which columns changes are",
+            ),
+            _ => None,
+        };
+        match wrong {
+            Some(wrong) if matches.get_str(option).is_some() => {
+                return Err(ParseError::Value { option, wrong });
+            }
+            _ => {}
         }
     }
     Ok(())

@@ -2,7 +2,7 @@
 use Rattle.std.proofs.Common.{◌≡◌, ◌∙◌, ◌+◌, ℕ, Bool, Bor, true, false, cond, List, [], ◌∷◌, ◌++◌, None, Some, arith, drop, filter, map, nat_eq, refl, sym, ap, ap₂, append_assoc, subst, take}
 use Rattle.std.specs.Prelude.{◌&&◌, ◌||◌, not, slice_get}
 use Rattle.std.specs.Cmp.Lexicographic.{nat_list_eq_equiv, pointwise}
-use Rattle.std.specs.List.{list_any}
+use Rattle.std.specs.List.{list_all, list_any}
 use Rattle.std.proofs.lemmas.List.{append-nil, map-append}
 use Rattle.std.proofs.lemmas.List.Concat.{flat_map-append}
 use Rattle.std.proofs.lemmas.List.Elements.{filter-append, filter_agree}
@@ -192,6 +192,11 @@ given-one first others name e f gives = record {
 -- names that are found at once are those that were put there
 pub has-same : (names others : List (List ℕ)) → names ≡ insert_all (pointwise nat_eq) [] others → (name : List ℕ) → has_name names name ≡ has_name others name
 has-same names others is name = ap (list_any (pointwise nat_eq name)) is ∙ in_all name others
+
+pub has-each : (names others : List (List ℕ)) → names ≡ insert_all (pointwise nat_eq) [] others → (xs : List (List ℕ))
+    → list_all (has_name names) xs ≡ list_all (has_name others) xs
+has-each names others is [] = refl
+has-each names others is (x ∷ xs) = ap₂ (λ a b. a && b) (has-same names others is x) (has-each names others is xs)
 
 kept_same : (keeps : Bool) (names others : List (List ℕ)) → names ≡ insert_all (pointwise nat_eq) [] others → (name : List ℕ)
     → is_kept keeps names name ≡ is_kept keeps others name

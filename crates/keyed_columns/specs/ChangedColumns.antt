@@ -3,6 +3,7 @@ use Rattle.std.specs.Prelude.{◌==◌, ◌||◌, ◌&&◌, ℕ, Bool, false, no
 use Rattle.std.specs.Cmp.Lexicographic.{pointwise}
 use Rattle.std.specs.List.{list_all, zip}
 use Rattle.keyed_columns.specs.ColumnNames.{WriteNames, column_names, has_name, or_header}
+use Rattle.keyed_columns.specs.Placed.{names_placed}
 use Rattle.keyed_columns.specs.declared.columns.Columns.{Columns}
 use Rattle.keyed_columns.specs.declared.fate.Fate.{Fate}
 use Rattle.keyed_columns.specs.declared.fate.Fate.TheVariants as fate
@@ -30,10 +31,20 @@ marked_between old new name = marked_name (fate_between old new name) name
 abbrev pub marked_names : List (List ℕ) → List (List ℕ) → List (List ℕ)
 marked_names old new = map (marked_between (or_header old new) (or_header new old)) (column_names (new ∷ old ∷ []))
 
--- the names of the table that changes make of another: those of the changes without those that go, and then those that the changes do not
--- name
+-- the names of these columns as they are written, each with its mark
+abbrev pub marked_columns : Columns → List (List ℕ) → List (List ℕ) → List (List ℕ)
+marked_columns columns old new = map (marked_between (or_header old new) (or_header new old)) (names_placed columns)
+
+-- whether the header of changes names each column of a table; if not, the changes are of those columns alone that it names
+abbrev pub name_each : List (List ℕ) → List (List ℕ) → Bool
+name_each old changes = list_all (has_name changes) old
+
+-- the names of the table that changes make of another, without those that go: those of the changes where they name each column of the other
+-- table, and else those of the other table, and then those that come
 abbrev pub changed_names : List (List ℕ) → List (List ℕ) → List (List ℕ) → List (List ℕ)
-changed_names old changes gone = filter (λ name. not (has_name gone name)) changes ++ filter (λ name. not (has_name changes name)) old
+changed_names old changes gone =
+    if name_each old changes then filter (λ name. not (has_name gone name)) changes
+    else filter (λ name. not (has_name gone name)) old ++ filter (λ name. not (has_name (old ++ gone) name)) changes
 
 -- the columns of that table
 abbrev pub AreChangedColumns : List (List ℕ) → List (List ℕ) → List (List ℕ) → List (List ℕ) → Columns → Type 0

@@ -1,3 +1,4 @@
+pub mod Alikes
 pub mod CellsUnder
 pub mod ChangedColumns
 pub mod ColumnLaws

@@ -30,6 +30,6 @@ pub use key_record::{KeyNames, key_names};
 pub use laws::{
     law_keeps_names, law_names_once, law_places_cells, law_puts_back, law_writes_names,
 };
-pub use new_columns::{changed_columns, marked_names, merged_columns};
+pub use new_columns::{changed_columns, marked_columns, marked_names, merged_columns, name_each};
 pub use placed::PlacedCells;
 pub use tolerances::Tolerances;

@@ -1,16 +1,18 @@
 //! The columns of the table that changes make of another, and of two versions merged: which are written, and in which order.
-ghost use Rattle.std.specs.Prelude.{◌≡◌, ◌++◌, ◌∷◌, [], IfOk, OnOk, drop, filter, map};
-ghost use Rattle.std.specs.List.{list_any};
-ghost use Rattle.keyed_columns.specs.ChangedColumns.{AreChangedColumns, AreMergedColumns, comes_in};
-ghost use Rattle.keyed_columns.specs.ChangedColumns.{fate_between, is_led_by_theirs, marked_between};
-ghost use Rattle.keyed_columns.specs.ChangedColumns.{marked_names, merged_names, names_merged, stays_in};
-ghost use Rattle.keyed_columns.specs.ColumnNames.{WriteNames};
+ghost use Rattle.std.specs.Prelude.{◌≡◌, ◌++◌, ◌∷◌, [], IfOk, OnOk, drop, filter, map, not};
+ghost use Rattle.std.specs.List.{list_all, list_any};
+ghost use Rattle.keyed_columns.specs.ChangedColumns.{AreChangedColumns, AreMergedColumns, changed_names};
+ghost use Rattle.keyed_columns.specs.ChangedColumns.{comes_in, fate_between, is_led_by_theirs};
+ghost use Rattle.keyed_columns.specs.ChangedColumns.{marked_between, marked_columns, marked_names};
+ghost use Rattle.keyed_columns.specs.ChangedColumns.{merged_names, name_each, names_merged, stays_in};
+ghost use Rattle.keyed_columns.specs.ColumnNames.{WriteNames, has_name};
 ghost use Rattle.keyed_columns.specs.Lost.{count_written, is_filled, is_rest, loses_cells};
 ghost use Rattle.keyed_columns.specs.Names.{names_in};
 
 use crate::column_changes::is_same_order;
 use crate::columns::{Columns, Place, kept_names, or_header, put_kept_names};
 use crate::fate::Fate;
+use crate::joined_names::names_placed;
 use crate::names::Names;
 use keyed_rows::{Cells, Group};
 use std::alloc::{AllocError, Global};
@@ -49,6 +51,27 @@ pub fn marked_names<'a>(alloc: Global, old: &'a Cells, new: &'a Cells) -> Result
     Ok(marked)
 }
 
+/// The names of columns in the order in which they are written, each with the mark of what became of it from one header to another. A header
+/// that is empty, as of a file with no row, is that of the other table.
+///
+/// # Errors
+///
+/// Returns `AllocError` if a request for memory was refused.
+pub fn marked_columns<'a>(
+    alloc: Global,
+    columns: &Columns,
+    old: &'a Cells,
+    new: &'a Cells,
+) -> Result<Cells, AllocError>
+    ensures { IfOk result (λ marked. marked ≡ marked_columns columns.now old.now new.now) }
+{
+    let before = Names::of_cells(alloc, or_header(old, new))?;
+    let after = Names::of_cells(alloc, or_header(new, old))?;
+    let names = names_placed(alloc, columns, &columns.rest)?;
+    let marked = marked_among(alloc, &before, &after, &names)?;
+    Ok(marked)
+}
+
 // These names, each with the mark of what became of it from the names before to those after.
 fn marked_among(
     alloc: Global,
@@ -80,8 +103,29 @@ fn fate_between(before: &Names, after: &Names, name: &[u8]) -> Fate
     }
 }
 
-/// The columns of the table that changes make of another: those of the changes in their order, without those that go, and then those that
-/// the changes do not name.
+/// Whether the header of changes names each column of the table that they are made to. If not, the changes are of those columns alone that
+/// it names.
+///
+/// # Errors
+///
+/// Returns `AllocError` if a request for memory was refused.
+pub fn name_each(alloc: Global, old: &Cells, changes: &Cells) -> Result<bool, AllocError>
+    ensures { IfOk result (λ each. each ≡ name_each old.now changes.now) }
+{
+    let named = Names::of_cells(alloc, changes)?;
+    let each = have_each(&named, old);
+    Ok(each)
+}
+
+// Whether each name of a header is one of these.
+fn have_each(names: &Names, header: &Cells) -> bool
+    ensures { result ≡ list_all (has_name (names_in names.now)) header.now }
+{
+    header.iter().all(|name| names.has(name))
+}
+
+/// The columns of the table that changes make of another, without those that go: those of the changes in their order where they name each
+/// column of the other table, and else those of the other table, and then those that come.
 ///
 /// # Errors
 ///
@@ -95,12 +139,48 @@ pub fn changed_columns(
 ) -> Result<Columns, AllocError>
     ensures { IfOk result (AreChangedColumns key old.now changes.now gone.now) }
 {
-    let going = Names::of_cells(alloc, gone)?;
-    let named = Names::of_cells(alloc, changes)?;
-    let mut written = kept_names(alloc, &going, false, changes)?;
-    put_kept_names(&mut written, &named, false, old)?;
+    let written = changed_names(alloc, old, changes, gone)?;
     let columns = written_columns(alloc, key, &written, changes, old, gone)?;
     Ok(columns)
+}
+
+// The names of these columns.
+fn changed_names(
+    alloc: Global,
+    old: &Cells,
+    changes: &Cells,
+    gone: &Cells,
+) -> Result<Cells, AllocError>
+    ensures { IfOk result (λ names. names ≡ changed_names old.now changes.now gone.now) }
+{
+    let each = name_each(alloc, old, changes)?;
+    let going = Names::of_cells(alloc, gone)?;
+    if each {
+        let names = kept_names(alloc, &going, false, changes)?;
+        Ok(names)
+    } else {
+        let names = names_beside(alloc, &going, old, changes, gone)?;
+        Ok(names)
+    }
+}
+
+// The names of a table, and then those of changes that it lacks, without those that go.
+fn names_beside(
+    alloc: Global,
+    going: &Names,
+    old: &Cells,
+    changes: &Cells,
+    gone: &Cells,
+) -> Result<Cells, AllocError>
+    ensures { IfOk result (λ names. names
+        ≡ filter (λ name. not (has_name (names_in going.now) name)) old.now
+        ++ filter (λ name. not (has_name (old.now ++ gone.now) name)) changes.now) }
+{
+    let mut there = Names::of_cells(alloc, old)?;
+    there.add_all(alloc, gone)?;
+    let mut names = kept_names(alloc, going, false, old)?;
+    put_kept_names(&mut names, &there, false, changes)?;
+    Ok(names)
 }
 
 /// The columns of two versions of a table merged over their base, as rows are merged: a column that one of them dropped is dropped, and one

@@ -1,5 +1,6 @@
 //! How far apart numbers may be that count as the same, as it is given: for all columns, and for some by their names.
-ghost use Rattle.std.specs.Prelude.{◌≡◌, IfOk, length};
+ghost use Rattle.std.specs.Prelude.{◌≡◌, IfOk, None, length, replicate};
+ghost use Rattle.keyed_columns.specs.Alikes.{ComparesAsTheyStand, alike_with, as_they_stand};
 
 use crate::columns::{Columns, has_name, place_of};
 use crate::header::cell_of;
@@ -35,18 +36,34 @@ impl<'a> Tolerances<'a> {
     /// Returns `KeyNoRecord` if the text is another number of records or its quotes are not in order, `RepeatedName` if a column is named
     /// twice, `NoTolerance` if what is given is no number of 0 or more, a second one for all columns, or has more than one `=`, and
     /// `NoMemory` if a request for memory was refused.
-    pub fn new(alloc: Global, sameness: Option<Sameness<'a>>) -> Result<Self, Reason> {
-        let sameness = sameness.unwrap_or(Sameness::AS_THEY_STAND);
-        let mut tolerances = Tolerances {
-            sameness,
-            all: None,
-            names: Cells::new(alloc),
-            numbers: Cells::new(alloc),
-        };
+    pub fn new(alloc: Global, sameness: Option<Sameness<'a>>) -> Result<Self, Reason>
+        ensures { IfOk result (λ tolerances. sameness.entry ≡ None → ComparesAsTheyStand tolerances) }
+    {
+        match sameness {
+            Some(sameness) => Tolerances::given(alloc, sameness),
+            None => Ok(Tolerances::unread(alloc, Sameness::AS_THEY_STAND)),
+        }
+    }
+
+    // Those of cells that are compared so.
+    fn given(alloc: Global, sameness: Sameness<'a>) -> Result<Self, Reason> {
+        let mut tolerances = Tolerances::unread(alloc, sameness);
         if let Some(text) = sameness.tolerance {
             tolerances.read(alloc, text)?;
         }
         Ok(tolerances)
+    }
+
+    // The same with a text that is not read yet.
+    fn unread(alloc: Global, sameness: Sameness<'a>) -> Self
+        ensures { result.sameness ≡ sameness.entry }
+    {
+        Tolerances {
+            sameness,
+            all: None,
+            names: Cells::new(alloc),
+            numbers: Cells::new(alloc),
+        }
     }
 
     // Reads them from a text.
@@ -137,22 +154,30 @@ impl<'a> Tolerances<'a> {
     ///
     /// Returns `AllocError` if a request for memory was refused.
     pub fn alikes(&self, alloc: Global, columns: &Columns) -> Result<Vec<Alike<'_>>, AllocError>
-        ensures { IfOk result (λ alikes. length alikes.items ≡ length columns.now.rest) }
+        ensures each { IfOk result (λ alikes. length alikes.items ≡ length columns.now.rest) }
+        ensures plain { ComparesAsTheyStand self.now → IfOk result (λ alikes. alikes.items
+            ≡ replicate (length columns.now.rest) as_they_stand) }
     {
-        columns
-            .rest
-            .iter()
-            .map(|name| self.alike_of(name))
-            .collect(alloc)
+        match self.sameness.tolerance {
+            Some(_) => columns
+                .rest
+                .iter()
+                .map(|name| self.alike_with(self.tolerance_of(name)))
+                .collect(alloc),
+            None => {
+                let mut alikes = Vec::new(alloc);
+                alikes.resize(columns.rest.len(), self.alike_with(None))?;
+                Ok(alikes)
+            }
+        }
     }
 
-    // How the cells of a column of this name are compared.
-    fn alike_of(&self, name: &[u8]) -> Alike<'_> {
+    // How the cells of a column are compared that has this tolerance.
+    fn alike_with<'t>(&self, tolerance: Option<Decimal<'t>>) -> Alike<'t>
+        ensures { result ≡ alike_with self.now.sameness tolerance.entry }
+    {
         Alike {
-            tolerance: match self.sameness.tolerance {
-                Some(_) => self.tolerance_of(name),
-                None => None,
-            },
+            tolerance,
             mark: self.sameness.mark,
             trims: self.sameness.trims,
             folds_case: self.sameness.folds_case,

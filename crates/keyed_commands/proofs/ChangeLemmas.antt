@@ -1,5 +1,5 @@
 -- The rows of one more change.
-use Rattle.std.proofs.Common.{◌≡◌, ◌++◌, ◌∷◌, ℕ, List, subst, sym}
+use Rattle.std.proofs.Common.{◌≡◌, ◌∷◌, ℕ, List, subst, sym}
 use Rattle.std.specs.List.{flat_map}
 use Rattle.keyed_files.specs.declared.written.Written.{Written}
 use Rattle.keyed_files.specs.Writing.{PutsRows}

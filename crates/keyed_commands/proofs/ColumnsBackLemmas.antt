@@ -2,7 +2,7 @@
 use Rattle.std.proofs.Common.{◌≡◌, ◌∙◌, ◌+◌, ℕ, suc, zero, Bool, true, false, List, [], ◌∷◌, ◌++◌, None, Option, Some, arith, filter, get_or, length, map, nat_eq, ne_eqb, refl, sym, ap, ap₂, subst, take, true≢false}
 use Rattle.std.specs.Prelude.{◌==◌, ◌&&◌, ◌||◌, is_none, not, option_map, unwrap_or, if◌then◌else◌}
 use Rattle.std.specs.Cmp.Lexicographic.{bytes_decides, nat_list_eq_equiv, pointwise}
-use Rattle.std.specs.List.{flat_map, AllByRecursion, IsDistinct, list_any}
+use Rattle.std.specs.List.{flat_map, AllByRecursion, IsDistinct, list_all, list_any}
 use Rattle.std.proofs.lemmas.List.{append-nil, get_or-map}
 use Rattle.std.proofs.lemmas.List.Elements.{filter-append}
 use Rattle.std.proofs.lemmas.List.Folds.{list_any-append}
@@ -114,6 +114,10 @@ has_head x xs = or_first (pointwise nat_eq x x) (has_name xs x) (nat_list_eq_equ
 within_tail : (x : List ℕ) (xs ys : List (List ℕ)) → Within (x ∷ xs) ys → Within xs ys
 within_tail x xs ys h name e = h name (or_second (pointwise nat_eq name x) (has_name xs name) e)
 
+pub names-each : (xs ys : List (List ℕ)) → Within xs ys → list_all (has_name ys) xs ≡ true
+names-each [] ys h = refl
+names-each (x ∷ xs) ys h = rw (h x (has_head x xs)) (names-each xs ys (within_tail x xs ys h))
+
 pub columns-within : (new old : List (List ℕ)) → Within new (column_names (new ∷ old ∷ [])) × Within old (column_names (new ∷ old ∷ []))
 columns-within new old = (
   λ name e. has-distinct name (new ++ (old ++ [])) ∙ has_append name new (old ++ []) ∙ or_first (has_name new name) (has_name (old ++ []) name) e,
@@ -198,11 +202,9 @@ module _ (all written gone old : List (List ℕ)) (parted : all ≡ written ++ g
 
   pub names-changed : changed_names old all gone ≡ written
   names-changed =
-      ap₂ (λ a b. a ++ b)
+      rw (names-each old all within)
       (ap (filter (λ name. not (has_name gone name))) parted ∙ filter-append (λ name. not (has_name gone name)) written gone
       ∙ ap₂ (λ a b. a ++ b) (without_all written gone (turned gone written apart)) (without_none gone gone (λ name e. e)) ∙ append-nil written)
-      (without_none old all within)
-      ∙ append-nil written
 
   more_in : Within (distinct (old ++ (gone ++ []))) all
   more_in name e =

@@ -1,7 +1,6 @@
 -- Rows that come out in an order.
 use Rattle.std.proofs.Common.{◌≡◌, ◌∙◌, ℕ, suc, Bool, true, false, List, [], ◌∷◌, length, Option, Some, refl, sym, ap, true≢false}
 use Rattle.std.specs.Prelude.{◌↔◌, IsTrue, MatchBool}
-use Rattle.std.specs.List.{AllZip}
 use Rattle.std.proofs.lemmas.List.Sorted.{length_permutation}
 use Rattle.eob_joins.specs.Groups.{some_items}
 use Rattle.keyed_commands.specs.ComeOut.{AlikeByKey, ComesOut, HasGroups}

@@ -9,7 +9,7 @@ use Rattle.keyed_requests.specs.AnswerForm.{in_style, writes_heading}
 use Rattle.keyed_requests.specs.FormBytes.{comment_of, delimiter_of}
 use Rattle.keyed_requests.specs.declared.request.Form.{Form}
 use Rattle.keyed_requests.specs.declared.request.Settings.{Settings}
-use Rattle.keyed_columns.specs.ChangedColumns.{changed_names}
+use Rattle.keyed_columns.specs.ChangedColumns.{changed_names, name_each}
 use Rattle.keyed_columns.specs.ColumnNames.{WriteNames, column_names, distinct, has_name, or_header}
 use Rattle.keyed_columns.specs.Going.{going}
 use Rattle.keyed_columns.specs.Keys.{AreKeyNames, first_name}
@@ -29,11 +29,13 @@ use Rattle.keyed_commands.specs.Answers.{AnswersTable, Stops, TableRows, key_cmp
 use Rattle.keyed_commands.specs.Lost.{loses}
 use Rattle.keyed_commands.specs.ChangeRows.{changes_rows}
 use Rattle.keyed_commands.specs.AppliedTexts.{AnswersApplied, AppliesTexts}
+use Rattle.keyed_commands.specs.MadeChanges.{made_in}
 use Rattle.keyed_commands.specs.TablesRead.{AreNames, AreNamesBy, DiffsTexts, SaysTable}
 use Rattle.keyed_commands.specs.TextLaws.{AnswersTableOf, AreReadAs, DiffedTextByLaw, DiffedTextLaw, MakesTable, NamesOnce}
 use Rattle.keyed_commands.specs.declared.answer.Answer.{Answer}
-use Rattle.keyed_commands.proofs.ColumnsBackLemmas.{WritesOf, gone-apart, gone_between, header-within, marked-gone, writes-alike, written-once}
+use Rattle.keyed_commands.proofs.ColumnsBackLemmas.{WritesOf, columns-within, gone-apart, gone_between, header-within, marked-gone, names-each, writes-alike, written-once}
 use Rattle.keyed_commands.proofs.LossLemmas.{loses-none}
+use Rattle.keyed_commands.proofs.MadeLemmas.{whole-made}
 use Rattle.keyed_commands.proofs.LawLemmas.{diff_apply, has-header}
 use Rattle.keyed_commands.proofs.SpelledLemmas.{spelled-once, spells-plainly}
 use Rattle.keyed_commands.proofs.TableBackLemmas.{says-only}
@@ -160,17 +162,25 @@ module _ (settings : Settings) (old_form new_form : Form) (old_text new_text : L
         (diff-says settings old_form new_form old_text new_text difference has parts begins plain diffs applies.changes_header applies.columns applies.changes applies.changes_say alike)
 
     -- the form that the answer is written in
-    abbrev made_in : Form
-    made_in = in_style applies.applied.style settings.form
+    abbrev written_in : Form
+    written_in = in_style applies.applied.style settings.form
 
-    applied : AnswersApplied made_in applies.columns None true applies.old applies.changes answer
+    -- the changes name each column of the old table
+    made_whole : made_in applies.names applies.changes_header applies.columns Forward applies.old applies.changes ≡ applies.changes
+    made_whole =
+        whole-made applies.names applies.changes_header applies.columns Forward applies.old applies.changes
+        (ap₂ (λ o a. name_each o a) same_names same_changes ∙ names-each diffs.names all (columns-within diffs.next_header diffs.names).1)
+
+    applied : AnswersApplied written_in applies.columns None true applies.old applies.changes answer
     applied =
         let ordered = applies.applied.order plain in
-        subst₂ (λ keys by_cells. AnswersApplied made_in applies.columns keys by_cells applies.old applies.changes answer) ordered.0 ordered.1 applies.applied.applied
+        subst (λ changes. AnswersApplied written_in applies.columns None true applies.old changes answer) made_whole
+        (subst₂ (λ keys by_cells. AnswersApplied written_in applies.columns keys by_cells applies.old
+        (made_in applies.names applies.changes_header applies.columns Forward applies.old applies.changes) answer) ordered.0 ordered.1 applies.applied.applied)
 
-    answers : AnswersTable made_in applies.columns None true diffs.new answer
+    answers : AnswersTable written_in applies.columns None true diffs.new answer
     answers =
-        diff_apply made_in applies.columns None true applies.old diffs.new applies.changes answer
+        diff_apply written_in applies.columns None true applies.old diffs.new applies.changes answer
         (table-rises old_form settings.groups old_text applies.header applies.names applies.columns applies.old applies.old_says)
         (table-rises new_form settings.groups new_text diffs.next_header diffs.next_header diffs.columns diffs.new diffs.new_says)
         changes_are applied.fits
@@ -190,8 +200,8 @@ module _ (settings : Settings) (old_form new_form : Form) (old_text new_text : L
     new_says =
         says_alike new_form settings.groups new_text diffs.next_header diffs.next_header diffs.next_header diffs.next_header diffs.columns applies.columns diffs.new refl refl alike diffs.new_says
 
-    made_is : MakesTable made_in applies.columns diffs.new answer
-    made_is = subst (λ b. MatchBool b (Stops answer) (MakesTable made_in applies.columns diffs.new answer)) keeps_cells answers
+    made_is : MakesTable written_in applies.columns diffs.new answer
+    made_is = subst (λ b. MatchBool b (Stops answer) (MakesTable written_in applies.columns diffs.new answer)) keeps_cells answers
 
     written_once : repeats [] (or_header diffs.next_header diffs.names) ≡ false
     written_once = written-once diffs.names diffs.next_header old_once new_once
@@ -216,7 +226,7 @@ module _ (settings : Settings) (old_form new_form : Form) (old_text new_text : L
       says = new_says;
       answers = made_is;
       reads = λ some unmarked each. says-only diffs.next_header diffs.columned.others (or_header diffs.next_header diffs.names) (all ∷ diffs.names ∷ applies.gone ∷ []) applies.columns
-          (header-within diffs.next_header diffs.names) writes_names written_once made_in new_form settings.groups answer.bytes.items new_text diffs.next_header diffs.new
+          (header-within diffs.next_header diffs.names) writes_names written_once written_in new_form settings.groups answer.bytes.items new_text diffs.next_header diffs.new
           has parts begins spells new_says made_is.2 some unmarked each;
     }
 

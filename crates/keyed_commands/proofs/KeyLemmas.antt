@@ -1,7 +1,7 @@
 -- A key that is not greater than others.
 use Rattle.std.proofs.Common.{◌≡◌, Option, None, Some, IfSome, option_map, refl}
 use Rattle.std.specs.Cmp.{IsTotalOrder, tied_itself}
-use Rattle.std.specs.Ordering.{is_lt, ordering_reverse}
+use Rattle.std.specs.Ordering.{ordering_reverse}
 use Rattle.std.specs.declared.cmp.Ordering.{Ordering}
 use Rattle.std.specs.declared.cmp.Ordering.TheVariants.{Less, Equal, Greater}
 use Rattle.keyed_commands.specs.Keys.{IsAtMost}

@@ -4,7 +4,9 @@ pub mod ChangeLemmas
 pub mod ChangesBackLemmas
 pub mod ColumnsBackLemmas
 pub mod ComeLemmas
+pub mod DiffOnlyLemmas
 pub mod DiffedTextLemmas
+pub mod FirstRowsLemmas
 pub mod GatheredLemmas
 pub mod GoneLemmas
 pub mod JoinLemmas
@@ -12,11 +14,13 @@ pub mod KeyLemmas
 pub mod LawLemmas
 pub mod LookupLemmas
 pub mod LossLemmas
+pub mod MadeLemmas
 pub mod NotedLemmas
 pub mod OnceLemmas
 pub mod OneSideLemmas
 pub mod OverlayLemmas
 pub mod PartReadLemmas
+pub mod PartsBegunLemmas
 pub mod PartsSaidLemmas
 pub mod PartsWrittenLemmas
 pub mod ReadLemmas
@@ -25,9 +29,11 @@ pub mod ReportLemmas
 pub mod RowDiffLemmas
 pub mod RequestLemmas
 pub mod SignedLemmas
+pub mod SortedBegunLemmas
 pub mod SortedLemmas
 pub mod SortedTextLemmas
 pub mod SpelledLemmas
+pub mod StyleLemmas
 pub mod TableBackLemmas
 pub mod TextAnswerLemmas
 pub mod TextLawLemmas

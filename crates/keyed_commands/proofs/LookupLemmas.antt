@@ -1,8 +1,8 @@
 -- Rows that are read in parts and looked up, and the text that is written of them.
-use Rattle.std.proofs.Common.{◌≡◌, ◌∙◌, ℕ, Bool, true, false, List, [], ◌∷◌, ◌++◌, Option, Some, None, map, option_map, append_assoc, refl, sym, ap, ap₂, subst}
+use Rattle.std.proofs.Common.{◌≡◌, ◌∙◌, ℕ, true, false, List, [], ◌∷◌, ◌++◌, Option, map, option_map, append_assoc, refl, sym, ap, ap₂, subst}
 use Rattle.std.specs.Io.KnownBytes.{Appends, Keeps}
 use Rattle.std.specs.List.{IsDistinct, flat_map}
-use Rattle.std.specs.Map.{keys_of, lookup}
+use Rattle.std.specs.Map.{keys_of}
 use Rattle.std.proofs.KnownBytes.{Appends-kept, Appends-trans}
 use Rattle.std.proofs.lemmas.List.{append-nil, map-append}
 use Rattle.eob_joins.specs.Lookup.{with_found}
@@ -17,7 +17,7 @@ use Rattle.keyed_columns.specs.Names.{repeats}
 use Rattle.keyed_columns.specs.declared.columns.JoinColumns.{JoinColumns}
 use Rattle.keyed_columns.specs.declared.content.Content.TheVariants.{Rows}
 use Rattle.keyed_files.specs.Opening.{IsOpened, form_of}
-use Rattle.keyed_files.specs.Reading.{GivesRecord, HasGiven, IsPicked, IsTable, PlacesOf, ReadBehind, ReadsOn, ReadsRest, ReadsRows, last_record, parts_of, picked}
+use Rattle.keyed_files.specs.Reading.{GivesRecord, IsPicked, IsTable, PlacesOf, ReadBehind, ReadsOn, ReadsRest, ReadsRows, last_record, parts_of, picked}
 use Rattle.keyed_files.specs.Writing.{Wrote, quoted_text}
 use Rattle.keyed_files.specs.declared.opened.Stream.{Stream}
 use Rattle.keyed_files.specs.declared.opened.Two.{Two}
@@ -28,7 +28,7 @@ use Rattle.keyed_files.proofs.TableLemmas.{reads-and, table-read}
 use Rattle.keyed_rows.specs.declared.row.ReadRow.{ReadRow}
 use Rattle.keyed_text.specs.Texts.{AreRows}
 use Rattle.keyed_commands.specs.JoinAnswers.{heading_of_join}
-use Rattle.keyed_commands.specs.LookupAnswers.{AppendsRows, LooksUpStreams, LooksUpTexts, ReadsPart, WritesBehind, WritesPart, WritesRest, as_row, as_rows, cells_under, found_under, held_rows, key_eq, lookup_rows, parts_text, rows_of, shown_row, shown_rows}
+use Rattle.keyed_commands.specs.LookupAnswers.{AppendsRows, LooksUpStreams, LooksUpTexts, WritesBehind, WritesPart, WritesRest, as_row, as_rows, cells_under, found_under, held_rows, key_eq, lookup_rows, parts_text, rows_of, shown_row, shown_rows}
 use Rattle.keyed_commands.specs.declared.commands.lookup.Found.{Found}
 use Rattle.keyed_commands.proofs.ReadLemmas.{both-known}
 

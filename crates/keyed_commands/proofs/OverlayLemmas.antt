@@ -1,10 +1,13 @@
 -- Tables laid one after the other, and from the tables to their texts.
 use Rattle.std.proofs.Common.{◌≡◌, ◌∙◌, ℕ, Bool, Bor, false, List, [], ◌∷◌, Option, None, Some, ap, map, refl, subst, sym}
-use Rattle.std.specs.Prelude.{⊤, IfSome, IsSome, option_map}
+use Rattle.std.specs.Prelude.{⊤, IfSome, IsSome, MatchOption, option_map, unwrap_or}
+use Rattle.std.specs.Io.KnownBytes.{Keeps}
 use Rattle.std.specs.List.{AllZip, flat_map}
 use Rattle.eob_both.specs.Places.{from_places}
 use Rattle.either_or_both.specs.Join.{Rising, value_under}
 use Rattle.eob_lists.proofs.MergeLemmas.{rising}
+use Rattle.keyed_text.specs.declared.style.Style.{Style}
+use Rattle.keyed_requests.specs.AnswerForm.{in_style}
 use Rattle.keyed_requests.specs.declared.overlays.Layer.{Layer}
 use Rattle.keyed_requests.specs.declared.overlays.Layer.TheVariants as layer
 use Rattle.keyed_requests.specs.declared.request.Form.{Form}
@@ -19,9 +22,10 @@ use Rattle.keyed_files.specs.declared.opened.Opened.{Opened}
 use Rattle.keyed_files.specs.declared.opened.Stream.{Stream}
 use Rattle.keyed_files.specs.declared.source.Source.{Source}
 use Rattle.keyed_files.proofs.TableLemmas.{open-renamed}
-use Rattle.keyed_commands.specs.Answers.{TableRows, key_cmp}
+use Rattle.keyed_commands.specs.Answers.{IsTableFile, TableRows, key_cmp}
 use Rattle.keyed_commands.specs.AppliedTexts.{watched_left}
-use Rattle.keyed_commands.specs.OverlayAnswers.{AnswersRows, AreKnown, AreLaidOver, AreLayers, AreNamed, IsLayer, IsSpelledAsFirst, LaysTables, NotesAll, OverlaysSources, OverlaysStreams, ReadTables, Said, SaysRows, SpellsFirst, laid_rows, laid_under}
+use Rattle.keyed_commands.specs.NotedStyles.{IsNoted, IsStyleBy}
+use Rattle.keyed_commands.specs.OverlayAnswers.{AreKnown, AreLaidOver, AreLayers, AreNamed, IsLayer, IsNotedFirst, IsSpelledAsFirst, LaysTables, NotesAll, OverlaysSources, OverlaysStreams, ReadTables, Said, SaysRows, SpellsFirst, StylesFirst, laid_rows, laid_under}
 use Rattle.keyed_tables.specs.Arranged.{noted}
 use Rattle.keyed_commands.specs.FileOrder.{Keys, KeysOf, OfKeys, begun_keys, noted_with}
 use Rattle.keyed_commands.specs.TablesRead.{IsUnordered}
@@ -30,6 +34,7 @@ use Rattle.keyed_commands.specs.declared.job.Job.{Job}
 use Rattle.keyed_commands.specs.declared.styles.Watched.{Watched}
 use Rattle.keyed_commands.proofs.GoneLemmas.{spelled-of}
 use Rattle.keyed_commands.proofs.NotedLemmas.{noted-more, noted-none}
+use Rattle.keyed_commands.proofs.StyleLemmas.{kept-known, known-more, style-of}
 
 on_none : (layer : Layer) (m : Option (List (List (List ℕ)))) → option_map (laid_rows layer) (from_places None m) ≡ m
 on_none layer.Rows None = refl
@@ -104,11 +109,29 @@ module _ {R : Type 0} (rem : R → Option (List ℕ)) where
   known_renamed key form header old new None renamed known = tt
   known_renamed key form header old new (Some t) renamed known = open-renamed (watched_left rem) key form Rows t header old new renamed known
 
-  pub layer_open : {A : Type 0} (key : Option A) (f f2 : Form) (header : List (List ℕ)) (old new : Source (Watched R)) (m m2 : Option (List ℕ)) → f2 ≡ f → m2 ≡ m
+  pub layer_open : {A : Type 0} (key : Option A) (f f2 : Form) (header : List (List ℕ)) (old new : Source (Watched R)) (m m2 : Option (List ℕ)) → f2 ≡ f → Keeps m m2
       → IsRenamed key old new → IfSome m2 (λ t. IsOpen f2 Rows (watched_left rem) t header old) → IfSome m (λ t. IsOpen f Rows (watched_left rem) t header new)
-  layer_open key f f2 header old new m m2 ef em renamed known =
-      subst (λ m. IfSome m (λ t. IsOpen f Rows (watched_left rem) t header new)) em
+  layer_open key f f2 header old new m m2 ef kept renamed known =
+      kept-known (λ t. IsOpen f Rows (watched_left rem) t header new) m m2 kept
       (subst (λ f. IfSome m2 (λ t. IsOpen f Rows (watched_left rem) t header new)) ef (known_renamed key f2 header old new m2 renamed known))
+
+  -- the style of the first table, where one more stream is opened after others, and no more
+  pub layer_style : (first : Option Style) (style : Style) (f f2 : Form) (m m2 : Option (List ℕ)) → f2 ≡ f → Keeps m m2
+      → MatchOption first (IfSome m2 (IsNoted f2 style)) (λ s. style ≡ s) → MatchOption first (IfSome m (IsNoted f style)) (λ s. style ≡ s)
+  layer_style None style f f2 m m2 ef kept noted = kept-known (IsNoted f style) m m2 kept (subst (λ f. IfSome m2 (IsNoted f style)) ef noted)
+  layer_style (Some first) style f f2 m m2 ef kept same = same
+
+  pub noted_then : (form : Form) (all left streams : List (Stream R)) (stream : Stream R) (first : Option Style) (style : Style) → left ≡ stream ∷ streams
+      → MatchOption first ((s : Style) → IsNotedFirst rem form left s → IsNotedFirst rem form all s) (IsNotedFirst rem form all)
+      → MatchOption first (IfSome (text_of_stream rem form stream) (IsNoted (form_of form stream) style)) (λ s. style ≡ s) → IsNotedFirst rem form all style
+  noted_then form all left streams stream None style is before one = before style (subst (λ l. IsNotedFirst rem form l style) (sym is) one)
+  noted_then form all left streams stream (Some first) style is before one = subst (IsNotedFirst rem form all) (sym one) before
+
+  pub noted_none : (form : Form) (all left : List (Stream R)) (first : Option Style) → left ≡ []
+      → MatchOption first ((s : Style) → IsNotedFirst rem form left s → IsNotedFirst rem form all s) (IsNotedFirst rem form all)
+      → IsNotedFirst rem form all (unwrap_or first form.writing.style)
+  noted_none form all left None is before = before form.writing.style (subst (λ l. IsNotedFirst rem form l form.writing.style) (sym is) refl)
+  noted_none form all left (Some first) is before = before
 
   -- one more stream is opened after others, and no more
   pub layers_then : {A : Type 0} (form : Form) (key : Option A) (stream : Stream R) (left streams : List (Stream R)) (source : Opened (Watched R)) (more : List (Opened (Watched R)))
@@ -119,10 +142,6 @@ module _ {R : Type 0} (rem : R → Option (List ℕ)) where
   layers_none form key left is = subst (λ l. AreLayers rem form key l []) (sym is) tt
 
   module _ (settings : Settings) (columns : Columns) where
-    known_says : {P Q : List ℕ → Type 0} (m : Option (List ℕ)) → ((t : List ℕ) → P t → Q t) → IfSome m P → IfSome m Q
-    known_says None f known = tt
-    known_says (Some t) f known = f t known
-
     -- the keys of a text that is known, and those of none of one that is not
     known_keys : (form : Form) (header : List (List ℕ)) (source : Source (Watched R)) (P : Keys → Type 0) (m : Option (List ℕ))
         → IfSome m (λ text. IsOpen form Rows (watched_left rem) text header source) → OfKeys (watched_left rem) Rows columns source P
@@ -162,25 +181,33 @@ module _ {R : Type 0} (rem : R → Option (List ℕ)) where
           ap (λ l. source.source.value.header.names ∷ l) rest.2,
           ap (λ l. table ∷ l) rest.3,
           (
-            known_says text (λ t begun.
+            known-more text (λ t begun.
                 let says = read.0 form Rows t header begun.0 in
                 (says, spelled-of (watched_left rem) form Rows t header source.source.value says.1.0 says.1.1 begun.0, begun.1))
                 (both_known _ _ text layers.0.2 keyed.1),
             rest.4,
           ),
-          (λ spells. known_says text (λ t begun. subst (λ names. IsSpelledAs names spelled columns) begun.named spells) layers.0.2),
+          (λ spells. known-more text (λ t begun. subst (λ names. IsSpelledAs names spelled columns) begun.named spells) layers.0.2),
           λ known.
               let first : notes.0 ≡ noted_with before keyed.0 = holds_if (notes.0 ≡ noted_with before keyed.0) text known.0 keyed.2 in
               rest.6 known.1 ∙ ap (λ m. noted_with m (flat_map (λ table. table.keys) rest.0)) first ∙ noted-more before keyed.0 (flat_map (λ table. table.keys) rest.0),
         )
 
+  -- the style of the answer is that of the first text
+  styles_first : (settings : Settings) (streams : List (Stream R)) (form : Form) (first style : Style) → form ≡ settings.form → IsNotedFirst rem settings.form streams first
+      → IsStyleBy form.writing.heading first style → StylesFirst rem settings streams style
+  styles_first settings [] form first style same is by =
+      subst (λ s. IsStyleBy settings.form.writing.heading s style) is (subst (λ f. IsStyleBy f.writing.heading first style) same by)
+  styles_first settings (stream ∷ streams) form first style same noted by =
+      known-more (text_of_stream rem settings.form stream) (λ t is. style-of (form_of settings.form stream) form settings.form t first style same is by) noted
+
   -- several streams that are laid one over the other, of their texts
-  pub overlay_streams : (settings : Settings) (layer : Layer) (streams : List (Stream R)) (opened : List (Opened (Watched R))) (job : Job Columns) (answer : Answer)
-      → AreLayers rem settings.form settings.key streams opened
+  pub overlay_streams : (settings : Settings) (layer : Layer) (streams : List (Stream R)) (opened : List (Opened (Watched R))) (first_style : Style) (job : Job Columns) (answer : Answer)
+      → IsNotedFirst rem settings.form streams first_style → AreLayers rem settings.form settings.key streams opened
       → job.form ≡ settings.form → job.groups ≡ settings.groups → (settings.keeps_order ≡ false → IsUnordered job) → noted job.order ≡ begun_keys settings.keeps_order
       → AreColumnsBy settings.key (map (λ source. source.source.value.header.names) opened) (map (λ source. source.source.value.header.names) opened) job.columns.now
-      → IsSpelledAsFirst opened job.columns.now → OverlaysSources rem layer job opened answer → OverlaysStreams rem settings layer streams answer
-  overlay_streams settings layer streams opened job answer layers form groups unordered begins columned spells read =
+      → IsSpelledAsFirst opened job.columns.now → OverlaysSources rem layer first_style job opened answer → OverlaysStreams rem settings layer streams answer
+  overlay_streams settings layer streams opened first_style job answer noted_first layers form groups unordered begins columned spells read =
       let said = says_all settings job.columns.now settings.key streams opened read.tables (noted job.order) read.overlaid.keys layers
       (subst (λ g. ReadTables rem g job.columns.now opened read.tables) groups read.read) read.notes in
       record {
@@ -196,7 +223,14 @@ module _ {R : Type 0} (rem : R → Option (List ℕ)) where
           keys = read.overlaid.keys;
           by_cells = read.overlaid.by_cells;
           laid = subst (λ tables. AreLaidOver layer [] tables read.overlaid.rows) (sym said.3) read.overlaid.laid;
-          answers = subst (λ f. AnswersRows f job.columns.now read.overlaid.keys read.overlaid.by_cells read.overlaid.rows answer) form read.overlaid.answers;
+          answers = record {
+            style = read.overlaid.answers.style;
+            styled = styles_first settings streams job.form first_style read.overlaid.answers.style form noted_first read.overlaid.answers.styled;
+            text = subst (λ f. IsTableFile (in_style read.overlaid.answers.style f) job.columns.now read.overlaid.keys read.overlaid.by_cells read.overlaid.rows answer.bytes.items)
+                form read.overlaid.answers.text;
+            status = read.overlaid.answers.status;
+            outcome = read.overlaid.answers.outcome;
+          };
           order = λ by_key. read.overlaid.order (unordered by_key);
         };
       }

@@ -1,6 +1,6 @@
 -- A table whose keys strictly increase, read part by part: what was taken of it, and that each part is beyond the parts before it.
 use Rattle.std.proofs.Common.{◌≡◌, ◌∙◌, ◌⊎◌, ◌≤◌, ℕ, Bool, true, false, cond, List, [], ◌∷◌, ◌++◌, All, Option, None, Some, append_assoc, arith, inl, inr, length, map, refl, sym, ap, subst, if◌then◌else◌}
-use Rattle.std.specs.Prelude.{⊤, IfSome, is_none}
+use Rattle.std.specs.Prelude.{⊤}
 use Rattle.std.specs.Cmp.{tied_itself}
 use Rattle.std.specs.List.{AllByRecursion}
 use Rattle.std.specs.List.Sorted.{IsStrictlySortedBy}
@@ -8,21 +8,22 @@ use Rattle.std.specs.Map.{keys_of}
 use Rattle.std.specs.Ordering.{is_le, ordering_reverse}
 use Rattle.std.specs.declared.cmp.Ordering.{Ordering}
 use Rattle.std.specs.declared.cmp.Ordering.TheVariants.{Less, Equal, Greater}
-use Rattle.std.proofs.lemmas.List.{append-nil, map-append}
+use Rattle.std.proofs.lemmas.List.{map-append}
 use Rattle.std.proofs.lemmas.List.Elements.{All-cons, All-nil}
 use Rattle.std.proofs.lemmas.List.Sorted.{IsPermutation-refl}
 use Rattle.eob_lists.specs.Join.{Rising}
 use Rattle.eob_lists.proofs.MergeLemmas.{Up, by_order, rising}
 use Rattle.eob_joins.specs.Laws.{AreBelow}
 use Rattle.keyed_rows.specs.declared.row.ReadRow.{ReadRow}
-use Rattle.keyed_tables.specs.Gathered.{HoldsRows, alone}
+use Rattle.keyed_tables.specs.Gathered.{alone}
 use Rattle.keyed_tables.proofs.GatherLemmas.{alone_law}
 use Rattle.keyed_files.specs.Parts.{AreRead, Fills, HasParts, IsFull, RisesTo, Takes, TakesUpTo, first_within, is_within, keys_in}
 use Rattle.keyed_files.specs.Reading.{parts_of, picked}
 use Rattle.keyed_files.specs.declared.parts.Parts.{Parts}
 use Rattle.keyed_commands.specs.Answers.{TableRows, key_cmp}
 use Rattle.keyed_commands.specs.Keys.{IsAtMost}
-use Rattle.keyed_commands.specs.SortedParts.{HasTaken, IsCutAt, IsFresh, bound_of, table_of}
+use Rattle.keyed_commands.specs.FirstRows.{table_of}
+use Rattle.keyed_commands.specs.SortedParts.{HasTaken, IsCutAt, IsFresh, bound_of}
 use Rattle.keyed_commands.specs.TablesRead.{Gathers}
 use Rattle.keyed_commands.proofs.AnswerLemmas.{key_exact, key_total}
 use Rattle.keyed_commands.proofs.TextLawLemmas.{table_once}
@@ -58,7 +59,7 @@ keys_hold P [] h = tt
 keys_hold P (row ∷ rows) h = (h.0, keys_hold P rows h.1)
 
 -- the order of keys
-at_most_less : (j b k : Key) → (key_cmp j b ≡ Greater → ⊥) → key_cmp b k ≡ Less → key_cmp j k ≡ Less
+pub at_most_less : (j b k : Key) → (key_cmp j b ≡ Greater → ⊥) → key_cmp b k ≡ Less → key_cmp j k ≡ Less
 at_most_less j b k n l =
     by_order (key_cmp j b) (λ e. key_total.trans j b k e l) (λ e. subst (λ i. key_cmp i k ≡ Less) (sym (key_exact j b e)) l) (λ e. absurd (n e))
 
@@ -78,7 +79,7 @@ within_at_most Less h g = absurd (cc)
 within_at_most Equal h g = absurd (cc)
 within_at_most Greater h g = absurd (cc)
 
-at_most_within : (r : Ordering) → (r ≡ Greater → ⊥) → is_le r ≡ true
+pub at_most_within : (r : Ordering) → (r ≡ Greater → ⊥) → is_le r ≡ true
 at_most_within Less n = refl
 at_most_within Equal n = refl
 at_most_within Greater n = absurd (n refl)
@@ -104,7 +105,7 @@ sorted_after [] ys s = s
 sorted_after (x ∷ xs) ys s = sorted_after xs ys s.1
 
 -- the last of some keys is less than those after it
-last_below : (xs ys : List Key) (x : Key) → IsStrictlySortedBy key_cmp ((xs ++ (x ∷ [])) ++ ys) → AllByRecursion (λ y. key_cmp x y ≡ Less) ys
+pub last_below : (xs ys : List Key) (x : Key) → IsStrictlySortedBy key_cmp ((xs ++ (x ∷ [])) ++ ys) → AllByRecursion (λ y. key_cmp x y ≡ Less) ys
 unfolding IsStrictlySortedBy
 last_below [] ys x s = s.0
 last_below (w ∷ xs) ys x s = last_below xs ys x s.1
@@ -200,7 +201,7 @@ module _ {R : Type 0} (rem : R → Option (List ℕ)) where
     }
 
   -- the key of the last row that is read
-  last_key : (keys : List Key) (last : Option Key) (l : Key) → last ≡ Some l → RisesTo keys last → (before : List Key) × (keys ≡ before ++ (l ∷ []))
+  pub last_key : (keys : List Key) (last : Option Key) (l : Key) → last ≡ Some l → RisesTo keys last → (before : List Key) × (keys ≡ before ++ (l ∷ []))
   last_key keys None l e h = absurd (cc)
   last_key keys (Some last) l e h = (h.0, h.1 ∙ ap (λ x. h.0 ++ (x ∷ [])) (same_some e))
 

@@ -9,16 +9,14 @@ use Rattle.std.proofs.lemmas.List.Elements.{All-cons, All-nil, filter_map-append
 use Rattle.std.specs.declared.cmp.Ordering.TheVariants.{Less}
 use Rattle.csv.specs.Writing.{row_text}
 use Rattle.csv.specs.declared.writer.WriterBuilder.{WriterBuilder}
-use Rattle.eob_both.specs.declared.either_or_both.EitherOrBoth.{EitherOrBoth}
-use Rattle.eob_lists.specs.Join.{IsJoin, value_under}
+use Rattle.eob_lists.specs.Join.{value_under}
 use Rattle.eob_joins.specs.Changes.{changed}
 use Rattle.eob_joins.specs.Laws.{AreBelow}
 use Rattle.eob_joins.specs.Parts.{AreMade, AreThreeCut, ThreeAndMade}
-use Rattle.eob_joins.specs.Tables.{IsKeptOfJoin, Tabulates, kept, unless}
+use Rattle.eob_joins.specs.Tables.{Tabulates, unless}
 use Rattle.eob_joins.proofs.JoinLawLemmas.{cut_join}
 use Rattle.eob_joins.proofs.MadePartLemmas.{cut_made}
 use Rattle.keyed_text.specs.Texts.{text_by}
-use Rattle.keyed_requests.specs.AnswerForm.{is_written}
 use Rattle.keyed_requests.specs.declared.request.Form.{Form}
 use Rattle.keyed_requests.specs.declared.request.Kind.{Kind}
 use Rattle.keyed_requests.specs.declared.request.Kind.TheVariants as kind

@@ -1,7 +1,7 @@
 -- Two tables that are read part by part, and what is written of them: the first part, another one, and the whole.
 use Rattle.std.proofs.Common.{◌≡◌, ◌∙◌, ◌⊎◌, ℕ, Bool, true, false, List, [], ◌∷◌, ◌++◌, Option, None, Some, append-nil, inl, inr, map, refl, sym, ap, subst, subst₂}
 use Rattle.std.specs.Prelude.{IsNone, MatchBool, is_none}
-use Rattle.std.specs.Io.KnownBytes.{Appends, Keeps}
+use Rattle.std.specs.Io.KnownBytes.{Keeps}
 use Rattle.std.specs.List.{AllByRecursion}
 use Rattle.std.specs.List.Sorted.{IsStrictlySortedBy}
 use Rattle.std.specs.Map.{keys_of}
@@ -11,17 +11,18 @@ use Rattle.std.proofs.lemmas.List.{map-append}
 use Rattle.eob_joins.specs.Laws.{AreBelow}
 use Rattle.keyed_columns.specs.declared.columns.Columns.{Columns}
 use Rattle.keyed_rows.specs.declared.row.ReadRow.{ReadRow}
-use Rattle.keyed_files.specs.Parts.{AreRead, HasParts, IsFull, RisesTo, TakesUpTo, key_cmp, keys_in}
+use Rattle.keyed_files.specs.Parts.{AreRead, HasParts, IsFull, TakesUpTo, key_cmp, keys_in}
 use Rattle.keyed_files.specs.Reading.{HasGiven, PlacesOf, ReadsRest, parts_of, picked}
 use Rattle.keyed_files.specs.declared.opened.Two.{Two}
 use Rattle.keyed_files.specs.declared.parts.Parts.{Parts}
 use Rattle.keyed_files.specs.declared.source.Source.{Source}
 use Rattle.keyed_files.proofs.TableLemmas.{table-read}
-use Rattle.keyed_text.specs.Texts.{AreRows}
 use Rattle.keyed_commands.specs.Answers.{TableRows}
 use Rattle.keyed_commands.specs.PartAnswers.{IsByKey, SaysOf, left_columns, on_later, right_columns, status_both}
-use Rattle.keyed_commands.specs.SortedParts.{AreCut, HasTaken, HasWritten, IsCutAt, IsFresh, IsLesser, IsSpent, ReadsAll, WritesAll, WritesPart, WritesTables, bound_of, table_of}
+use Rattle.keyed_commands.specs.FirstRows.{table_of}
+use Rattle.keyed_commands.specs.SortedParts.{AreCut, HasTaken, HasWritten, IsFresh, IsLesser, IsSpent, ReadsAll, ReadsNext, SaysNext, SaysTaken, TakesPart, WritesAll, WritesPart, WritesTables, bound_of}
 use Rattle.keyed_commands.specs.TablesRead.{Gathers, ReadsTable}
+use Rattle.keyed_commands.specs.declared.sorted.Part.{Part}
 use Rattle.keyed_commands.specs.declared.sorted.PartWritten.{PartWritten}
 use Rattle.keyed_commands.specs.declared.sorted.TwoParts.{TwoParts}
 use Rattle.keyed_commands.specs.declared.sorted.Work.{Work}
@@ -51,12 +52,17 @@ keys_both : (rows more : List ReadRow) → keys_of (table_of (rows ++ more)) ≡
 keys_both [] more = refl
 keys_both (row ∷ rows) more = ap (λ l. row.key ∷ l) (keys_both rows more)
 
+-- one of two things, by a test
+either_of : {P Q : Type 0} (t : Bool) → MatchBool t P Q → P ⊎ Q
+either_of true h = inl h
+either_of false h = inr h
+
 all_two : {X : Type 0} (P : X → Type 0) (xs ys : List X) → AllByRecursion P xs → AllByRecursion P ys → AllByRecursion P (xs ++ ys)
 all_two P [] ys g h = h
 all_two P (x ∷ xs) ys g h = (g.0, all_two P xs ys g.1 h)
 
 module _ {R : Type 0} (rem : R → Option (List ℕ)) where
-  taken_sorted : (start now : Parts R) (taken : List ReadRow) → HasTaken rem start now taken → IsStrictlySortedBy key_cmp (keys_in taken)
+  pub taken_sorted : (start now : Parts R) (taken : List ReadRow) → HasTaken rem start now taken → IsStrictlySortedBy key_cmp (keys_in taken)
   taken_sorted start now taken h =
       sorted_first (keys_in taken) (keys_in now.waiting.items)
       (subst (IsStrictlySortedBy key_cmp) (map-append (λ row. row.key) taken now.waiting.items) (rises_sorted (keys_in (taken ++ now.waiting.items)) now.last h.rises))
@@ -87,106 +93,180 @@ module _ {R : Type 0} (rem : R → Option (List ℕ)) where
           cut_there rem start.right read.right new.right right r (Some b) hr fr tr b refl lesser.least.1 (within b refl).1,
         )
 
-  -- the first part is written
+  -- the first part
+  module _ (how : Work) (start new : TwoParts R) (left : IsFresh start.left) (right : IsFresh start.right) (part : Part) (reads : ReadsNext rem start new part) where
+    abbrev first_read : TwoParts R
+    first_read = reads.read
+
+    abbrev first_takes : TakesPart reads.bound first_read new part
+    first_takes = reads.takes
+
+    first_left : HasTaken rem start.left first_read.left []
+    first_left = taken_filled rem start.left start.left first_read.left [] (taken_none rem start.left left) reads.fills_left
+
+    first_right : HasTaken rem start.right first_read.right []
+    first_right = taken_filled rem start.right start.right first_read.right [] (taken_none rem start.right right) reads.fills_right
+
+    left_first : HasTaken rem start.left new.left first_takes.left
+    left_first = taken_more rem reads.bound start.left first_read.left new.left [] first_takes.left first_left first_takes.takes_left.0
+
+    right_first : HasTaken rem start.right new.right first_takes.right
+    right_first = taken_more rem reads.bound start.right first_read.right new.right [] first_takes.right first_right first_takes.takes_right.0
+
+    cut_first : (last : Bool) → last ≡ part.is_last → MatchBool last (IsSpent new.left × IsSpent new.right) (AreCut new first_takes.left first_takes.right)
+    cut_first last e =
+        cut_by start first_read new [] [] first_takes.left first_takes.right first_left first_right reads.full_left reads.full_right reads.bound
+        first_takes.takes_left first_takes.takes_right reads.lesser (λ b e. (tt, tt)) last (e ∙ first_takes.last)
+
+    says_first : (text : List ℕ) (status : ℕ) → SaysOf how part.left.pairs.items part.right.pairs.items text status
+        → SaysOf how (table_of first_takes.left) (table_of first_takes.right) text status
+    says_first text status says =
+        subst₂ (λ p q. SaysOf how p q text status) (part_table start.left new.left [] first_takes.left part.left.pairs.items left_first first_takes.left_table)
+        (part_table start.right new.right [] first_takes.right part.right.pairs.items right_first first_takes.right_table) says
+
+  -- it is written
   pub written_first : (how : Work) (start new : TwoParts R) (before after : Option (List ℕ)) (written : PartWritten) → IsFresh start.left → IsFresh start.right
       → WritesPart rem how start new before after written → HasWritten rem how start new before after written
-  written_first how start new before after written left right w =
-      let reads = w.reads in
-      let read = reads.read in
-      let takes = reads.takes in
-      let hl = taken_filled rem start.left start.left read.left [] (taken_none rem start.left left) reads.fills_left in
-      let hr = taken_filled rem start.right start.right read.right [] (taken_none rem start.right right) reads.fills_right in
-      let tl = taken_more rem reads.bound start.left read.left new.left [] takes.left hl takes.takes_left.0 in
-      let tr = taken_more rem reads.bound start.right read.right new.right [] takes.right hr takes.takes_right.0 in
-      record {
-        left = takes.left;
-        right = takes.right;
-        left_taken = tl;
-        right_taken = tr;
-        cut = cut_by start read new [] [] takes.left takes.right hl hr reads.full_left reads.full_right reads.bound takes.takes_left takes.takes_right reads.lesser
-            (λ b e. (tt, tt)) written.is_last (w.last ∙ takes.last);
-        text = w.text;
-        says = subst₂ (λ p q. SaysOf how p q w.text written.status) (part_table start.left new.left [] takes.left w.part.left.pairs.items tl takes.left_table)
-            (part_table start.right new.right [] takes.right w.part.right.pairs.items tr takes.right_table) w.says;
-        puts = w.puts;
-      }
+  written_first how start new before after written left right w = record {
+    left = w.reads.takes.left;
+    right = w.reads.takes.right;
+    left_taken = left_first how start new left right w.part w.reads;
+    right_taken = right_first how start new left right w.part w.reads;
+    cut = cut_first how start new left right w.part w.reads written.is_last w.last;
+    text = w.text;
+    says = says_first how start new left right w.part w.reads w.text written.status w.says;
+    puts = w.puts;
+  }
 
-  module _ (how later : Work) (start mid new : TwoParts R) (before between after : Option (List ℕ)) (first next whole : PartWritten) (same : on_later how ≡ later)
-      (h : HasWritten rem how start mid before between first) (more : first.is_last ≡ false) (w : WritesPart rem later mid new between after next)
-      (status : whole.status ≡ status_both first.status next.status) (last : whole.is_last ≡ next.is_last) where
+  -- it is said
+  pub taken_first : (how : Work) (start : TwoParts R) → IsFresh start.left → IsFresh start.right → (text : List ℕ) → SaysNext rem how start text → SaysTaken rem how start text
+  taken_first how start left right text w = record {
+    now = w.new;
+    left = w.reads.takes.left;
+    right = w.reads.takes.right;
+    left_taken = left_first how start w.new left right w.part w.reads;
+    right_taken = right_first how start w.new left right w.part w.reads;
+    cut = either_of w.part.is_last (cut_first how start w.new left right w.part w.reads w.part.is_last refl);
+    status = w.status;
+    says = says_first how start w.new left right w.part w.reads text w.status w.says;
+  }
+
+  -- another part
+  module _ (how later : Work) (start mid new : TwoParts R) (before between : Option (List ℕ)) (first : PartWritten) (same : on_later how ≡ later)
+      (h : HasWritten rem how start mid before between first) (more : first.is_last ≡ false) (part : Part) (reads : ReadsNext rem mid new part) where
     abbrev read : TwoParts R
-    read = w.reads.read
+    read = reads.read
+
+    abbrev takes : TakesPart reads.bound read new part
+    takes = reads.takes
 
     hl : HasTaken rem start.left read.left h.left
-    hl = taken_filled rem start.left mid.left read.left h.left h.left_taken w.reads.fills_left
+    hl = taken_filled rem start.left mid.left read.left h.left h.left_taken reads.fills_left
 
     hr : HasTaken rem start.right read.right h.right
-    hr = taken_filled rem start.right mid.right read.right h.right h.right_taken w.reads.fills_right
+    hr = taken_filled rem start.right mid.right read.right h.right h.right_taken reads.fills_right
 
-    tl : HasTaken rem start.left new.left (h.left ++ w.reads.takes.left)
-    tl = taken_more rem w.reads.bound start.left read.left new.left h.left w.reads.takes.left hl w.reads.takes.takes_left.0
+    tl : HasTaken rem start.left new.left (h.left ++ takes.left)
+    tl = taken_more rem reads.bound start.left read.left new.left h.left takes.left hl takes.takes_left.0
 
-    tr : HasTaken rem start.right new.right (h.right ++ w.reads.takes.right)
-    tr = taken_more rem w.reads.bound start.right read.right new.right h.right w.reads.takes.right hr w.reads.takes.takes_right.0
+    tr : HasTaken rem start.right new.right (h.right ++ takes.right)
+    tr = taken_more rem reads.bound start.right read.right new.right h.right takes.right hr takes.takes_right.0
 
     cut : AreCut mid h.left h.right
     cut = subst (λ b. MatchBool b (IsSpent mid.left × IsSpent mid.right) (AreCut mid h.left h.right)) more h.cut
 
     -- the next key at which they are cut is not less
-    up : (b : Key) → w.reads.bound ≡ Some b → key_cmp cut.0 b ≡ Greater → ⊥
-    up b e = elim w.reads.lesser.is_one [
-      | inl is ↦ not_less rem start.left mid.left read.left h.left h.left_taken w.reads.fills_left cut.0 b cut.1 (sym e ∙ is)
-      | inr is ↦ not_less rem start.right mid.right read.right h.right h.right_taken w.reads.fills_right cut.0 b cut.2 (sym e ∙ is)
+    up : (b : Key) → reads.bound ≡ Some b → key_cmp cut.0 b ≡ Greater → ⊥
+    up b e = elim reads.lesser.is_one [
+      | inl is ↦ not_less rem start.left mid.left read.left h.left h.left_taken reads.fills_left cut.0 b cut.1 (sym e ∙ is)
+      | inr is ↦ not_less rem start.right mid.right read.right h.right h.right_taken reads.fills_right cut.0 b cut.2 (sym e ∙ is)
     ]
 
-    still_within : (b : Key) → w.reads.bound ≡ Some b → (taken : List ReadRow) → AllByRecursion (λ row. key_cmp row.key cut.0 ≡ Greater → ⊥) taken
+    still_within : (b : Key) → reads.bound ≡ Some b → (taken : List ReadRow) → AllByRecursion (λ row. key_cmp row.key cut.0 ≡ Greater → ⊥) taken
         → AllByRecursion (λ row. key_cmp row.key b ≡ Greater → ⊥) taken
     still_within b e taken within =
         all_weaker (λ row. key_cmp row.key cut.0 ≡ Greater → ⊥) (λ row. key_cmp row.key b ≡ Greater → ⊥) (λ row n. at_most_both row.key cut.0 b n (up b e)) taken within
 
     -- the rows of the part are beyond those before it
-    beyond_left : AllByRecursion (λ row. key_cmp cut.0 row.key ≡ Less) w.reads.takes.left
+    beyond_left : AllByRecursion (λ row. key_cmp cut.0 row.key ≡ Less) takes.left
     beyond_left =
-        all_first (λ row. key_cmp cut.0 row.key ≡ Less) w.reads.takes.left new.left.waiting.items
-        (subst (AllByRecursion (λ row. key_cmp cut.0 row.key ≡ Less)) w.reads.takes.takes_left.0.waiting
-        (still_beyond rem start.left mid.left read.left h.left h.left_taken w.reads.fills_left cut.0 cut.1))
+        all_first (λ row. key_cmp cut.0 row.key ≡ Less) takes.left new.left.waiting.items
+        (subst (AllByRecursion (λ row. key_cmp cut.0 row.key ≡ Less)) takes.takes_left.0.waiting
+        (still_beyond rem start.left mid.left read.left h.left h.left_taken reads.fills_left cut.0 cut.1))
 
-    beyond_right : AllByRecursion (λ row. key_cmp cut.0 row.key ≡ Less) w.reads.takes.right
+    beyond_right : AllByRecursion (λ row. key_cmp cut.0 row.key ≡ Less) takes.right
     beyond_right =
-        all_first (λ row. key_cmp cut.0 row.key ≡ Less) w.reads.takes.right new.right.waiting.items
-        (subst (AllByRecursion (λ row. key_cmp cut.0 row.key ≡ Less)) w.reads.takes.takes_right.0.waiting
-        (still_beyond rem start.right mid.right read.right h.right h.right_taken w.reads.fills_right cut.0 cut.2))
+        all_first (λ row. key_cmp cut.0 row.key ≡ Less) takes.right new.right.waiting.items
+        (subst (AllByRecursion (λ row. key_cmp cut.0 row.key ≡ Less)) takes.takes_right.0.waiting
+        (still_beyond rem start.right mid.right read.right h.right h.right_taken reads.fills_right cut.0 cut.2))
 
-    below : AreBelow key_cmp (keys_of (table_of h.left) ++ keys_of (table_of h.right)) (keys_of (table_of w.reads.takes.left) ++ keys_of (table_of w.reads.takes.right))
+    below : AreBelow key_cmp (keys_of (table_of h.left) ++ keys_of (table_of h.right)) (keys_of (table_of takes.left) ++ keys_of (table_of takes.right))
     below =
-        subst₂ (AreBelow key_cmp) (keys_both h.left h.right) (keys_both w.reads.takes.left w.reads.takes.right)
-        (tables_below cut.0 (h.left ++ h.right) (w.reads.takes.left ++ w.reads.takes.right)
+        subst₂ (AreBelow key_cmp) (keys_both h.left h.right) (keys_both takes.left takes.right)
+        (tables_below cut.0 (h.left ++ h.right) (takes.left ++ takes.right)
         (all_two (λ row. key_cmp row.key cut.0 ≡ Greater → ⊥) h.left h.right cut.1.within cut.2.within)
-        (all_two (λ row. key_cmp cut.0 row.key ≡ Less) w.reads.takes.left w.reads.takes.right beyond_left beyond_right))
+        (all_two (λ row. key_cmp cut.0 row.key ≡ Less) takes.left takes.right beyond_left beyond_right))
 
-    says_part : SaysOf (on_later how) (table_of w.reads.takes.left) (table_of w.reads.takes.right) w.text next.status
-    says_part =
-        subst (λ o. SaysOf o (table_of w.reads.takes.left) (table_of w.reads.takes.right) w.text next.status) (sym same)
-        (subst₂ (λ p q. SaysOf later p q w.text next.status) (part_table start.left new.left h.left w.reads.takes.left w.part.left.pairs.items tl w.reads.takes.left_table)
-        (part_table start.right new.right h.right w.reads.takes.right w.part.right.pairs.items tr w.reads.takes.right_table) w.says)
+    cut_next : (last : Bool) → last ≡ part.is_last → MatchBool last (IsSpent new.left × IsSpent new.right) (AreCut new (h.left ++ takes.left) (h.right ++ takes.right))
+    cut_next last e =
+        cut_by start read new h.left h.right takes.left takes.right hl hr reads.full_left reads.full_right reads.bound takes.takes_left takes.takes_right
+        reads.lesser (λ b e. (still_within b e h.left cut.1.within, still_within b e h.right cut.2.within)) last (e ∙ takes.last)
 
-    -- another part is written
-    pub written_next : HasWritten rem how start new before after whole
-    written_next = record {
-      left = h.left ++ w.reads.takes.left;
-      right = h.right ++ w.reads.takes.right;
-      left_taken = tl;
-      right_taken = tr;
-      cut = cut_by start read new h.left h.right w.reads.takes.left w.reads.takes.right hl hr w.reads.full_left w.reads.full_right w.reads.bound
-          w.reads.takes.takes_left w.reads.takes.takes_right w.reads.lesser
-          (λ b e. (still_within b e h.left cut.1.within, still_within b e h.right cut.2.within)) whole.is_last (last ∙ w.last ∙ w.reads.takes.last);
-      text = h.text ++ w.text;
-      says = subst (SaysOf how (table_of (h.left ++ w.reads.takes.left)) (table_of (h.right ++ w.reads.takes.right)) (h.text ++ w.text)) (sym status)
-          (subst₂ (λ p q. SaysOf how p q (h.text ++ w.text) (status_both first.status next.status)) (sym (tables_both h.left w.reads.takes.left))
-          (sym (tables_both h.right w.reads.takes.right))
-          (said_both (table_of h.left) (table_of w.reads.takes.left) (table_of h.right) (table_of w.reads.takes.right) below how h.text w.text first.status next.status h.says says_part));
-      puts = Appends-trans before between after h.text w.text h.puts w.puts;
-    }
+    module _ (text : List ℕ) (status : ℕ) (says : SaysOf later part.left.pairs.items part.right.pairs.items text status) where
+      says_part : SaysOf (on_later how) (table_of takes.left) (table_of takes.right) text status
+      says_part =
+          subst (λ o. SaysOf o (table_of takes.left) (table_of takes.right) text status) (sym same)
+          (subst₂ (λ p q. SaysOf later p q text status) (part_table start.left new.left h.left takes.left part.left.pairs.items tl takes.left_table)
+          (part_table start.right new.right h.right takes.right part.right.pairs.items tr takes.right_table) says)
+
+      says_next : SaysOf how (table_of (h.left ++ takes.left)) (table_of (h.right ++ takes.right)) (h.text ++ text) (status_both first.status status)
+      says_next =
+          subst₂ (λ p q. SaysOf how p q (h.text ++ text) (status_both first.status status)) (sym (tables_both h.left takes.left)) (sym (tables_both h.right takes.right))
+          (said_both (table_of h.left) (table_of takes.left) (table_of h.right) (table_of takes.right) below how h.text text first.status status h.says says_part)
+
+  -- it is written
+  pub written_next : (how later : Work) (start mid new : TwoParts R) (before between after : Option (List ℕ)) (first next whole : PartWritten) → on_later how ≡ later
+      → HasWritten rem how start mid before between first → first.is_last ≡ false → WritesPart rem later mid new between after next
+      → whole.status ≡ status_both first.status next.status → whole.is_last ≡ next.is_last → HasWritten rem how start new before after whole
+  written_next how later start mid new before between after first next whole same h more w status last = record {
+    left = h.left ++ w.reads.takes.left;
+    right = h.right ++ w.reads.takes.right;
+    left_taken = tl how later start mid new before between first same h more w.part w.reads;
+    right_taken = tr how later start mid new before between first same h more w.part w.reads;
+    cut = cut_next how later start mid new before between first same h more w.part w.reads whole.is_last (last ∙ w.last);
+    text = h.text ++ w.text;
+    says = subst (SaysOf how (table_of (h.left ++ w.reads.takes.left)) (table_of (h.right ++ w.reads.takes.right)) (h.text ++ w.text)) (sym status)
+        (says_next how later start mid new before between first same h more w.part w.reads w.text next.status w.says);
+    puts = Appends-trans before between after h.text w.text h.puts w.puts;
+  }
+
+  -- it is said
+  pub taken_next : (how later : Work) (start mid : TwoParts R) (before between : Option (List ℕ)) (first : PartWritten) → on_later how ≡ later
+      → (h : HasWritten rem how start mid before between first) → first.is_last ≡ false → (text : List ℕ) → SaysNext rem later mid text → SaysTaken rem how start (h.text ++ text)
+  taken_next how later start mid before between first same h more text w = record {
+    now = w.new;
+    left = h.left ++ w.reads.takes.left;
+    right = h.right ++ w.reads.takes.right;
+    left_taken = tl how later start mid w.new before between first same h more w.part w.reads;
+    right_taken = tr how later start mid w.new before between first same h more w.part w.reads;
+    cut = either_of w.part.is_last (cut_next how later start mid w.new before between first same h more w.part w.reads w.part.is_last refl);
+    status = status_both first.status w.status;
+    says = says_next how later start mid w.new before between first same h more w.part w.reads text w.status w.says;
+  }
+
+  -- what is written is said
+  pub taken_written : (how : Work) (start now : TwoParts R) (before after : Option (List ℕ)) (written : PartWritten) → (h : HasWritten rem how start now before after written)
+      → SaysTaken rem how start h.text
+  taken_written how start now before after written h = record {
+    now = now;
+    left = h.left;
+    right = h.right;
+    left_taken = h.left_taken;
+    right_taken = h.right_taken;
+    cut = either_of written.is_last h.cut;
+    status = written.status;
+    says = h.says;
+  }
 
   -- all rows are read
   reads_all : (start now : Parts R) (taken : List ReadRow) → HasTaken rem start now taken → IsSpent now → ReadsAll rem start (table_of taken)

@@ -18,9 +18,7 @@ use Rattle.keyed_rows.specs.declared.row.ReadRow.{ReadRow}
 use Rattle.keyed_commands.specs.Answers.{IsDiffStatus, IsDiffText, TableRows, status_of}
 use Rattle.keyed_commands.specs.TablesRead.{AreNames, DiffsSources, DiffsStreams, DiffsTexts, Gathers, IsStatusBetween, IsUnordered, ReadsTable, SaysTable, headers_differ}
 use Rattle.keyed_tables.specs.Arranged.{noted}
-use Rattle.keyed_requests.specs.declared.request.Picked.{Picked}
-use Rattle.keyed_requests.specs.declared.request.Picked.TheVariants as picked
-use Rattle.keyed_commands.specs.Beside.{AnswersBeside, DiffsBesideSources, DiffsBesideStreams, DiffsBesideTexts, DiffsSourcesBy, DiffsStreamsBy}
+use Rattle.keyed_commands.specs.Beside.{AnswersBeside, DiffsBesideSources, DiffsBesideStreams, DiffsBesideTexts}
 use Rattle.keyed_commands.specs.FileOrder.{begun_keys, noted_with}
 use Rattle.keyed_commands.specs.declared.answer.Answer.{Answer}
 use Rattle.keyed_commands.specs.declared.job.Job.{Job}
@@ -89,7 +87,7 @@ module _ {R : Type 0} (rem : R → Option (List ℕ)) (settings : Settings) (old
       })
 
   -- and where columns are ignored
-  beside-streams : (ignored : List ℕ) → IsOpened rem settings.form Rows old versions.first → IsOpened rem settings.form Rows new versions.next
+  pub beside-streams : (ignored : List ℕ) → IsOpened rem settings.form Rows old versions.first → IsOpened rem settings.form Rows new versions.next
       → IsNamedAnew settings versions.first.source.value named.first.source.value → named.next ≡ versions.next
       → job.form ≡ settings.form → job.groups ≡ settings.groups → (settings.keeps_order ≡ false → IsUnordered job) → noted job.order ≡ begun_keys settings.keeps_order
       → AreChangeColumns settings.key named.first.source.value.header.names named.next.source.value.header.names job.columns.now
@@ -123,14 +121,3 @@ module _ {R : Type 0} (rem : R → Option (List ℕ)) (settings : Settings) (old
           order = λ by_key. read.beside.order (unordered by_key);
         };
       })
-
-  -- by the columns that are picked
-  pub picked-streams : (by : Picked) → IsOpened rem settings.form Rows old versions.first → IsOpened rem settings.form Rows new versions.next
-      → IsNamedAnew settings versions.first.source.value named.first.source.value → named.next ≡ versions.next
-      → job.form ≡ settings.form → job.groups ≡ settings.groups → (settings.keeps_order ≡ false → IsUnordered job) → noted job.order ≡ begun_keys settings.keeps_order
-      → AreChangeColumns settings.key named.first.source.value.header.names named.next.source.value.header.names job.columns.now
-      → DiffsSourcesBy rem by job named answer → DiffsStreamsBy rem by settings old new answer
-  picked-streams picked.All first next renamed same form groups unordered begins columned read = diff-streams first next renamed same form groups unordered begins columned read
-  picked-streams (picked.Only names) first next renamed same form groups unordered begins columned read = diff-streams first next renamed same form groups unordered begins columned read
-  picked-streams (picked.AllBut names) first next renamed same form groups unordered begins columned read =
-      beside-streams names.now first next renamed same form groups unordered begins columned read

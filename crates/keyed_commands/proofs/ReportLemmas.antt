@@ -1,6 +1,8 @@
 -- From the tables that are read to the status of a report.
-use Rattle.std.proofs.Common.{◌≡◌, ◌∙◌, ℕ, zero, suc, Bool, true, false, List, [], ◌∷◌, Option, ap, arith, refl, subst, sym, true≢false, ne_eqb}
-use Rattle.std.specs.Prelude.{◌==◌, ◌&&◌, ◌↔◌, not}
+use Rattle.std.proofs.Common.{◌≡◌, ◌∙◌, ℕ, zero, suc, Bool, false, true, List, [], ◌∷◌, Option, ap, arith, refl, subst, sym, true≢false, ne_eqb}
+use Rattle.std.proofs.lemmas.List.{take-map}
+use Rattle.std.specs.Prelude.{◌==◌, ◌&&◌, ◌↔◌, map, not}
+use Rattle.eob_both.specs.declared.either_or_both.EitherOrBoth.{EitherOrBoth}
 use Rattle.keyed_columns.specs.declared.columns.Columns.{Columns}
 use Rattle.keyed_columns.specs.declared.content.Content.TheVariants.{Rows}
 use Rattle.keyed_files.specs.Opening.{IsNamedAnew, IsOpened, form_of}
@@ -8,12 +10,21 @@ use Rattle.keyed_files.specs.Reading.{IsOpen}
 use Rattle.keyed_files.specs.declared.opened.Stream.{Stream}
 use Rattle.keyed_files.specs.declared.opened.Two.{Two}
 use Rattle.keyed_files.proofs.TableLemmas.{open-anew}
-use Rattle.keyed_requests.specs.declared.request.Picked.{Picked}
+use Rattle.keyed_numbers.specs.declared.alike.Alike.{Alike}
+use Rattle.keyed_reports.specs.Shown.{shown_rows}
+use Rattle.keyed_reports.specs.TableLines.{IsTable}
+use Rattle.keyed_requests.specs.declared.request.Comparing.{Comparing}
+use Rattle.keyed_requests.specs.declared.request.RowsShown.{RowsShown}
+use Rattle.keyed_requests.specs.declared.request.RowsShown.TheVariants as shows
 use Rattle.keyed_requests.specs.declared.request.Settings.{Settings}
-use Rattle.keyed_commands.specs.Reported.{AreComparedColumns, ReportsSources, ReportsStreams, ReportsTexts}
-use Rattle.keyed_commands.specs.TablesRead.{SaysTable}
+use Rattle.keyed_requests.specs.declared.request.View.{View}
+use Rattle.keyed_tables.specs.Arranged.{noted}
+use Rattle.keyed_commands.specs.FileOrder.{begun_keys, noted_with}
+use Rattle.keyed_commands.specs.Reported.{AreComparedColumns, ReportsSources, ReportsStreams, ReportsTexts, TellsChanges}
+use Rattle.keyed_commands.specs.TablesRead.{IsUnordered, SaysTable}
 use Rattle.keyed_commands.specs.declared.answer.Answer.{Answer}
 use Rattle.keyed_commands.specs.declared.job.Job.{Job}
+use Rattle.keyed_commands.proofs.NotedLemmas.{notes-known}
 use Rattle.keyed_commands.proofs.ReadLemmas.{are-names, both-known}
 
 -- the test of a status: there is no change, and no column that comes or goes
@@ -24,14 +35,29 @@ told-same (suc n) differ h =
     let some : ((suc n == 0) && not differ) ≡ false = ap (λ t. t && not differ) (ne_eqb (suc n) 0 (λ e. omega (arith, e))) in
     (λ e. absurd (true≢false (sym e ∙ some)), λ p. absurd (let none = h.1 p.0 in omega (arith, none)))
 
+-- what stands behind the rows that are shown is what is shown of what stands behind them
+pub map-shown : {A B : Type 0} (f : A → B) (which : RowsShown) (rows : List A) → map f (shown_rows which rows) ≡ shown_rows which (map f rows)
+map-shown f shows.All rows = refl
+map-shown f (shows.First most) rows = sym (take-map f most rows)
+map-shown f shows.Nothing rows = refl
+
+-- a table under other words
+pub table-alike : (view view2 : View) (alikes alikes2 : List Alike) (columns columns2 : Columns)
+    (rows rows2 : List (List (List ℕ) × EitherOrBoth (List (List ℕ)) (List (List ℕ)))) (text : List ℕ)
+    → view ≡ view2 → alikes ≡ alikes2 → columns ≡ columns2 → rows ≡ rows2 → IsTable view alikes columns rows text → IsTable view2 alikes2 columns2 rows2 text
+table-alike view view2 alikes alikes2 columns columns2 rows rows2 text v a c r table =
+    subst (λ view. IsTable view alikes2 columns2 rows2 text) v (subst (λ alikes. IsTable view alikes columns2 rows2 text) a
+    (subst (λ columns. IsTable view alikes columns rows2 text) c (subst (λ rows. IsTable view alikes columns rows text) r table)))
+
 -- two streams that are read, of their texts
-module _ {R : Type 0} (rem : R → Option (List ℕ)) (settings : Settings) (by : Picked) (old new : Stream R) (versions named : Two R) (job : Job Columns) (answer : Answer) where
+module _ {R : Type 0} (rem : R → Option (List ℕ)) (settings : Settings) (how : Comparing) (old new : Stream R) (versions named : Two R) (job : Job Columns) (answer : Answer) where
   pub report-streams : IsOpened rem settings.form Rows old versions.first → IsOpened rem settings.form Rows new versions.next
-      → IsNamedAnew settings versions.first.source.value named.first.source.value → named.next ≡ versions.next → job.groups ≡ settings.groups
-      → AreComparedColumns by settings.key (named.first.source.value.header.names ∷ named.next.source.value.header.names ∷ []) job.columns.now
-      → ReportsSources rem job named answer → ReportsStreams rem by settings old new answer
-  report-streams first next renamed same groups columned read =
-      both-known {T = λ t u. ReportsTexts settings by (form_of settings.form old) (form_of settings.form new) t u answer} _ _ first next (λ t u opened beside.
+      → IsNamedAnew settings versions.first.source.value named.first.source.value → named.next ≡ versions.next
+      → job.groups ≡ settings.groups → (settings.keeps_order ≡ false → IsUnordered job) → noted job.order ≡ begun_keys settings.keeps_order
+      → AreComparedColumns how.view.columns settings.key (named.first.source.value.header.names ∷ named.next.source.value.header.names ∷ []) job.columns.now
+      → ReportsSources rem job how named answer → ReportsStreams rem how settings old new answer
+  report-streams first next renamed same groups unordered begins columned read =
+      both-known {T = λ t u. ReportsTexts settings how (form_of settings.form old) (form_of settings.form new) t u answer} _ _ first next (λ t u opened beside.
       let begun = open-anew rem settings (form_of settings.form old) Rows t _ _ named.first.source.value renamed opened in
       let next_begun = subst (λ two. IsOpen (form_of settings.form new) Rows rem u two.source.value.header.names two.source.value) (sym same) beside in record {
         columns = job.columns.now;
@@ -47,4 +73,12 @@ module _ {R : Type 0} (rem : R → Option (List ℕ)) (settings : Settings) (by 
         new_says = subst (λ g. SaysTable (form_of settings.form new) Rows g u named.next.source.value.header.names named.next.source.value.header.names job.columns.now read.new)
             groups (read.new_read _ _ u _ next_begun);
         status = read.status;
+        told = record {
+          keys = read.told.keys;
+          by_cells = read.told.by_cells;
+          table = λ is_told. subst (λ g. TellsChanges how.view g job.columns.now read.told.keys read.told.by_cells read.old read.new answer.bytes.items) groups (read.told.table is_told);
+          order = λ by_key. read.told.order (unordered by_key);
+        };
+        ordered = notes-known rem Rows job.columns.now job.columns.now named.first.source.value named.next.source.value noted_with settings.keeps_order (noted job.order) read.told.keys
+            (form_of settings.form old) (form_of settings.form new) t u _ _ begins read.notes begun next_begun;
       })

@@ -3,8 +3,6 @@ use Rattle.std.proofs.Common.{◌≡◌, List, [], subst, sym}
 use Rattle.std.specs.declared.result.Result.{Result}
 use Rattle.std.specs.declared.result.Result.TheVariants.{Err, Ok}
 use Rattle.std.specs.Prelude.{IfOk}
-use Rattle.either_or_both.specs.declared.either.Either.{Either}
-use Rattle.keyed_files.specs.declared.opened.Stream.{Stream}
 use Rattle.keyed_requests.specs.declared.overlays.NamedFile.{NamedFile}
 use Rattle.keyed_commands.specs.Requested.{AreStreamsOf}
 

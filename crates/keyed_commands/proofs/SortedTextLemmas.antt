@@ -1,5 +1,5 @@
 -- From what is written of two tables, part by part, to the texts of which they are.
-use Rattle.std.proofs.Common.{◌≡◌, ◌∙◌, ◌==◌, ◌↔◌, ◌++◌, ℕ, Bool, true, false, List, [], ◌∷◌, None, Option, length, refl, sym, ap, ap₂, subst, subst₂, if◌then◌else◌}
+use Rattle.std.proofs.Common.{◌≡◌, ◌∙◌, ◌==◌, ◌↔◌, ◌++◌, ℕ, Bool, true, false, List, [], ◌∷◌, Option, length, refl, sym, ap, ap₂, subst, subst₂, if◌then◌else◌}
 use Rattle.std.specs.Prelude.{◌&&◌, not}
 use Rattle.std.proofs.lemmas.List.Sorted.{IsPermutation-refl}
 use Rattle.keyed_requests.specs.AnswerForm.{is_written}
@@ -146,7 +146,7 @@ module _ {R : Type 0} (rem : R → Option (List ℕ)) (layout : Layout) where
   headed how columns header csv written kind.Semi = refl
   headed how columns header csv written kind.Anti = refl
 
-  said_headed : (how : Joining) (columns : JoinColumns) (header : List (List ℕ)) (left right : TableRows) (text : List ℕ) → how.format ≡ format.Csv
+  pub said_headed : (how : Joining) (columns : JoinColumns) (header : List (List ℕ)) (left right : TableRows) (text : List ℕ) → how.format ≡ format.Csv
       → header ≡ header_of_join layout.form how columns → SaysJoin layout.form columns header how.kind left right text
       → SaysJoin layout.form columns (joined_names how.kind how.names columns) how.kind left right text
   said_headed how columns header left right text csv written h =

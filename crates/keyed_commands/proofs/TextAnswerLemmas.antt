@@ -1,6 +1,8 @@
 -- From what `apply` and `merge` answer of sources to what they answer of texts.
 use Rattle.std.proofs.Common.{◌≡◌, ℕ, false, List, Option, None, Some, refl, subst, sym}
 use Rattle.std.specs.Prelude.{IfSome}
+use Rattle.std.specs.Io.KnownBytes.{Keeps}
+use Rattle.keyed_text.specs.declared.style.Style.{Style}
 use Rattle.keyed_requests.specs.AnswerForm.{in_style}
 use Rattle.keyed_requests.specs.declared.merging.Unit.{Unit}
 use Rattle.keyed_requests.specs.declared.request.Form.{Form}
@@ -24,8 +26,9 @@ use Rattle.keyed_tables.specs.Arranged.{noted}
 use Rattle.keyed_commands.specs.ChangesRead.{SaysChanges}
 use Rattle.keyed_commands.specs.FileOrder.{begun_keys, noted_with, placed_with}
 use Rattle.keyed_commands.specs.MergedTexts.{AnswersBy, MergesSources, MergesStreams, MergesTexts}
+use Rattle.keyed_commands.specs.NotedStyles.{IsNoted}
 use Rattle.keyed_commands.specs.TablesRead.{IsUnordered, ReadsTable, SaysTable}
-use Rattle.keyed_commands.specs.Turned.{changes_in}
+use Rattle.keyed_commands.specs.MadeChanges.{made_in}
 use Rattle.keyed_commands.specs.declared.answer.Answer.{Answer}
 use Rattle.keyed_commands.specs.declared.commands.partly.Partly.{Partly}
 use Rattle.keyed_commands.specs.declared.job.Job.{Job}
@@ -33,12 +36,13 @@ use Rattle.keyed_commands.specs.declared.rejected.ChangesForm.{ChangesForm}
 use Rattle.keyed_commands.proofs.GoneLemmas.{both-of, leave-of, names-turned, open-turned, spelled-of}
 use Rattle.keyed_commands.proofs.NotedLemmas.{notes-known}
 use Rattle.keyed_commands.proofs.ReadLemmas.{are-names, both-known}
+use Rattle.keyed_commands.proofs.StyleLemmas.{kept-known, style-of}
 
 -- what holds of two texts, where these are known under other words
-pub two-alike : (T : Form → Form → List ℕ → List ℕ → Type 0) (m m2 n n2 : Option (List ℕ)) (f f2 h h2 : Form) → m2 ≡ m → n2 ≡ n → f2 ≡ f → h2 ≡ h
+pub two-alike : (T : Form → Form → List ℕ → List ℕ → Type 0) (m m2 n n2 : Option (List ℕ)) (f f2 h h2 : Form) → Keeps m m2 → n2 ≡ n → f2 ≡ f → h2 ≡ h
     → IfSome m2 (λ t. IfSome n2 (λ u. T f2 h2 t u)) → IfSome m (λ t. IfSome n (λ u. T f h t u))
-two-alike T m m2 n n2 f f2 h h2 em en ef eh known =
-    subst (λ m. IfSome m (λ t. IfSome n (λ u. T f h t u))) em (subst (λ n. IfSome m2 (λ t. IfSome n (λ u. T f h t u))) en
+two-alike T m m2 n n2 f f2 h h2 km en ef eh known =
+    kept-known (λ t. IfSome n (λ u. T f h t u)) m m2 km (subst (λ n. IfSome m2 (λ t. IfSome n (λ u. T f h t u))) en
     (subst (λ f. IfSome m2 (λ t. IfSome n2 (λ u. T f h t u))) ef (subst (λ h. IfSome m2 (λ t. IfSome n2 (λ u. T f2 h t u))) eh known)))
 
 -- the same of three
@@ -49,12 +53,17 @@ three-known (Some t) None o p q s f = tt
 three-known (Some t) (Some u) None p q s f = tt
 three-known (Some t) (Some u) (Some v) p q s f = f t u v p q s
 
+-- the second of two texts stayed as it was
+second-kept : (P : List ℕ → List ℕ → Type 0) (m n n2 : Option (List ℕ)) → Keeps n n2 → IfSome m (λ t. IfSome n2 (P t)) → IfSome m (λ t. IfSome n (P t))
+second-kept P None n n2 kept known = tt
+second-kept P (Some t) n n2 kept known = kept-known (P t) n n2 kept known
+
 pub three-alike : (T : Form → Form → Form → List ℕ → List ℕ → List ℕ → Type 0) (m m2 n n2 o o2 : Option (List ℕ)) (f f2 h h2 k k2 : Form)
-    → m2 ≡ m → n2 ≡ n → o2 ≡ o → f2 ≡ f → h2 ≡ h → k2 ≡ k
+    → m2 ≡ m → Keeps n n2 → o2 ≡ o → f2 ≡ f → h2 ≡ h → k2 ≡ k
     → IfSome m2 (λ t. IfSome n2 (λ u. IfSome o2 (λ v. T f2 h2 k2 t u v))) → IfSome m (λ t. IfSome n (λ u. IfSome o (λ v. T f h k t u v)))
-three-alike T m m2 n n2 o o2 f f2 h h2 k k2 em en eo ef eh ek known =
+three-alike T m m2 n n2 o o2 f f2 h h2 k k2 em kn eo ef eh ek known =
     subst (λ m. IfSome m (λ t. IfSome n (λ u. IfSome o (λ v. T f h k t u v)))) em
-    (subst (λ n. IfSome m2 (λ t. IfSome n (λ u. IfSome o (λ v. T f h k t u v)))) en
+    (second-kept (λ t u. IfSome o (λ v. T f h k t u v)) m2 n n2 kn
     (subst (λ o. IfSome m2 (λ t. IfSome n2 (λ u. IfSome o (λ v. T f h k t u v)))) eo
     (subst (λ f. IfSome m2 (λ t. IfSome n2 (λ u. IfSome o2 (λ v. T f h k t u v)))) ef
     (subst (λ h. IfSome m2 (λ t. IfSome n2 (λ u. IfSome o2 (λ v. T f2 h k t u v)))) eh
@@ -75,22 +84,24 @@ known-weaker P Q (Some t) None f h = tt
 known-weaker P Q (Some t) (Some u) f h = f t u h
 
 -- two streams of a table and of changes, of their texts
-module _ {R : Type 0} (rem : R → Option (List ℕ)) (settings : Settings) (direction : Direction) (old changes : Stream R) (inputs named : Two R) (job : Job Columns) where
+module _ {R : Type 0} (rem : R → Option (List ℕ)) (settings : Settings) (direction : Direction) (old changes : Stream R) (inputs named : Two R) (job : Job Columns) (first_style : Style) where
   -- what the texts say, and the columns that go and that come by the header of the changes
   abbrev MarkedTexts : OfChanges → List ℕ → List ℕ → Type 0
   MarkedTexts holds t u = (GoneOf (form_of settings.form changes) u inputs.next.source.value.header.gone × CameOf (form_of settings.form changes) u inputs.next.source.value.header.came)
       × ChangesTexts holds settings direction (form_of settings.form old) (form_of settings.form changes) t u
 
-  changes-streams : (holds : OfChanges) → IsOpened rem settings.form Rows old inputs.first → IsOpened rem settings.form Changes changes inputs.next
+  changes-streams : (holds : OfChanges) → IfSome (text_of_stream rem settings.form old) (IsNoted (form_of settings.form old) first_style)
+      → IsOpened rem settings.form Rows old inputs.first → IsOpened rem settings.form Changes changes inputs.next
       → IsGoneRead rem settings.form Changes changes inputs.next → IsNamedAnew settings inputs.first.source.value named.first.source.value → IsTurned direction inputs.next.source.value named.next.source.value
       → job.form ≡ settings.form → job.groups ≡ settings.groups → (settings.keeps_order ≡ false → IsUnordered job) → noted job.order ≡ begun_keys settings.keeps_order
       → AreChangedColumnsBy settings.key named.first.source.value.header.names named.next.source.value.header.names named.next.source.value.header.gone job.columns.now
       → IsSpelledAs named.first.source.value.header.spelling.names named.first.source.value.header.spelling.spelled job.columns.now
-      → ChangesSources rem holds job direction named
+      → ChangesSources rem holds job first_style direction named
       → IfSome (text_of_stream rem settings.form old) (λ t. IfSome (text_of_stream rem settings.form changes) (λ u. MarkedTexts holds t u))
-  changes-streams holds first next goes renamed turned form groups unordered begins columned spells read =
-      both-known {T = λ t u. MarkedTexts holds t u} _ _ first
-      (both-of _ _ (text_of_stream rem settings.form changes) next (goes refl)) (λ t u opened beside.
+  changes-streams holds styled first next goes renamed turned form groups unordered begins columned spells read =
+      both-known {T = λ t u. MarkedTexts holds t u} _ _ (both-of _ _ (text_of_stream rem settings.form old) first styled)
+      (both-of _ _ (text_of_stream rem settings.form changes) next (goes refl)) (λ t u both beside.
+      let opened = both.0 in
       let begun = open-anew rem settings (form_of settings.form old) Rows t inputs.first.source.value.header.names inputs.first.source.value named.first.source.value renamed opened in
       let old_says = says rem settings job (form_of settings.form old) t inputs.first.source.value.header.names named.first read.old groups read.old_read begun in
       let next_begun = subst (λ names. IsOpen (form_of settings.form changes) Changes rem u names named.next.source.value)
@@ -125,33 +136,37 @@ module _ {R : Type 0} (rem : R → Option (List ℕ)) (settings : Settings) (dir
               (form_of settings.form old) (form_of settings.form changes) t u _ _ begins read.notes begun next_begun;
           applied = record {
             style = read.applied.style;
+            styled = style-of (form_of settings.form old) job.form settings.form t first_style read.applied.style form both.1 read.applied.styled;
             keys = read.applied.keys;
             by_cells = read.applied.by_cells;
-            applied = subst (λ f. holds (in_style read.applied.style f) job.columns.now read.applied.keys read.applied.by_cells read.old (changes_in direction read.changes)) form read.applied.applied;
+            applied = subst (λ f. holds (in_style read.applied.style f) job.columns.now read.applied.keys read.applied.by_cells read.old
+                (made_in named.first.source.value.header.names named.next.source.value.header.names job.columns.now direction read.old read.changes)) form read.applied.applied;
             order = λ by_key. read.applied.order (unordered by_key);
           };
         },
       ))
 
-  pub apply-streams : (answer : Answer) → IsOpened rem settings.form Rows old inputs.first → IsOpened rem settings.form Changes changes inputs.next
+  pub apply-streams : (answer : Answer) → IfSome (text_of_stream rem settings.form old) (IsNoted (form_of settings.form old) first_style)
+      → IsOpened rem settings.form Rows old inputs.first → IsOpened rem settings.form Changes changes inputs.next
       → IsGoneRead rem settings.form Changes changes inputs.next → IsNamedAnew settings inputs.first.source.value named.first.source.value → IsTurned direction inputs.next.source.value named.next.source.value
       → job.form ≡ settings.form → job.groups ≡ settings.groups → (settings.keeps_order ≡ false → IsUnordered job) → noted job.order ≡ begun_keys settings.keeps_order
       → AreChangedColumnsBy settings.key named.first.source.value.header.names named.next.source.value.header.names named.next.source.value.header.gone job.columns.now
       → IsSpelledAs named.first.source.value.header.spelling.names named.first.source.value.header.spelling.spelled job.columns.now
-      → AppliesSources rem job direction named answer → AppliesStreams rem settings direction old changes answer
-  apply-streams answer first next goes renamed turned form groups unordered begins columned spells read =
+      → AppliesSources rem job first_style direction named answer → AppliesStreams rem settings direction old changes answer
+  apply-streams answer styled first next goes renamed turned form groups unordered begins columned spells read =
       known-weaker (λ t u. MarkedTexts (applies answer) t u) (λ t u. AppliesTexts settings direction (form_of settings.form old) (form_of settings.form changes) t u answer)
       (text_of_stream rem settings.form old) (text_of_stream rem settings.form changes) (λ t u known. known.1)
-      (changes-streams (applies answer) first next goes renamed turned form groups unordered begins columned spells read)
+      (changes-streams (applies answer) styled first next goes renamed turned form groups unordered begins columned spells read)
 
   pub partly-streams : (how : ChangesForm) (partly : Partly) → how.form ≡ plain (form_of settings.form changes) → how.going ≡ inputs.next.source.value.header.gone
-      → how.coming ≡ inputs.next.source.value.header.came → IsOpened rem settings.form Rows old inputs.first → IsOpened rem settings.form Changes changes inputs.next
+      → how.coming ≡ inputs.next.source.value.header.came → IfSome (text_of_stream rem settings.form old) (IsNoted (form_of settings.form old) first_style)
+      → IsOpened rem settings.form Rows old inputs.first → IsOpened rem settings.form Changes changes inputs.next
       → IsGoneRead rem settings.form Changes changes inputs.next → IsNamedAnew settings inputs.first.source.value named.first.source.value → IsTurned direction inputs.next.source.value named.next.source.value
       → job.form ≡ settings.form → job.groups ≡ settings.groups → (settings.keeps_order ≡ false → IsUnordered job) → noted job.order ≡ begun_keys settings.keeps_order
       → AreChangedColumnsBy settings.key named.first.source.value.header.names named.next.source.value.header.names named.next.source.value.header.gone job.columns.now
       → IsSpelledAs named.first.source.value.header.spelling.names named.first.source.value.header.spelling.spelled job.columns.now
-      → PartlySources rem job how direction named partly → PartlyStreams rem settings direction old changes partly
-  partly-streams how partly plainly going coming first next goes renamed turned form groups unordered begins columned spells read =
+      → PartlySources rem job first_style how direction named partly → PartlyStreams rem settings direction old changes partly
+  partly-streams how partly plainly going coming styled first next goes renamed turned form groups unordered begins columned spells read =
       known-weaker (λ t u. MarkedTexts (AnswersPartly direction how partly) t u) (λ t u. PartlyTexts settings direction (form_of settings.form old) (form_of settings.form changes) t u partly)
       (text_of_stream rem settings.form old) (text_of_stream rem settings.form changes) (λ t u known. (
         how,
@@ -162,20 +177,22 @@ module _ {R : Type 0} (rem : R → Option (List ℕ)) (settings : Settings) (dir
         },
         known.1,
       ))
-      (changes-streams (AnswersPartly direction how partly) first next goes renamed turned form groups unordered begins columned spells read)
+      (changes-streams (AnswersPartly direction how partly) styled first next goes renamed turned form groups unordered begins columned spells read)
 
 -- three streams of versions of a table, of their texts
 module _ {R : Type 0} (rem : R → Option (List ℕ)) (by : Unit) (settings : Settings) (base ours theirs : Stream R) (opened named : Opened R) (sides : Two R) (job : Job Columns)
-    (answer : Answer) where
-  pub merge-streams : IsOpened rem settings.form Rows base opened → IsOpened rem settings.form Rows ours sides.first → IsOpened rem settings.form Rows theirs sides.next
+    (first_style : Style) (answer : Answer) where
+  pub merge-streams : IfSome (text_of_stream rem settings.form ours) (IsNoted (form_of settings.form ours) first_style) → IsOpened rem settings.form Rows base opened → IsOpened rem settings.form Rows ours sides.first → IsOpened rem settings.form Rows theirs sides.next
       → IsNamedAnew settings opened.source.value named.source.value
       → job.form ≡ settings.form → job.groups ≡ settings.groups → (settings.keeps_order ≡ false → IsUnordered job) → noted job.order ≡ begun_keys settings.keeps_order
       → AreMergedColumnsBy settings.key named.source.value.header.names sides.first.source.value.header.names sides.next.source.value.header.names job.columns.now
       → IsSpelledAs sides.first.source.value.header.spelling.names sides.first.source.value.header.spelling.spelled job.columns.now
-      → MergesSources rem by job named sides answer → MergesStreams rem by settings base ours theirs answer
-  merge-streams first second third renamed form groups unordered begins columned spells read =
-      three-known {T = λ t u v. MergesTexts by settings (form_of settings.form base) (form_of settings.form ours) (form_of settings.form theirs) t u v answer}
-      _ _ _ first second third (λ t u v one two three.
+      → MergesSources rem by job first_style named sides answer → MergesStreams rem by settings base ours theirs answer
+  merge-streams styled first second third renamed form groups unordered begins columned spells read =
+      three-known {Q = λ u. IsOpen (form_of settings.form ours) Rows rem u sides.first.source.value.header.names sides.first.source.value × IsNoted (form_of settings.form ours) first_style u}
+      {T = λ t u v. MergesTexts by settings (form_of settings.form base) (form_of settings.form ours) (form_of settings.form theirs) t u v answer}
+      _ _ _ first (both-of _ _ (text_of_stream rem settings.form ours) second styled) third (λ t u v one both three.
+      let two = both.0 in
       let ours_say = says rem settings job (form_of settings.form ours) u sides.first.source.value.header.names sides.first read.ours groups read.ours_read two in record {
         columns = job.columns.now;
         header = opened.source.value.header.names;
@@ -198,6 +215,7 @@ module _ {R : Type 0} (rem : R → Option (List ℕ)) (by : Unit) (settings : Se
         theirs_say = says rem settings job _ v _ sides.next read.theirs groups read.theirs_read three;
         merged = record {
           style = read.merged.style;
+          styled = style-of (form_of settings.form ours) job.form settings.form u first_style read.merged.style form both.1 read.merged.styled;
           keys = read.merged.keys;
           by_cells = read.merged.by_cells;
           merged = subst (λ f. AnswersBy (in_style read.merged.style f) job.columns.now read.merged.keys read.merged.by_cells read.base read.ours read.theirs answer by) form read.merged.merged;

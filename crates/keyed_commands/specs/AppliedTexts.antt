@@ -1,5 +1,6 @@
 -- What `apply` answers of the texts of a table and of changes.
 use Rattle.std.specs.Prelude.{◌≡◌, ℕ, Bool, false, true, List, Option, None, IfSome}
+use Rattle.keyed_text.specs.TextStyles.{headed_left}
 use Rattle.keyed_text.specs.declared.style.Style.{Style}
 use Rattle.keyed_requests.specs.AnswerForm.{in_style}
 use Rattle.keyed_requests.specs.declared.request.Form.{Form}
@@ -18,8 +19,9 @@ use Rattle.keyed_commands.specs.Answers.{AllFit, AnswersPatched, Stops, TableCha
 use Rattle.keyed_commands.specs.ChangesRead.{ReadsChanges, SaysChanges}
 use Rattle.keyed_commands.specs.Rejected.{AnswersPartly, plain}
 use Rattle.keyed_commands.specs.FileOrder.{AreKeysOfBoth, NotesBoth, noted_with}
+use Rattle.keyed_commands.specs.MadeChanges.{made_in}
+use Rattle.keyed_commands.specs.NotedStyles.{IsStyleBy, IsStyleOf}
 use Rattle.keyed_commands.specs.TablesRead.{AreNamesBy, IsUnordered, ReadsTable, SaysTable}
-use Rattle.keyed_commands.specs.Turned.{changes_in}
 use Rattle.keyed_commands.specs.declared.answer.Answer.{Answer}
 use Rattle.keyed_commands.specs.declared.commands.partly.Partly.{Partly}
 use Rattle.keyed_commands.specs.declared.job.Job.{Job}
@@ -28,7 +30,7 @@ use Rattle.keyed_commands.specs.declared.styles.Watched.{Watched}
 
 -- what a reader that is watched has left
 abbrev pub watched_left : {R : Type 0} → (R → Option (List ℕ)) → Watched R → Option (List ℕ)
-watched_left remaining watched = remaining watched.reader
+watched_left remaining watched = headed_left remaining watched.reader
 
 -- the table with changes made to it where each of them fits, and else a report with status 1
 pub record AnswersApplied (form : Form) (columns : Columns) (keys : Option (List (List (List ℕ)))) (by_cells : Bool)
@@ -41,17 +43,19 @@ pub record AnswersApplied (form : Form) (columns : Columns) (keys : Option (List
 abbrev pub OfChanges : Type 1
 OfChanges = Form → Columns → Option (List (List (List ℕ))) → Bool → TableRows → TableChanges → Type 0
 
--- the same, written in a style, with the order in which rows come out
-pub record AppliedIn (holds : OfChanges) (form : Form) (columns : Columns) (unordered : Type 0) (old : TableRows) (changes : TableChanges) : Type 0 where
+-- the same, written in a style of which this is said, with the order in which rows come out
+pub record AppliedIn (holds : OfChanges) (IsStyled : Style → Type 0) (form : Form) (columns : Columns) (unordered : Type 0) (old : TableRows) (changes : TableChanges) : Type 0 where
   pub style : Style
+  pub styled : IsStyled style
   pub keys : Option (List (List (List ℕ)))
   pub by_cells : Bool
   pub applied : holds (in_style style form) columns keys by_cells old changes
   pub order : unordered → (keys ≡ None) × (by_cells ≡ true)
 
 -- what is answered of two texts: the first says a table and the second one changes, under the columns of the table that they make, of
--- which those go that the header of changes says, and whose heading is spelled as the header of the first text is; backward, each change is
--- turned about, and the columns go that came
+-- which those go that the header of changes says, and whose heading is spelled as the header of the first text is, in the style of that text;
+-- backward, each change is turned about, and the columns go that came; where the changes do not name each column of the table, they have its
+-- cells in the others
 pub record ChangesTexts (holds : OfChanges) (settings : Settings) (direction : Direction) (old_form changes_form : Form) (old_text changes_text : List ℕ) : Type 0 where
   pub columns : Columns
   pub header : List (List ℕ)
@@ -69,7 +73,7 @@ pub record ChangesTexts (holds : OfChanges) (settings : Settings) (direction : D
   pub spelled_said : SpelledOf old_form Rows old_text spelled
   pub spells : IsSpelledAs header spelled columns
   pub headed : old_form.has_header ≡ settings.form.has_header
-  pub applied : AppliedIn holds settings.form columns (settings.keeps_order ≡ false) old (changes_in direction changes)
+  pub applied : AppliedIn holds (IsStyleOf old_form settings.form.writing.heading old_text) settings.form columns (settings.keeps_order ≡ false) old (made_in names changes_header columns direction old changes)
   pub ordered : AreKeysOfBoth old_form changes_form Changes old_text changes_text names changes_header columns columns noted_with settings.keeps_order applied.keys
 
 -- what `apply` says of its answer
@@ -94,21 +98,22 @@ PartlyTexts settings direction old_form changes_form old_text changes_text partl
     × ChangesTexts (AnswersPartly direction how partly) settings direction old_form changes_form old_text changes_text
 
 module _ {R : Type 0} (remaining : R → Option (List ℕ)) where
-  -- the same of a source of a table and one of changes
-  pub record ChangesSources (holds : OfChanges) (job : Job Columns) (direction : Direction) (inputs : Two R) : Type 0 where
+  -- the same of a source of a table, whose text begins in this style, and one of changes
+  pub record ChangesSources (holds : OfChanges) (job : Job Columns) (first_style : Style) (direction : Direction) (inputs : Two R) : Type 0 where
     pub old : TableRows
     pub changes : TableChanges
     pub old_read : ReadsTable remaining job.groups job.columns.now inputs.first.source.value old
     pub changes_read : ReadsChanges remaining job.groups job.columns.now inputs.next.source.value changes
-    pub applied : AppliedIn holds job.form job.columns.now (IsUnordered job) old (changes_in direction changes)
+    pub applied : AppliedIn holds (IsStyleBy job.form.writing.heading first_style) job.form job.columns.now (IsUnordered job) old
+        (made_in inputs.first.source.value.header.names inputs.next.source.value.header.names job.columns.now direction old changes)
     pub notes : NotesBoth remaining Changes job.columns.now job.columns.now inputs.first.source.value inputs.next.source.value noted_with (noted job.order)
         applied.keys
 
-  abbrev pub AppliesSources : Job Columns → Direction → Two R → Answer → Type 0
-  AppliesSources job direction inputs answer = ChangesSources (applies answer) job direction inputs
+  abbrev pub AppliesSources : Job Columns → Style → Direction → Two R → Answer → Type 0
+  AppliesSources job first_style direction inputs answer = ChangesSources (applies answer) job first_style direction inputs
 
-  abbrev pub PartlySources : Job Columns → ChangesForm → Direction → Two R → Partly → Type 0
-  PartlySources job how direction inputs partly = ChangesSources (AnswersPartly direction how partly) job direction inputs
+  abbrev pub PartlySources : Job Columns → Style → ChangesForm → Direction → Two R → Partly → Type 0
+  PartlySources job first_style how direction inputs partly = ChangesSources (AnswersPartly direction how partly) job first_style direction inputs
 
   -- and of two streams whose texts are known
   abbrev pub AppliesStreams : Settings → Direction → Stream R → Stream R → Answer → Type 0

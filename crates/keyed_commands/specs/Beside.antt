@@ -14,15 +14,13 @@ use Rattle.keyed_columns.specs.declared.columns.Columns.{Columns}
 use Rattle.keyed_files.specs.declared.opened.Stream.{Stream}
 use Rattle.keyed_files.specs.declared.opened.Two.{Two}
 use Rattle.keyed_requests.specs.declared.request.Form.{Form}
-use Rattle.keyed_requests.specs.declared.request.Picked.{Picked}
-use Rattle.keyed_requests.specs.declared.request.Picked.TheVariants as picked
 use Rattle.keyed_requests.specs.declared.request.Settings.{Settings}
 use Rattle.keyed_columns.specs.declared.content.Content.TheVariants.{Rows}
 use Rattle.keyed_tables.specs.Arranged.{noted}
 use Rattle.keyed_commands.specs.Answers.{ChangesComeOut, TableChanges, TableRows, status_of}
 use Rattle.keyed_commands.specs.ChangeRows.{changes_heading, changes_rows}
 use Rattle.keyed_commands.specs.FileOrder.{AreKeysOfBoth, NotesBoth, noted_with}
-use Rattle.keyed_commands.specs.TablesRead.{AreNamesBy, DiffsSources, DiffsStreams, IsUnordered, ReadsTable, SaysTable, headers_differ}
+use Rattle.keyed_commands.specs.TablesRead.{AreNamesBy, IsUnordered, ReadsTable, SaysTable, headers_differ}
 use Rattle.keyed_commands.specs.declared.answer.Answer.{Answer}
 use Rattle.keyed_commands.specs.declared.job.Job.{Job}
 
@@ -104,14 +102,3 @@ module _ {R : Type 0} (remaining : R → Option (List ℕ)) where
   DiffsBesideStreams settings ignored old new answer = IfSome (text_of_stream remaining settings.form old) (λ old_text.
       IfSome (text_of_stream remaining settings.form new) (λ new_text.
       DiffsBesideTexts settings ignored (form_of settings.form old) (form_of settings.form new) old_text new_text answer))
-
-  -- `diff` as CSV by the columns that are picked: all changes, or those beside columns that are ignored
-  abbrev pub DiffsSourcesBy : Picked → Job Columns → Two R → Answer → Type 0
-  DiffsSourcesBy picked.All job versions answer = DiffsSources remaining job versions answer
-  DiffsSourcesBy (picked.Only names) job versions answer = DiffsSources remaining job versions answer
-  DiffsSourcesBy (picked.AllBut names) job versions answer = DiffsBesideSources job names.now versions answer
-
-  abbrev pub DiffsStreamsBy : Picked → Settings → Stream R → Stream R → Answer → Type 0
-  DiffsStreamsBy picked.All settings old new answer = DiffsStreams remaining settings old new answer
-  DiffsStreamsBy (picked.Only names) settings old new answer = DiffsStreams remaining settings old new answer
-  DiffsStreamsBy (picked.AllBut names) settings old new answer = DiffsBesideStreams settings names.now old new answer

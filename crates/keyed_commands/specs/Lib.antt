@@ -6,11 +6,14 @@ pub mod ChangesRead
 pub mod ComeOut
 pub mod ConflictCells
 pub mod JoinAnswers
+pub mod DiffOnly
 pub mod FileOrder
+pub mod FirstRows
 pub mod Keys
 pub mod Laws
 pub mod LookupAnswers
 pub mod Lost
+pub mod MadeChanges
 pub mod MergedTexts
 pub mod NotedStyles
 pub mod OneSide
@@ -21,9 +24,11 @@ pub mod Rejected
 pub mod Reported
 pub mod Requested
 pub mod RowDiff
+pub mod SortedBegun
 pub mod SortedParts
 pub mod SortedTexts
 pub mod TablesRead
 pub mod TextLaws
 pub mod Turned
+pub mod Written
 pub mod Beside

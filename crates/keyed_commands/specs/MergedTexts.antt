@@ -19,6 +19,7 @@ use Rattle.keyed_files.specs.declared.opened.Two.{Two}
 use Rattle.keyed_tables.specs.Arranged.{noted}
 use Rattle.keyed_commands.specs.Answers.{AnswersMerged, AnswersMergedByCell, HasConflict, HasNoConflict, HasNoneUnresolved, HasUnresolved, Stops, TableRows}
 use Rattle.keyed_commands.specs.FileOrder.{AreKeysOfBoth, NotesBoth, placed_with}
+use Rattle.keyed_commands.specs.NotedStyles.{IsStyleBy, IsStyleOf}
 use Rattle.keyed_commands.specs.TablesRead.{AreNamesBy, IsUnordered, ReadsTable, SaysTable}
 use Rattle.keyed_commands.specs.declared.answer.Answer.{Answer}
 use Rattle.keyed_commands.specs.declared.job.Job.{Job}
@@ -43,16 +44,17 @@ module _ (form : Form) (columns : Columns) (keys : Option (List (List (List ℕ)
   AnswersBy unit.Row = AnswersByRow
   AnswersBy unit.Cell = AnswersByCell
 
--- the same, written in a style, with the order in which rows come out
-pub record MergedIn (by : Unit) (form : Form) (columns : Columns) (unordered : Type 0) (base ours theirs : TableRows) (answer : Answer) : Type 0 where
+-- the same, written in a style of which this is said, with the order in which rows come out
+pub record MergedIn (by : Unit) (IsStyled : Style → Type 0) (form : Form) (columns : Columns) (unordered : Type 0) (base ours theirs : TableRows) (answer : Answer) : Type 0 where
   pub style : Style
+  pub styled : IsStyled style
   pub keys : Option (List (List (List ℕ)))
   pub by_cells : Bool
   pub merged : AnswersBy (in_style style form) columns keys by_cells base ours theirs answer by
   pub order : unordered → (keys ≡ None) × (by_cells ≡ true)
 
 -- what `merge` answers of three texts, each of which says a table under the columns of the three, merged as rows are; their heading is
--- spelled as the header of ours is
+-- spelled as the header of ours is, in the style of that text
 pub record MergesTexts (by : Unit) (settings : Settings) (base_form ours_form theirs_form : Form) (base_text ours_text theirs_text : List ℕ)
     (answer : Answer) : Type 0 where
   pub columns : Columns
@@ -72,19 +74,19 @@ pub record MergesTexts (by : Unit) (settings : Settings) (base_form ours_form th
   pub spelled_said : SpelledOf ours_form Rows ours_text spelled
   pub spells : IsSpelledAs ours_header spelled columns
   pub headed : ours_form.has_header ≡ settings.form.has_header
-  pub merged : MergedIn by settings.form columns (settings.keeps_order ≡ false) base ours theirs answer
+  pub merged : MergedIn by (IsStyleOf ours_form settings.form.writing.heading ours_text) settings.form columns (settings.keeps_order ≡ false) base ours theirs answer
   pub ordered : AreKeysOfBoth ours_form theirs_form Rows ours_text theirs_text ours_header theirs_header columns columns placed_with settings.keeps_order merged.keys
 
 module _ {R : Type 0} (remaining : R → Option (List ℕ)) where
-  -- the same of sources of three versions
-  pub record MergesSources (by : Unit) (job : Job Columns) (base_source : Opened R) (sides : Two R) (answer : Answer) : Type 0 where
+  -- the same of sources of three versions, of which the text of ours begins in this style
+  pub record MergesSources (by : Unit) (job : Job Columns) (first_style : Style) (base_source : Opened R) (sides : Two R) (answer : Answer) : Type 0 where
     pub base : TableRows
     pub ours : TableRows
     pub theirs : TableRows
     pub base_read : ReadsTable remaining job.groups job.columns.now base_source.source.value base
     pub ours_read : ReadsTable remaining job.groups job.columns.now sides.first.source.value ours
     pub theirs_read : ReadsTable remaining job.groups job.columns.now sides.next.source.value theirs
-    pub merged : MergedIn by job.form job.columns.now (IsUnordered job) base ours theirs answer
+    pub merged : MergedIn by (IsStyleBy job.form.writing.heading first_style) job.form job.columns.now (IsUnordered job) base ours theirs answer
     pub notes : NotesBoth remaining Rows job.columns.now job.columns.now sides.first.source.value sides.next.source.value placed_with (noted job.order) merged.keys
 
   -- and of three streams whose texts are known

@@ -25,6 +25,7 @@ use Rattle.keyed_files.specs.declared.opened.Stream.{Stream}
 use Rattle.keyed_commands.specs.Answers.{IsTableFile, TableRows, key_cmp}
 use Rattle.keyed_commands.specs.AppliedTexts.{watched_left}
 use Rattle.keyed_commands.specs.FileOrder.{Keys, KeysOf, OfKeys, noted_keys, noted_with}
+use Rattle.keyed_commands.specs.NotedStyles.{IsNoted, IsStyleBy, IsStyleOf}
 use Rattle.keyed_commands.specs.TablesRead.{AreNames, IsUnordered, ReadsTable, SaysTable}
 use Rattle.keyed_commands.specs.declared.answer.Answer.{Answer}
 use Rattle.keyed_commands.specs.declared.answer.Outcome.TheVariants.{Made}
@@ -46,20 +47,21 @@ laid_under layer below (table ∷ tables) key = laid_under layer (option_map (la
 abbrev pub AreLaidOver : Layer → TableRows → List TableRows → TableRows → Type 0
 AreLaidOver layer below tables rows = Tabulates key_cmp rows (λ key. laid_under layer (value_under key_cmp below key) tables key)
 
--- an answer with the rows of a table, written in a style
-pub record AnswersRows (form : Form) (columns : Columns) (keys : Option (List (List (List ℕ)))) (by_cells : Bool) (rows : TableRows) (answer : Answer) : Type 0 where
+-- an answer with the rows of a table, written in a style of which this is said
+pub record AnswersRows (IsStyled : Style → Type 0) (form : Form) (columns : Columns) (keys : Option (List (List (List ℕ)))) (by_cells : Bool) (rows : TableRows) (answer : Answer) : Type 0 where
   pub style : Style
+  pub styled : IsStyled style
   pub text : IsTableFile (in_style style form) columns keys by_cells rows answer.bytes.items
   pub status : answer.status ≡ 0
   pub outcome : answer.outcome ≡ Made
 
 -- the same of tables laid one over the other, the last one on top, with the order in which rows come out
-pub record OverlaidIn (layer : Layer) (form : Form) (columns : Columns) (unordered : Type 0) (tables : List TableRows) (answer : Answer) : Type 0 where
+pub record OverlaidIn (layer : Layer) (IsStyled : Style → Type 0) (form : Form) (columns : Columns) (unordered : Type 0) (tables : List TableRows) (answer : Answer) : Type 0 where
   pub rows : TableRows
   pub keys : Option (List (List (List ℕ)))
   pub by_cells : Bool
   pub laid : AreLaidOver layer [] tables rows
-  pub answers : AnswersRows form columns keys by_cells rows answer
+  pub answers : AnswersRows IsStyled form columns keys by_cells rows answer
   pub order : unordered → (keys ≡ None) × (by_cells ≡ true)
 
 -- a table that a text says: its header, how this spells its names, the names by which its columns are read, its rows by key, and the keys of
@@ -112,11 +114,16 @@ module _ {R : Type 0} (remaining : R → Option (List ℕ)) where
   NotesAll columns (opened ∷ more) before after = (mid : Option Keys)
       × OfKeys (watched_left remaining) Rows columns opened.source.value (λ keys. mid ≡ noted_with before keys) × NotesAll columns more mid after
 
-  -- an answer to `overlay` of several sources: the text of their tables laid one over the other
-  pub record OverlaysSources (layer : Layer) (job : Job Columns) (opened : List (Opened (Watched R))) (answer : Answer) : Type 0 where
+  -- the text of the first of several streams begins in this style, where it is known, and with no stream that is the style of the form
+  abbrev pub IsNotedFirst : Form → List (Stream R) → Style → Type 0
+  IsNotedFirst form [] style = style ≡ form.writing.style
+  IsNotedFirst form (stream ∷ streams) style = IfSome (text_of_stream remaining form stream) (IsNoted (form_of form stream) style)
+
+  -- an answer to `overlay` of several sources, whose first text begins in this style: the text of their tables laid one over the other
+  pub record OverlaysSources (layer : Layer) (first_style : Style) (job : Job Columns) (opened : List (Opened (Watched R))) (answer : Answer) : Type 0 where
     pub tables : List TableRows
     pub read : ReadTables job.groups job.columns.now opened tables
-    pub overlaid : OverlaidIn layer job.form job.columns.now (IsUnordered job) tables answer
+    pub overlaid : OverlaidIn layer (IsStyleBy job.form.writing.heading first_style) job.form job.columns.now (IsUnordered job) tables answer
     pub notes : NotesAll job.columns.now opened (noted job.order) overlaid.keys
 
   -- the text of a stream says a table under columns, where it is known
@@ -137,8 +144,14 @@ module _ {R : Type 0} (remaining : R → Option (List ℕ)) where
   SpellsFirst settings columns (stream ∷ streams) (said ∷ more) = IfSome (text_of_stream remaining settings.form stream)
       (λ text. IsSpelledAs said.header said.spelled columns)
 
+  -- the style of an answer is that of the first text, where it is known
+  abbrev pub StylesFirst : Settings → List (Stream R) → Style → Type 0
+  StylesFirst settings [] style = IsStyleBy settings.form.writing.heading settings.form.writing.style style
+  StylesFirst settings (stream ∷ streams) style = IfSome (text_of_stream remaining settings.form stream)
+      (λ text. IsStyleOf (form_of settings.form stream) settings.form.writing.heading text style)
+
   -- what `overlay` answers of several streams: each text that is known says its table, under the columns of all, and the answer is the text
-  -- of these tables laid one over the other
+  -- of these tables laid one over the other, in the style of the first one
   pub record OverlaysStreams (settings : Settings) (layer : Layer) (streams : List (Stream R)) (answer : Answer) : Type 0 where
     pub columns : Columns
     pub said : List Said
@@ -146,5 +159,5 @@ module _ {R : Type 0} (remaining : R → Option (List ℕ)) where
     pub columned : AreColumnsBy settings.key (map (λ table. table.names) said) (map (λ table. table.names) said) columns
     pub says : AllZip (SaysRows settings columns) streams said
     pub spells : SpellsFirst settings columns streams said
-    pub overlaid : OverlaidIn layer settings.form columns (settings.keeps_order ≡ false) (map (λ table. table.rows) said) answer
+    pub overlaid : OverlaidIn layer (StylesFirst settings streams) settings.form columns (settings.keeps_order ≡ false) (map (λ table. table.rows) said) answer
     pub ordered : AreKnown settings streams → overlaid.keys ≡ noted_keys settings.keeps_order (flat_map (λ table. table.keys) said)

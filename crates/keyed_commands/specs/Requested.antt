@@ -34,7 +34,7 @@ use Rattle.keyed_requests.specs.declared.request.SortedRequest.TheVariants as so
 use Rattle.keyed_requests.specs.declared.request.Wanted.{Wanted}
 use Rattle.keyed_requests.specs.declared.request.Wanted.TheVariants as wanted
 use Rattle.keyed_commands.specs.AppliedTexts.{AppliesStreams, PartlyStreams}
-use Rattle.keyed_commands.specs.Beside.{DiffsStreamsBy}
+use Rattle.keyed_commands.specs.DiffOnly.{DiffsStreamsBy}
 use Rattle.keyed_commands.specs.JoinAnswers.{JoinsStreams}
 use Rattle.keyed_commands.specs.LookupAnswers.{LooksUpStreams}
 use Rattle.keyed_commands.specs.MergedTexts.{IsReported, MergesStreams}
@@ -77,7 +77,7 @@ module _ {F I : Type 0} (file_left : F → Option (List ℕ)) (input_left : I �
   module _ (settings : Settings) where
     abbrev AnswersDiff : Comparing → Stream (Either F I) → Stream (Either F I) → Answer → Type 0
     AnswersDiff how old new answer = (how.format ≡ Csv → DiffsStreamsBy remaining how.view.columns settings old new answer)
-        × (IsReport how.format → how.sameness ≡ None → ReportsStreams remaining how.view.columns settings old new answer)
+        × (IsReport how.format → how.sameness ≡ None → ReportsStreams remaining how settings old new answer)
 
     -- each command of the streams of its names, in their order; the first is read as the settings say, and a later one may have a byte
     -- between its cells of its own

@@ -9,12 +9,13 @@ use Rattle.keyed_files.specs.Reading.{parts_of, picked}
 use Rattle.keyed_files.specs.declared.opened.Two.{Two}
 use Rattle.keyed_files.specs.declared.parts.Parts.{Parts}
 use Rattle.keyed_rows.specs.declared.row.ReadRow.{ReadRow}
-use Rattle.keyed_tables.specs.Gathered.{alone}
 use Rattle.keyed_text.specs.Texts.{AreRows}
 use Rattle.keyed_commands.specs.Answers.{TableRows}
+use Rattle.keyed_commands.specs.FirstRows.{ReadsFirst, table_of}
 use Rattle.keyed_commands.specs.Keys.{IsAtMost}
 use Rattle.keyed_commands.specs.PartAnswers.{IsByKey, SaysOf, left_columns, on_later, right_columns}
 use Rattle.keyed_commands.specs.TablesRead.{Gathers, ReadsTable}
+use Rattle.keyed_commands.specs.Written.{PutsBeginning}
 use Rattle.keyed_commands.specs.declared.sorted.Part.{Part}
 use Rattle.keyed_commands.specs.declared.sorted.PartWritten.{PartWritten}
 use Rattle.keyed_commands.specs.declared.sorted.TwoParts.{TwoParts}
@@ -29,10 +30,6 @@ pub record IsLesser {K : Type 0} (cmp : K → K → Ordering) (left right key : 
   pub is_one : (key ≡ left) ⊎ (key ≡ right)
   pub none : IsNone key ↔ (IsNone left × IsNone right)
   pub least : IfSome key (λ k. IsAtMost cmp k left × IsAtMost cmp k right)
-
--- rows of which each is a group of its own
-abbrev pub table_of : List ReadRow → TableRows
-table_of rows = map alone (map parts_of rows)
 
 -- the keys of the rows that wait are strictly increasing, and no row was taken yet
 abbrev pub IsFresh : {R : Type 0} → Parts R → Type 0
@@ -108,6 +105,31 @@ module _ {R : Type 0} where
     WritesLater later mid new between after first whole = (work : Work) (start : TwoParts R) (before : Option (List ℕ)) → on_later work ≡ later → IsByKey work
         → HasWritten work start mid before between first → HasWritten work start new before after whole
 
+    -- what a work says of the next part
+    pub record SaysNext (work : Work) (old : TwoParts R) (text : List ℕ) : Type 0 where
+      pub new : TwoParts R
+      pub part : Part
+      pub reads : ReadsNext old new part
+      pub status : ℕ
+      pub says : SaysOf work part.left.pairs.items part.right.pairs.items text status
+
+    -- what a work says, as of tables, of rows of both tables that were taken since these stood at the start: of those up to a key, or of all
+    pub record SaysTaken (work : Work) (start : TwoParts R) (text : List ℕ) : Type 0 where
+      pub now : TwoParts R
+      pub left : List ReadRow
+      pub right : List ReadRow
+      pub left_taken : HasTaken start.left now.left left
+      pub right_taken : HasTaken start.right now.right right
+      pub cut : (IsSpent now.left × IsSpent now.right) ⊎ AreCut now left right
+      pub status : ℕ
+      pub says : SaysOf work (table_of left) (table_of right) text status
+
+    -- whatever was written of two tables since these stood at some start, with a beginning of what is said of the parts after that it is a
+    -- beginning of what is said of rows that both begin with
+    abbrev pub BeginsLater : Work → TwoParts R → Option (List ℕ) → Option (List ℕ) → PartWritten → List ℕ → Type 0
+    BeginsLater later mid between after first file = (work : Work) (start : TwoParts R) (before : Option (List ℕ)) → on_later work ≡ later → IsByKey work
+        → HasWritten work start mid before between first → PutsBeginning (SaysTaken work start) file before after
+
     -- a table is read to its end: of a text of which some records had been given, its rows are those of all others
     abbrev pub ReadsAll : Parts R → TableRows → Type 0
     ReadsAll start table = (rows : List ReadRow) × Gathers false rows table
@@ -133,3 +155,13 @@ module _ {R : Type 0} where
       pub text : List ℕ
       pub says : SaysOf work left right text status
       pub puts : Appends before after text
+
+    -- what a work says, as of tables, of the rows that two sources begin with: of all whose keys are within a bound
+    pub record SaysFirst (work : Work) (tables : Two R) (text : List ℕ) : Type 0 where
+      pub bound : Option (List (List ℕ))
+      pub left : List ReadRow
+      pub right : List ReadRow
+      pub left_read : ReadsFirst remaining (left_columns work) tables.first.source.value bound left
+      pub right_read : ReadsFirst remaining (right_columns work) tables.next.source.value bound right
+      pub status : ℕ
+      pub says : SaysOf work (table_of left) (table_of right) text status

@@ -82,8 +82,8 @@ fn is_compared(ignored: &Cells, before: &Cells, after: &Cells, name: &[u8]) -> b
     !has_name(ignored, name) || !(has_name(before, name) && has_name(after, name))
 }
 
-// Whether a name is one of others.
-fn has_name(names: &Cells, name: &[u8]) -> bool
+/// Whether a name is one of others.
+pub fn has_name(names: &Cells, name: &[u8]) -> bool
     ensures { result ≡ has_name names.now name.now }
 {
     names.iter().any(|other| name == other)

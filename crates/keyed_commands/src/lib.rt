@@ -20,6 +20,7 @@ mod job;
 mod laws;
 mod line_diff;
 mod lost_cells;
+mod made_changes;
 mod made_table;
 mod marks;
 mod output;
@@ -30,6 +31,7 @@ mod row_order;
 mod sorted;
 mod styles;
 mod turned;
+mod written;
 
 pub use answer::{Answer, Outcome};
 pub use commands::apply::apply;

@@ -12,8 +12,8 @@ use std::rt::Files;
 // The name of the standard output in faults.
 const OUTPUT: &str = "the standard output";
 
-/// Writes the answer to a command into a file, and returns the status, and the counts that are to be said beside it. Where the answer is a report of why there is none, it goes to the
-/// output, and the file stays as it was, as it does where the status alone is wanted.
+/// Writes the answer to a command into a file, and returns the status, and the counts that are to be said beside it. Where the answer is a
+/// report of why there is none, it goes to the output, and the file stays as it was, as it does where the status alone is wanted.
 ///
 /// The file has the whole answer or stands as it was, with the permissions that it had, and with its owner where the user may. It may be one
 /// of those that are read. A link is followed, also where the file that it leads to is not there yet. One that is no regular file, as a

@@ -1,7 +1,7 @@
 //! Tables whose keys strictly increase, compared and joined as they are read: part by part, so that memory does not grow with the tables.
 //!
 //! Where all rows of both tables up to a key are read, their join is the first part of the whole join (`law_cut_join` of `eob_joins`).
-ghost use Rattle.std.specs.Prelude.{◌≡◌, ◌==◌, ◌↔◌, ◌⊎◌, IfOk, IfSome, IsNone, List, false, is_none, length};
+ghost use Rattle.std.specs.Prelude.{◌≡◌, ◌==◌, ◌↔◌, ◌⊎◌, IfErr, IfOk, IfSome, IsNone, List, false, is_none, length};
 ghost use Rattle.std.specs.Prelude.{if◌then◌else◌, option_map, true};
 ghost use Rattle.keyed_requests.specs.declared.request.RowFormat.TheVariants.{Csv};
 ghost use Rattle.keyed_requests.specs.declared.request.SortedChanges.TheVariants as told;
@@ -13,11 +13,14 @@ ghost use Rattle.keyed_commands.specs.JoinAnswers.{IsJoinText};
 ghost use Rattle.keyed_commands.specs.Keys.{IsAtMost};
 ghost use Rattle.keyed_commands.specs.PartAnswers.{IsByKey, SaysChanges, SaysChangesIn, SaysOf};
 ghost use Rattle.keyed_commands.specs.PartAnswers.{left_columns, on_later, right_columns, status_both};
-ghost use Rattle.keyed_commands.specs.SortedParts.{HasWritten, IsFresh, IsLesser, ReadsNext, TakesPart};
+ghost use Rattle.keyed_commands.specs.SortedBegun.{DiffsStreamsBegun, JoinsStreamsBegun, DiffsFirst};
+ghost use Rattle.keyed_commands.specs.SortedParts.{BeginsLater, HasWritten, IsFresh, IsLesser, ReadsNext, TakesPart};
+ghost use Rattle.keyed_commands.specs.SortedParts.{SaysFirst, SaysNext, SaysTaken};
 ghost use Rattle.keyed_commands.specs.SortedParts.{WritesAll, WritesLater, WritesPart, WritesTables};
 ghost use Rattle.keyed_commands.specs.SortedParts.{bound_of};
 ghost use Rattle.keyed_commands.specs.SortedTexts.{DiffsInParts, DiffsStreamsInParts, JoinsStreamsInParts};
 ghost use Rattle.keyed_commands.specs.TablesRead.{Gathers};
+ghost use Rattle.keyed_commands.specs.Written.{PutsBeginning};
 
 use crate::by_number::changed_by_number;
 use crate::changes::write_changes;
@@ -25,6 +28,7 @@ use crate::commands::join::JoinForm;
 use crate::commands::join_json::write_join;
 use crate::finished::{Finished, SideCounts, StreamCounts};
 use crate::job::{Job, Table};
+use crate::written::put_on_output;
 use eob_joins::Change;
 use keyed_columns::{
     ColumnChanges, Columns, Content, JoinColumns, LoneColumns, Tolerances, names_among,
@@ -227,9 +231,12 @@ pub fn diff_sorted<'a, R: Read + Drop, W: Write>(
     new: Stream<'a, R>,
     output: &mut W,
 ) -> Result<Finished, Fault<'a>>
-    ensures { IfOk result (λ finished. how.entry ≡ told.Csv →
+    ensures whole { IfOk result (λ finished. how.entry ≡ told.Csv →
         DiffsStreamsInParts R.remaining layout.entry old.entry new.entry
         (W.contents output.old) (W.contents output.new) finished.status) }
+    ensures begun { IfErr result (λ fault. how.entry ≡ told.Csv →
+        DiffsStreamsBegun R.remaining layout.entry old.entry new.entry fault.file.now
+        (W.contents output.old) (W.contents output.new)) }
 {
     let mut versions = Two::new(alloc, layout.form, Content::Rows, old, new)?;
     versions.first.rename_key(alloc, layout.key)?;
@@ -249,8 +256,10 @@ fn diff_as_csv<'a, R: Read + Drop, W: Write>(
     versions: Two<'a, R>,
     output: &mut W,
 ) -> Result<Finished, Fault<'a>>
-    ensures { IfOk result (λ finished. DiffsInParts R.remaining layout.entry versions.entry
+    ensures whole { IfOk result (λ finished. DiffsInParts R.remaining layout.entry versions.entry
         (W.contents output.old) (W.contents output.new) finished.status) }
+    ensures begun { IfErr result (λ fault. PutsBeginning (DiffsFirst R.remaining layout.entry versions.entry)
+        fault.file.now (W.contents output.old) (W.contents output.new)) }
 {
     let marked = versions.marked_names(alloc)?;
     let columns = versions.change_columns(alloc, layout.key)?;
@@ -334,9 +343,12 @@ pub fn join_sorted<'a, R: Read + Drop, W: Write>(
     right: Stream<'a, R>,
     output: &mut W,
 ) -> Result<Finished, Fault<'a>>
-    ensures { IfOk result (λ finished. how.entry.format ≡ Csv →
+    ensures whole { IfOk result (λ finished. how.entry.format ≡ Csv →
         JoinsStreamsInParts R.remaining layout.entry how.entry left.entry right.entry
         (W.contents output.old) (W.contents output.new) finished.status) }
+    ensures begun { IfErr result (λ fault. how.entry.format ≡ Csv →
+        JoinsStreamsBegun R.remaining layout.entry how.entry left.entry right.entry fault.file.now
+        (W.contents output.old) (W.contents output.new)) }
 {
     let sides = Two::new(alloc, layout.form, Content::Rows, left, right)?;
     let columns = sides.join_columns(alloc, layout.key)?;
@@ -395,8 +407,10 @@ fn write_tables<'a, R: Read + Drop, W: Write>(
     tables: Two<'a, R>,
     output: &mut W,
 ) -> Result<Finished, Fault<'a>>
-    ensures { IfOk result (λ finished. IsByKey work.old → WritesTables R.remaining work.old tables.entry
+    ensures whole { IfOk result (λ finished. IsByKey work.old → WritesTables R.remaining work.old tables.entry
         (W.contents output.old) (W.contents output.new) finished.status) }
+    ensures begun { IfErr result (λ fault. IsByKey work.old → PutsBeginning (SaysFirst R.remaining work.old tables.entry)
+        fault.file.now (W.contents output.old) (W.contents output.new)) }
 {
     let (left_columns, right_columns) = work.columns();
     let left = Parts::new(alloc, tables.first, left_columns)?;
@@ -412,9 +426,12 @@ fn write_parts<'a, R: Read + Drop, W: Write>(
     tables: &mut TwoParts<'a, R>,
     output: &mut W,
 ) -> Result<Finished, Fault<'a>>
-    ensures { IfOk result (λ finished. IsByKey work.old → IsFresh tables.old.left → IsFresh tables.old.right
+    ensures whole { IfOk result (λ finished. IsByKey work.old → IsFresh tables.old.left → IsFresh tables.old.right
         → WritesAll R.remaining work.old tables.old
         (W.contents output.old) (W.contents output.new) finished.status) }
+    ensures begun { IfErr result (λ fault. IsByKey work.old → IsFresh tables.old.left → IsFresh tables.old.right
+        → PutsBeginning (SaysTaken R.remaining work.old tables.old) fault.file.now
+        (W.contents output.old) (W.contents output.new)) }
 {
     let first = write_part(alloc, work, tables, output)?;
     work.leave_header();
@@ -437,6 +454,8 @@ fn write_later<'a, R: Read + Drop, W: Write>(
     ensures last { IfOk result (λ whole. whole.is_last ≡ true) }
     ensures rest { IfOk result (WritesLater R.remaining work.now tables.old tables.new
         (W.contents output.old) (W.contents output.new) first) }
+    ensures begun { IfErr result (λ fault. BeginsLater R.remaining work.now tables.old
+        (W.contents output.old) (W.contents output.new) first fault.file.now) }
 {
     let mut whole = first;
     for _ in 0..u64::MAX {
@@ -460,13 +479,15 @@ fn write_part<'a, R: Read + Drop, W: Write>(
     tables: &mut TwoParts<'a, R>,
     output: &mut W,
 ) -> Result<PartWritten, Fault<'a>>
-    ensures { IfOk result (λ written. IsByKey work.now → WritesPart R.remaining work.now
+    ensures whole { IfOk result (λ written. IsByKey work.now → WritesPart R.remaining work.now
         tables.old tables.new (W.contents output.old) (W.contents output.new) written) }
+    ensures begun { IfErr result (λ fault. IsByKey work.now
+        → PutsBeginning (SaysNext R.remaining work.now tables.old) fault.file.now (W.contents output.old) (W.contents output.new)) }
 {
     let part = next_part(alloc, tables)?;
     let is_last = part.is_last;
     let answer = at(tables.right.file, work.answer(part))?;
-    at("the standard output", output.write_all(&answer.bytes))?;
+    put_on_output(output, &answer.bytes)?;
     Ok(PartWritten {
         status: answer.status,
         counts: answer.counts,

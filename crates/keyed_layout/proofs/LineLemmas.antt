@@ -1,5 +1,5 @@
 -- Cells that are shown in a line, one after another.
-use Rattle.std.proofs.Common.{◌≡◌, ◌∙◌, ◌++◌, ◌⊎◌, ℕ, Bool, true, false, List, [], ◌∷◌, None, Option, Some, ap, append-nil, append_assoc, arith, filter, inl, inr, length, map, refl, sym, zip, ⊎_elim}
+use Rattle.std.proofs.Common.{◌≡◌, ◌∙◌, ◌++◌, ◌⊎◌, ℕ, Bool, true, List, [], ◌∷◌, None, Option, Some, ap, append-nil, append_assoc, arith, filter, inl, inr, length, map, refl, sym, zip, ⊎_elim}
 use Rattle.std.specs.Borrow.{Bor}
 use Rattle.std.specs.Iterator.{YieldsFirstRef}
 use Rattle.std.specs.Iterator.Adapters.{zip_first, zip_second, zip_steps}
@@ -18,10 +18,7 @@ both_shown [] ys (t ∷ texts) others h k = absurd h
 both_shown (x ∷ xs) ys [] others h k = absurd h
 both_shown (x ∷ xs) ys (t ∷ texts) others h k = (h.0, both_shown xs ys texts others h.1 k)
 
--- no cell is put, and cells are put after others
-pub none-shown : (line : Line) → AppendsShown [] line line
-none-shown line = ([], tt, (sym (append-nil (texts_of line)), refl))
-
+-- cells are put after others
 pub shown-then : (xs ys : List (List ℕ)) (a b c : Line) → AppendsShown xs a b → AppendsShown ys b c → AppendsShown (xs ++ ys) a c
 shown-then xs ys a b c h k = (
   h.0 ++ k.0,
@@ -75,9 +72,6 @@ with_flag pairs = map (λ z. z.0) (filter (λ z. z.1) pairs)
 pub flag-set : (cell : List ℕ) (b : Bool) (pairs : List (List ℕ × Bool)) → b ≡ true → with_flag ((cell, b) ∷ pairs) ≡ cell ∷ with_flag pairs
 flag-set cell b pairs e = rw e refl
 
-pub flag-unset : (cell : List ℕ) (b : Bool) (pairs : List (List ℕ × Bool)) → b ≡ false → with_flag ((cell, b) ∷ pairs) ≡ with_flag pairs
-flag-unset cell b pairs e = rw e refl
-
 -- two cells of a row as one, after others
 both_named : (xs ys : List (Alike × (List ℕ × List ℕ))) (texts others : List (List ℕ)) → AllZip AreBothShown xs texts → AllZip AreBothShown ys others
     → AllZip AreBothShown (xs ++ ys) (texts ++ others)
@@ -85,9 +79,6 @@ both_named [] ys [] others h k = k
 both_named [] ys (t ∷ texts) others h k = absurd h
 both_named (x ∷ xs) ys [] others h k = absurd h
 both_named (x ∷ xs) ys (t ∷ texts) others h k = (h.0, both_named xs ys texts others h.1 k)
-
-pub none-both : (line : Line) → AppendsBoth [] line line
-none-both line = ([], tt, (sym (append-nil (texts_of line)), refl))
 
 pub both-then : (xs ys : List (Alike × (List ℕ × List ℕ))) (a b c : Line) → AppendsBoth xs a b → AppendsBoth ys b c → AppendsBoth (xs ++ ys) a c
 both-then xs ys a b c h k = (
@@ -147,7 +138,3 @@ both_with_flag pairs = map (λ z. (z.1.0, z.0)) (filter (λ z. z.1.1) pairs)
 pub both-flag-set : (cells : List ℕ × List ℕ) (alike : Alike) (b : Bool) (pairs : List ((List ℕ × List ℕ) × (Alike × Bool))) → b ≡ true
     → both_with_flag ((cells, (alike, b)) ∷ pairs) ≡ (alike, cells) ∷ both_with_flag pairs
 both-flag-set cells alike b pairs e = rw e refl
-
-pub both-flag-unset : (cells : List ℕ × List ℕ) (alike : Alike) (b : Bool) (pairs : List ((List ℕ × List ℕ) × (Alike × Bool))) → b ≡ false
-    → both_with_flag ((cells, (alike, b)) ∷ pairs) ≡ both_with_flag pairs
-both-flag-unset cells alike b pairs e = rw e refl

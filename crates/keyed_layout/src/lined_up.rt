@@ -330,7 +330,8 @@ fn put_line(text: &mut String, line: &Line, widths: &[usize]) -> Result<(), Allo
 
 // Puts the cells of a line. The gap before a cell is put with it, so that none stands after the last one.
 fn put_cells(text: &mut String, line: &Line, widths: &[usize]) -> Result<(), AllocError>
-    ensures { OnOk result (Puts (AreSpaced (texts_of line.now)) (string_bytes text.old) (string_bytes text.new)) }
+    ensures { OnOk result
+        (Puts (AreSpaced (texts_of line.now)) (string_bytes text.old) (string_bytes text.new)) }
 {
     let mut widths = widths.iter();
     let mut gap: usize = 0;

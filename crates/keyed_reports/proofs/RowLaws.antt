@@ -9,7 +9,7 @@ use Rattle.std.specs.Option.{option_map, option_zip}
 use Rattle.either_or_both.specs.Prelude.{map_places}
 use Rattle.eob_both.specs.declared.either_or_both.EitherOrBoth.{EitherOrBoth}
 use Rattle.eob_both.specs.declared.either_or_both.EitherOrBoth.TheVariants.{Left, Both, Right}
-use Rattle.keyed_reports.specs.RowChanges.{LoneCountLaw, OneRowEachLaw, PairsLaw, ToldDiffersLaw, changed_or_each, count_of, differs, each_of, is_lone, lone, only, rows_of_key, told}
+use Rattle.keyed_reports.specs.RowChanges.{LoneCountLaw, OneRowEachLaw, PairsLaw, ToldDiffersLaw, changed_or_each, count_of, differs, each_of, is_lone, lone, only, rows_of_key}
 use Rattle.keyed_reports.proofs.RowLemmas.{count_more, lone_all, lone_more}
 
 single_by : (b : Bool) → 0 + cond b 1 0 ≡ cond b 1 0

@@ -1,11 +1,18 @@
 -- Lines of rows that changed, one after another.
-use Rattle.std.proofs.Common.{◌≡◌, ◌∙◌, ◌+◌, ◌<◌, ◌++◌, ℕ, List, [], ◌∷◌, ap, get_or, length, map, refl, subst, sym, take}
+use Rattle.std.proofs.Common.{◌≡◌, ◌∙◌, ◌+◌, ◌<◌, ◌++◌, ℕ, Bool, false, List, [], ◌∷◌, None, Some, ap, get_or, length, map, option_map, refl, subst, sym, take, true≢false}
+use Rattle.std.specs.Prelude.{◌==◌}
+use Rattle.std.specs.Borrow.{Bor}
 use Rattle.std.specs.List.{AllZip}
 use Rattle.std.proofs.lemmas.List.{map-append, take_more}
-use Rattle.either_or_both.specs.Prelude.{map_places}
+use Rattle.either_or_both.specs.Prelude.{left_place, map_places, right_place}
 use Rattle.eob_both.specs.declared.either_or_both.EitherOrBoth.{EitherOrBoth}
 use Rattle.eob_both.specs.declared.either_or_both.EitherOrBoth.TheVariants.{Left, Both, Right}
-use Rattle.keyed_reports.specs.RowChanges.{word_of}
+use Rattle.keyed_columns.specs.declared.columns.Columns.{Columns}
+use Rattle.keyed_layout.specs.Lines.{AreLinedUp}
+use Rattle.keyed_layout.specs.declared.lined_up.Line.{Line}
+use Rattle.keyed_numbers.specs.declared.alike.Alike.{Alike}
+use Rattle.keyed_reports.specs.RowChanges.{row_behind, word_of}
+use Rattle.keyed_reports.specs.TableLines.{AreLinesOf, IsTextOfRows, versions_of}
 
 -- the word of a row is that of what stands behind its references
 pub word-behind : {R S : Type 0} (f : R → S) (change : EitherOrBoth R R) → word_of (map_places f f change) ≡ word_of change
@@ -27,3 +34,19 @@ module _ {A L : Type 0} (holds : A → L → Type 0) where
       let more : take (i + 1) xs ≡ take i xs ++ x ∷ [] = take_more xs i x h ∙ ap (λ y. take i xs ++ y ∷ []) (sym at) in
       subst (λ l. AllZip holds l (lines ++ line ∷ [])) (sym (ap (map f) more ∙ map-append f (take i xs) (x ∷ [])))
       (one_more (map f (take i xs)) lines (f x) line all one)
+
+-- the text of rows is that of their lines where there is one
+pub some-text : {X : Type 0} (f : X → List (List ℕ) × EitherOrBoth (List (List ℕ)) (List (List ℕ))) (alikes : List Alike) (shown : List Bool) (columns : Columns)
+    (xs : List X) (text : List ℕ) → (length xs == 0) ≡ false
+    → (grid : List Line) × AreLinesOf alikes shown columns (map f xs) grid × AreLinedUp grid text → IsTextOfRows alikes shown columns (map f xs) text
+some-text f alikes shown columns [] text e h = absurd (true≢false e)
+some-text f alikes shown columns (x ∷ xs) text e h = h
+
+-- the versions of a row are those behind its references
+pub versions-behind : (rows : List (Bor (List (List ℕ)) × EitherOrBoth (Bor (List (List ℕ))) (Bor (List (List ℕ)))))
+    → map (λ row. (option_map (λ cells. cells.now) (left_place row.1), option_map (λ cells. cells.now) (right_place row.1))) rows
+    ≡ map versions_of (map row_behind rows)
+versions-behind [] = refl
+versions-behind ((key, Left old) ∷ rows) = ap (λ l. (Some old.now, None) ∷ l) (versions-behind rows)
+versions-behind ((key, Both old new) ∷ rows) = ap (λ l. (Some old.now, Some new.now) ∷ l) (versions-behind rows)
+versions-behind ((key, Right new) ∷ rows) = ap (λ l. (None, Some new.now) ∷ l) (versions-behind rows)

@@ -1,14 +1,21 @@
 -- The lines of a table that tells a person which rows changed.
-use Rattle.std.specs.Prelude.{◌≡◌, ◌++◌, ℕ, Bool, List, [], ◌∷◌}
+use Rattle.std.specs.Prelude.{◌≡◌, ◌++◌, ℕ, Bool, List, [], ◌∷◌, None, length, map, ⊤}
 use Rattle.std.specs.List.{AllZip}
 use Rattle.eob_both.specs.declared.either_or_both.EitherOrBoth.{EitherOrBoth}
+use Rattle.either_or_both.specs.Prelude.{left_place, right_place}
 use Rattle.eob_both.specs.declared.either_or_both.EitherOrBoth.TheVariants.{Left, Both, Right}
 use Rattle.keyed_columns.specs.declared.columns.Columns.{Columns}
 use Rattle.keyed_faults.specs.ShownCells.{IsShownCell}
-use Rattle.keyed_layout.specs.Lines.{AreBothShown, IsLineOf, picked_cells, picked_pairs, texts_of}
+use Rattle.keyed_layout.specs.Lines.{AreBothShown, AreLinedUp, IsLineOf, picked_cells, picked_pairs, texts_of}
 use Rattle.keyed_layout.specs.declared.lined_up.Line.{Line}
 use Rattle.keyed_numbers.specs.declared.alike.Alike.{Alike}
 use Rattle.keyed_reports.specs.RowChanges.{word_of}
+use Rattle.keyed_reports.specs.ShownColumns.{Versions, columns_shown}
+use Rattle.keyed_requests.specs.declared.request.Look.{Look}
+use Rattle.keyed_requests.specs.declared.request.Look.TheVariants.{Html, Json, Markdown, Table}
+use Rattle.keyed_requests.specs.declared.request.RowsShown.{RowsShown}
+use Rattle.keyed_requests.specs.declared.request.RowsShown.TheVariants.{All, First, Nothing}
+use Rattle.keyed_requests.specs.declared.request.View.{View}
 
 module _ (alikes : List Alike) (shown : List Bool) where
   -- the cells of the columns that are shown: of a row that came or went as they are, and of one that changed both, where they differ
@@ -26,3 +33,35 @@ module _ (alikes : List Alike) (shown : List Bool) where
   abbrev pub AreLinesOf : Columns → List (List (List ℕ) × EitherOrBoth (List (List ℕ)) (List (List ℕ))) → List Line → Type 0
   AreLinesOf columns rows grid = (heading : Line) × (lines : List Line) × (grid ≡ heading ∷ lines)
       × IsLineOf [] (columns.key ++ picked_cells shown columns.rest) heading × AllZip IsLineOfRow rows lines
+
+  -- the text of these lines, lined up; none where there is no row
+  abbrev pub IsTextOfRows : Columns → List (List (List ℕ) × EitherOrBoth (List (List ℕ)) (List (List ℕ))) → List ℕ → Type 0
+  IsTextOfRows columns [] text = text ≡ []
+  IsTextOfRows columns (row ∷ rows) text = (grid : List Line) × AreLinesOf columns (row ∷ rows) grid × AreLinedUp grid text
+
+  -- a text has them between what is said of columns and the counts
+  abbrev pub HasTextOfRows : Columns → List (List (List ℕ) × EitherOrBoth (List (List ℕ)) (List (List ℕ))) → List ℕ → Type 0
+  HasTextOfRows columns rows text = (before : List ℕ) × (lines : List ℕ) × (after : List ℕ) × IsTextOfRows columns rows lines
+      × (text ≡ before ++ (lines ++ after))
+
+-- the versions of a row that changed
+abbrev pub versions_of : List (List ℕ) × EitherOrBoth (List (List ℕ)) (List (List ℕ)) → Versions
+versions_of row = (left_place row.1, right_place row.1)
+
+-- a table of rows that changed has a line for each, in their order, with the cells of the columns that are shown
+abbrev pub IsTable : View → List Alike → Columns → List (List (List ℕ) × EitherOrBoth (List (List ℕ)) (List (List ℕ))) → List ℕ → Type 0
+IsTable view alikes columns rows text =
+    HasTextOfRows alikes (columns_shown view.shown alikes (length columns.rest) (map versions_of rows)) columns rows text
+
+-- rows are shown, and not how many there are alone
+abbrev pub TellsRows : RowsShown → Type 0
+TellsRows All = ⊤
+TellsRows (First most) = ⊤
+TellsRows Nothing = ⊥
+
+-- they are told as a table on lines of any length
+abbrev pub TellsTable : Look → View → Type 0
+TellsTable (Table colours) view = TellsRows view.rows × (view.width ≡ None)
+TellsTable Json view = ⊥
+TellsTable Markdown view = ⊥
+TellsTable Html view = ⊥

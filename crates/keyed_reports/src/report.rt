@@ -1,6 +1,8 @@
 //! What there is to say of two tables, and the form in which it is said.
-ghost use Rattle.std.specs.Prelude.{◌≡◌, ◌-◌, length};
+ghost use Rattle.std.specs.Prelude.{◌≡◌, ◌-◌, IfOk, length, map};
+ghost use Rattle.keyed_reports.specs.RowChanges.{row_behind};
 ghost use Rattle.keyed_reports.specs.Shown.{count_more, shown_rows};
+ghost use Rattle.keyed_reports.specs.TableLines.{IsTable, TellsTable};
 
 use crate::changed_rows::RowChange;
 use crate::column_counts::column_counts;
@@ -47,6 +49,8 @@ impl<'r> Report<'r> {
         old_rows: usize,
         rows: &'r [RowChange<'r>],
     ) -> Self
+        ensures columns { result.columns.now ≡ columns.now }
+        ensures alikes { result.alikes.now ≡ alikes.now }
         ensures all { result.all.now ≡ rows.now }
         ensures view { result.view ≡ view.entry }
         ensures rows { result.rows.now ≡ shown_rows view.entry.rows rows.now }
@@ -93,7 +97,10 @@ fn count_more(which: RowsShown, all: usize) -> usize
 /// # Errors
 ///
 /// Returns `AllocError` if a request for memory was refused.
-pub fn write_report(alloc: Global, look: Look, report: &Report<'_>) -> Result<Vec<u8>, AllocError> {
+pub fn write_report(alloc: Global, look: Look, report: &Report<'_>) -> Result<Vec<u8>, AllocError>
+    ensures { IfOk result (λ text. TellsTable look report.now.view → IsTable report.now.view
+        report.now.alikes.now report.now.columns.now (map row_behind report.now.rows.now) text.items) }
+{
     match report.view.rows {
         RowsShown::Nothing => write_summary(alloc, look, report),
         RowsShown::All | RowsShown::First(_) => write_rows(alloc, look, report),
@@ -101,9 +108,15 @@ pub fn write_report(alloc: Global, look: Look, report: &Report<'_>) -> Result<Ve
 }
 
 // The report with its rows.
-fn write_rows(alloc: Global, look: Look, report: &Report<'_>) -> Result<Vec<u8>, AllocError> {
+fn write_rows(alloc: Global, look: Look, report: &Report<'_>) -> Result<Vec<u8>, AllocError>
+    ensures { IfOk result (λ text. TellsTable look report.now.view → IsTable report.now.view
+        report.now.alikes.now report.now.columns.now (map row_behind report.now.rows.now) text.items) }
+{
     match look {
-        Look::Table { colours } => Ok(table(alloc, colours, report)?.into_bytes()),
+        Look::Table { colours } => {
+            let text = table(alloc, colours, report)?;
+            Ok(text.into_bytes())
+        }
         Look::Markdown => markdown(alloc, report),
         Look::Html => html(alloc, report),
         Look::Json => {

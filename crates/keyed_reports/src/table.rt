@@ -1,10 +1,11 @@
 //! What changed between two tables, as a table on a terminal.
-ghost use Rattle.std.specs.Prelude.{◌≡◌, ◌++◌, ◌∷◌, [], ℕ, IfOk, List, OnOk, map, string_bytes};
+ghost use Rattle.std.specs.Prelude.{◌≡◌, ◌++◌, ◌∷◌, [], ℕ, IfOk, List, None, OnOk, length, map, string_bytes};
 ghost use Rattle.either_or_both.specs.Prelude.{map_places};
 ghost use Rattle.keyed_layout.specs.Lines.{AreLinedUp, texts_of};
 ghost use Rattle.keyed_layout.specs.declared.lined_up.Line.{Line};
 ghost use Rattle.keyed_reports.specs.RowChanges.{row_behind};
-ghost use Rattle.keyed_reports.specs.TableLines.{AreCells, AreLinesOf, IsLineOfRow};
+ghost use Rattle.keyed_reports.specs.TableLines.{AreCells, AreLinesOf, HasTextOfRows, IsLineOfRow, IsTable};
+ghost use Rattle.keyed_reports.specs.TableLines.{IsTextOfRows};
 
 use crate::blocks::{blocks, lead_of};
 use crate::changed_rows::{RowChange, word_of};
@@ -28,7 +29,10 @@ use std::fmt::Write;
 /// # Errors
 ///
 /// Returns `AllocError` if a request for memory was refused.
-pub fn table(alloc: Global, colours: Colours, report: &Report<'_>) -> Result<String, AllocError> {
+pub fn table(alloc: Global, colours: Colours, report: &Report<'_>) -> Result<String, AllocError>
+    ensures { IfOk result (λ text. report.now.view.width ≡ None → IsTable report.now.view
+        report.now.alikes.now report.now.columns.now (map row_behind report.now.rows.now) (string_bytes text)) }
+{
     let before = format!(in alloc; "{}", report.column_changes)?;
     let shown = columns_of(alloc, report)?;
     let rows = render_rows(alloc, colours, report, &shown)?;
@@ -65,7 +69,10 @@ fn render_rows(
     colours: Colours,
     report: &Report<'_>,
     shown: &[bool],
-) -> Result<String, AllocError> {
+) -> Result<String, AllocError>
+    ensures { IfOk result (λ text. report.now.view.width ≡ None → IsTextOfRows report.now.alikes.now
+        shown.now report.now.columns.now (map row_behind report.now.rows.now) (string_bytes text)) }
+{
     if report.rows.is_empty() {
         return Ok(String::new(alloc));
     }

@@ -1,6 +1,7 @@
 pub mod ArrangeLemmas
 pub mod CellRowLemmas
 pub mod ClimbLemmas
+pub mod CompletedLemmas
 pub mod GatherLemmas
 pub mod KeyLemmas
 pub mod OrderLemmas

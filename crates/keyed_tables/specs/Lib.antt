@@ -1,4 +1,5 @@
 pub mod Arranged
+pub mod Completed
 pub mod Gathered
 pub mod Laid
 pub mod Placed

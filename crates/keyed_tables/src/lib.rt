@@ -5,6 +5,7 @@
 #![tactic(auto)]
 
 mod by_cell;
+mod complete;
 mod gather;
 mod marked;
 mod order;
@@ -14,6 +15,7 @@ mod placed;
 mod table;
 mod versions;
 
+pub use complete::{ToChange, completed};
 pub use gather::{grouped_rows, unique_rows};
 pub use marked::{marked_merge_by_cell_of, marked_merge_of};
 pub use order::Order;

@@ -4,3 +4,5 @@ pub mod QuoteLemmas
 pub mod SpellingLemmas
 pub mod WriteLemmas
 pub mod ReadLemmas
+pub mod StyleLemmas
+pub mod HeadLemmas

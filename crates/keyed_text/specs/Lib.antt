@@ -3,3 +3,4 @@ pub mod Laws
 pub mod Streams
 pub mod Quotes
 pub mod Spelling
+pub mod TextStyles

@@ -1,12 +1,13 @@
-//! How a text is spelled, as it is noted of its bytes on their way to a reader: its style, and the rows that are spelled in another way.
+//! How a text is spelled whose style is known, as it is noted of its bytes on their way to a reader: the rows that are spelled in another
+//! way, and whether its last line has an end.
 use crate::quotes::Marks;
 use crate::spelled_cells::{SpelledCells, begins_blank};
 use crate::style::{CellQuotes, LineEnd, MARK, Style};
 use memchr::{memchr_iter, memchr2};
 use std::alloc::{AllocError, Global};
 
-/// What is noted of a text up to the byte that was read last: the style that it has by its first row, and the text of each row that is not
-/// written in that style.
+/// What is noted of a text up to the byte that was read last: the text of each row that is not written in its style, and whether the last
+/// line has an end.
 #[derive(Drop)]
 pub struct TextNotes {
     alloc: Global,
@@ -14,8 +15,8 @@ pub struct TextNotes {
     // How many lines are still to be passed over.
     skipped: u64,
     style: Style,
-    // How far the style is known.
-    known: Known,
+    // How far it was read.
+    read: Read,
     // The line that is being read, as far as a part of the text had it.
     line: Vec<u8>,
     // The blank lines before the next row, and the lines of that row which were read, in which a cell goes on where it is open.
@@ -26,23 +27,24 @@ pub struct TextNotes {
     begins_uneven: bool,
 }
 
-// How far the style of a text is known: nothing was read, or a line, or a whole row.
+// How far a text was read: nothing of it, or a line, or a whole row.
 #[derive(Clone, Copy, PartialEq, Eq)]
-enum Known {
+enum Read {
     Nothing,
     Line,
     Row,
 }
 
 impl TextNotes {
-    /// Returns the notes of a text of which nothing is read yet, with these bytes between its cells, and so many lines before the first row.
-    pub fn new(alloc: Global, marks: Marks, skipped: u64) -> Self {
+    /// Returns the notes of a text in this style of which nothing is read yet, with these bytes between its cells, and so many lines before
+    /// the first row.
+    pub fn new(alloc: Global, marks: Marks, skipped: u64, style: Style) -> Self {
         TextNotes {
             alloc,
             marks,
             skipped,
-            style: Style::PLAIN,
-            known: Known::Nothing,
+            style,
+            read: Read::Nothing,
             line: Vec::new(alloc),
             row: Vec::new(alloc),
             is_open: false,
@@ -51,10 +53,9 @@ impl TextNotes {
         }
     }
 
-    /// Returns the style of the text: whether it begins with a byte order mark, whether its first row has quotes around each cell, how its
-    /// first line ends, and whether its last one has an end.
-    pub fn style(&self) -> Style {
-        self.style
+    /// Returns whether the last line has an end, as far as the text is read.
+    pub fn has_end(&self) -> bool {
+        self.style.has_end
     }
 
     /// Returns the bytes that part the text.
@@ -107,7 +108,7 @@ impl TextNotes {
 
     // Whether nothing but a byte order mark was read, which is no line.
     fn is_mark_alone(&self) -> bool {
-        self.known == Known::Nothing && self.row.is_empty() && self.line.as_slice() == MARK
+        self.read == Read::Nothing && self.row.is_empty() && self.line.as_slice() == MARK
     }
 
     // Takes the bytes up to the end of a line, after those of the line that were taken.
@@ -124,7 +125,7 @@ impl TextNotes {
     fn take_line(&mut self, line: &[u8]) -> Result<(), AllocError> {
         let line = self.without_mark(line);
         if self.is_passed_over(line) {
-            self.note_end(line);
+            self.note_line();
             return Ok(());
         }
         if self.is_even_at_once(line) {
@@ -137,7 +138,7 @@ impl TextNotes {
         if self.is_open {
             return Ok(());
         }
-        self.note_end(line);
+        self.note_line();
         if begins_blank(line) {
             Ok(())
         } else {
@@ -145,30 +146,19 @@ impl TextNotes {
         }
     }
 
-    // Notes how the first line ends.
-    fn note_end(&mut self, line: &[u8]) {
-        if self.known == Known::Nothing {
-            self.style.line_end = if line.ends_with(b"\r\n") {
-                LineEnd::CrLf
-            } else {
-                LineEnd::Lf
-            };
-            self.known = Known::Line;
+    // Notes that a line is read.
+    fn note_line(&mut self) {
+        if self.read == Read::Nothing {
+            self.read = Read::Line;
         }
     }
 
     // A line without the byte order mark of the text.
-    fn without_mark<'l>(&mut self, line: &'l [u8]) -> &'l [u8] {
-        if self.known != Known::Nothing || !self.row.is_empty() {
+    fn without_mark<'l>(&self, line: &'l [u8]) -> &'l [u8] {
+        if self.read != Read::Nothing || !self.row.is_empty() {
             return line;
         }
-        match line.strip_prefix(MARK) {
-            Some(rest) => {
-                self.style.has_mark = true;
-                rest
-            }
-            None => line,
-        }
+        line.strip_prefix(MARK).unwrap_or(line)
     }
 
     // Whether a line is passed over.
@@ -184,7 +174,7 @@ impl TextNotes {
     // Whether a line is a row in the style of the text, as one sees of those with no quote, and with no CR but that of their end. Others are
     // looked at cell by cell.
     fn is_even_at_once(&self, line: &[u8]) -> bool {
-        if self.known != Known::Row || !self.row.is_empty() || begins_blank(line) {
+        if self.read != Read::Row || !self.row.is_empty() || begins_blank(line) {
             return false;
         }
         let found = memchr2(b'"', b'\r', line);
@@ -205,11 +195,8 @@ impl TextNotes {
 
     // Keeps a row that is read, with the blank lines before it, unless it is written in the style of the text.
     fn end_row(&mut self) -> Result<(), AllocError> {
-        let is_first = self.known != Known::Row;
-        if is_first {
-            self.style.quotes = quotes_of(self.marks, &self.row);
-            self.known = Known::Row;
-        }
+        let is_first = self.read != Read::Row;
+        self.read = Read::Row;
         if !self.is_even() {
             self.begins_uneven = self.begins_uneven || is_first;
             self.uneven.extend_from_slice(&self.row)?;
@@ -233,17 +220,4 @@ impl TextNotes {
         let end = cells.rest();
         !begins_blank(&self.row) && (end.is_empty() || end == self.style.line_end.bytes())
     }
-}
-
-// Quotes everywhere, where each cell of a row has them.
-fn quotes_of(marks: Marks, row: &[u8]) -> CellQuotes {
-    let mut cells = SpelledCells::new(marks, row);
-    for _ in 0..u64::MAX {
-        match cells.next_cell() {
-            Some(cell) if cell.is_quoted => {}
-            Some(_) => return CellQuotes::WhereNeeded,
-            None => break,
-        }
-    }
-    CellQuotes::Everywhere
 }

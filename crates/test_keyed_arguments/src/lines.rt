@@ -219,13 +219,17 @@ impl Picker {
         }
     }
 
-    // Changes as CSV, of all columns or without some.
-    fn changes(&mut self, groups: bool) -> Comparing<'static> {
-        let columns = if groups || self.coin() {
-            Picked::All
-        } else {
-            Picked::AllBut(self.text(&NAMES))
-        };
+    // The columns of changes as CSV: all, or without groups also all but some, and where a header names them some alone.
+    fn columns_changed(&mut self, groups: bool, has_header: bool) -> Picked<'static> {
+        match self.picked() {
+            _ if groups => Picked::All,
+            Picked::Only(_) if !has_header => Picked::All,
+            columns => columns,
+        }
+    }
+
+    // Changes of these columns as CSV.
+    fn changes(&mut self, columns: Picked<'static>) -> Comparing<'static> {
         Comparing {
             format: Format::Csv,
             view: View {
@@ -240,17 +244,18 @@ impl Picker {
     fn diff(&mut self) -> Command<'static> {
         let (old, new) = (self.text(&FILES), self.text(&FILES));
         let groups = self.coin();
+        let (delimiter, next) = (self.delimiter(), self.delimiter());
+        let form = self.form(delimiter, next);
         let how = if self.coin() {
             self.report(groups)
         } else {
-            self.changes(groups)
+            let columns = self.columns_changed(groups, form.has_header);
+            self.changes(columns)
         };
         let look = match how.format {
             Format::Report(Look::Table { .. }) | Format::Csv => Look::PLAIN,
             Format::Report(look) => look,
         };
-        let (delimiter, next) = (self.delimiter(), self.delimiter());
-        let form = self.form(delimiter, next);
         let has_csv = matches!(how.format, Format::Csv);
         Command::Whole {
             settings: self.settings(self.with_heading(form, has_csv), look, groups),
@@ -265,7 +270,7 @@ impl Picker {
         let how = if self.coin() {
             self.report(true)
         } else {
-            self.changes(true)
+            self.changes(Picked::All)
         };
         let look = match how.format {
             Format::Report(Look::Table { .. }) | Format::Csv => Look::PLAIN,

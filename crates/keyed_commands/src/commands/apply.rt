@@ -2,15 +2,17 @@
 ghost use Rattle.std.specs.Prelude.{◌≡◌, ◌↔◌, IfOk, IsTrue, MatchBool, is_none, option_map};
 ghost use Rattle.either_or_both.specs.Prelude.{left_place, right_place};
 ghost use Rattle.keyed_tables.specs.Arranged.{noted};
-ghost use Rattle.keyed_commands.specs.AppliedTexts.{AppliesSources, AppliesStreams, watched_left};
+ghost use Rattle.keyed_commands.specs.AppliedTexts.{AnswersApplied, AppliesSources, AppliesStreams};
+ghost use Rattle.keyed_commands.specs.AppliedTexts.{watched_left};
 ghost use Rattle.keyed_commands.specs.Answers.{AllFit, AnswersPatched, Stops, fits_place, key_cmp, rows_eq};
+ghost use Rattle.keyed_commands.specs.MadeChanges.{made_with};
 ghost use Rattle.keyed_commands.specs.Turned.{changes_in};
 
 use crate::answer::{Answer, stopped};
 use crate::job::{Changes, Job, Table};
+use crate::made_changes::{made_changes, missing_columns};
 use crate::made_table::answer_of_rows;
-use crate::styles::{Noting, Watched, spelling_of, style_under, watch};
-use crate::turned::changes_in;
+use crate::styles::{Watched, spelling_of, style_under, unwatched, watch};
 use either_or_both::EitherOrBoth;
 use either_or_both::join::{outer_join, outer_join_slices};
 use eob_joins::Change;
@@ -21,6 +23,7 @@ use keyed_reports::{Stopped, Version, write_stopped};
 use keyed_requests::{Direction, Settings};
 use keyed_rows::{Group, Key};
 use keyed_tables::patched;
+use keyed_text::Style;
 use std::alloc::{AllocError, Global};
 use std::io::Read;
 
@@ -40,47 +43,59 @@ pub fn apply<'a, R: Read + Drop>(
 ) -> Result<Answer, Fault<'a>>
     ensures { IfOk result (AppliesStreams R.remaining settings.entry direction old.entry changes.entry) }
 {
-    let old = watch(alloc, settings.form, Noting::Noted, old);
-    let changes = watch(alloc, settings.form, Noting::Unnoted, changes);
+    let watched = watch(alloc, settings.form, old)?;
+    let (old, first_style) = watched;
+    let changes = unwatched(alloc, changes);
     let mut inputs = Two::new(alloc, settings.form, Content::Changes, old, changes)?;
     inputs.first.rename(alloc, settings)?;
     inputs.next.turn(direction);
     let columns = inputs.changed_columns(alloc, settings.key)?;
-    apply_files(Job::new(alloc, settings, &columns), direction, &mut inputs)
+    apply_files(
+        Job::new(alloc, settings, &columns),
+        first_style,
+        direction,
+        &mut inputs,
+    )
 }
 
 fn apply_files<'a, R: Read + Drop>(
     mut job: Job<'_, Columns>,
+    first_style: Style,
     direction: Direction,
     inputs: &mut Two<'a, Watched<R>>,
 ) -> Result<Answer, Fault<'a>>
-    ensures { IfOk result (AppliesSources (watched_left R.remaining) job.entry direction inputs.old) }
+    ensures { IfOk result
+        (AppliesSources (watched_left R.remaining) job.entry first_style direction inputs.old) }
 {
+    let (before, after) = (inputs.first.header(), inputs.next.header());
+    let missing = missing_columns(job.alloc, before, after, &job.columns.rest);
+    let missing = at(inputs.next.file, missing)?;
     let tables = job.read_to_change(inputs)?;
     let (old, changes) = tables;
-    let noted = inputs.first.source.get_ref().style();
-    let style = style_under(job.form.writing.heading, noted);
+    let has_end = inputs.first.source.get_ref().has_end();
+    let style = style_under(job.form.writing.heading, first_style, has_end);
     let spelling = spelling_of(&job, &inputs.first)?;
     let job = job.in_style(style, spelling);
-    at(inputs.next.file, apply_in(&job, direction, old, changes))
+    at(
+        inputs.next.file,
+        apply_in(&job, missing, direction, old, changes),
+    )
 }
 
-// The answer to `apply` in a direction.
+// The answer to `apply` in a direction, of changes that are missing these columns.
 fn apply_in(
     job: &Job<'_, Columns>,
+    missing: Option<Vec<bool>>,
     direction: Direction,
     old: Table,
     changes: Changes,
 ) -> Result<Answer, Reason>
-    ensures fits { IfOk result (λ answer.
-        AllFit key_cmp old.pairs.items (changes_in direction changes.pairs.items)
-        → AnswersPatched job.now.form job.now.columns.now (noted job.now.order)
-        (is_none job.now.row_order.files) old.pairs.items (changes_in direction changes.pairs.items) answer) }
-    ensures misfits { IfOk result (λ answer.
-        (AllFit key_cmp old.pairs.items (changes_in direction changes.pairs.items) → ⊥) → Stops answer) }
+    ensures { IfOk result (AnswersApplied job.now.form job.now.columns.now (noted job.now.order)
+        (is_none job.now.row_order.files) old.pairs.items (made_with
+        (option_map (λ are. are.items) missing) old.pairs.items (changes_in direction changes.pairs.items))) }
 {
-    let changes = changes_in(job.alloc, direction, changes)?;
-    let answer = apply_tables(job, old, changes)?;
+    let made = made_changes(job.alloc, missing, direction, old, changes)?;
+    let answer = apply_tables(job, made.old, made.changes)?;
     Ok(answer)
 }
 

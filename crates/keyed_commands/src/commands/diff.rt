@@ -2,15 +2,20 @@
 //!
 //! Like each command it has three steps: the headers are read, then the rows under their columns, and then the tables are answered.
 ghost use Rattle.std.specs.Prelude.{◌≡◌, ◌↔◌, ◌==◌, ◌&&◌, IfOk, None, is_none, length, not};
-ghost use Rattle.keyed_requests.specs.declared.request.Format.TheVariants.{Csv};
-ghost use Rattle.keyed_columns.specs.Keys.{AreChangeColumns};
+ghost use Rattle.keyed_reports.specs.TableLines.{TellsTable};
+ghost use Rattle.keyed_requests.specs.declared.request.Format.TheVariants as format;
+ghost use Rattle.keyed_columns.specs.ChangedColumns.{marked_columns};
+ghost use Rattle.keyed_columns.specs.Keys.{AreChangeColumns, ArePickedColumns};
+ghost use Rattle.keyed_columns.specs.declared.columns.Columns.{Columns};
 ghost use Rattle.keyed_files.specs.Opening.{first_header, headers_of, next_header};
 ghost use Rattle.keyed_tables.specs.Arranged.{noted};
 ghost use Rattle.keyed_commands.specs.Answers.{ChangesComeOut, IsDiffStatus, IsDiffText, columns_differ};
 ghost use Rattle.keyed_commands.specs.Answers.{status_of};
-ghost use Rattle.keyed_commands.specs.Beside.{AnswersBeside, DiffsBesideSources, DiffsSourcesBy};
-ghost use Rattle.keyed_commands.specs.Beside.{DiffsStreamsBy};
+ghost use Rattle.keyed_commands.specs.Beside.{AnswersBeside, DiffsBesideSources};
+ghost use Rattle.keyed_commands.specs.DiffOnly.{AreChangeColumnsBy, DiffsOnlySources, DiffsSourcesBy};
+ghost use Rattle.keyed_commands.specs.DiffOnly.{DiffsStreamsBy};
 ghost use Rattle.keyed_commands.specs.Reported.{AreComparedColumns, IsReport, ReportsSources, ReportsStreams};
+ghost use Rattle.keyed_commands.specs.Reported.{TellsChanges};
 ghost use Rattle.keyed_commands.specs.TablesRead.{DiffsSources};
 ghost use Rattle.keyed_commands.specs.declared.answer.Outcome.TheVariants.{Made};
 
@@ -20,7 +25,9 @@ use crate::changes::write_changes;
 use crate::compared::{changed_beside, compared_columns};
 use crate::job::{Job, Table};
 use eob_joins::Change;
-use keyed_columns::{ColumnChanges, Columns, Content, Tolerances, names_among, picked_columns};
+use keyed_columns::{
+    ColumnChanges, Columns, Content, Tolerances, marked_columns, names_among, picked_columns,
+};
 use keyed_faults::{Fault, Reason, at};
 use keyed_files::{Stream, Two};
 use keyed_numbers::Alike;
@@ -44,10 +51,10 @@ pub fn diff<'a, R: Read + Drop>(
     old: Stream<'a, R>,
     new: Stream<'a, R>,
 ) -> Result<Answer, Fault<'a>>
-    ensures csv { IfOk result (λ answer. how.entry.format ≡ Csv →
+    ensures csv { IfOk result (λ answer. how.entry.format ≡ format.Csv →
         DiffsStreamsBy R.remaining how.entry.view.columns settings.entry old.entry new.entry answer) }
     ensures report { IfOk result (λ answer. IsReport how.entry.format → how.entry.sameness ≡ None →
-        ReportsStreams R.remaining how.entry.view.columns settings.entry old.entry new.entry answer) }
+        ReportsStreams R.remaining how.entry settings.entry old.entry new.entry answer) }
 {
     let mut versions = Two::new(alloc, settings.form, Content::Rows, old, new)?;
     versions.first.rename(alloc, settings)?;
@@ -62,15 +69,48 @@ fn columns_of_diff<'a, R>(
     how: Comparing<'_>,
     versions: &Two<'a, R>,
 ) -> Result<Columns, Fault<'a>>
-    ensures csv { IfOk result (λ columns. how.entry.format ≡ Csv →
-        AreChangeColumns settings.entry.key (first_header versions.now) (next_header versions.now) columns) }
+    ensures csv { IfOk result (λ columns. how.entry.format ≡ format.Csv → AreChangeColumnsBy how.entry.view.columns
+        settings.entry.key (first_header versions.now) (next_header versions.now) columns) }
     ensures report { IfOk result (λ columns. IsReport how.entry.format →
         AreComparedColumns how.entry.view.columns settings.entry.key (headers_of versions.now) columns) }
 {
     match how.format {
-        Format::Csv => versions.change_columns(alloc, settings.key),
+        Format::Csv => columns_changed(alloc, settings.key, how.view.columns, versions),
         Format::Report(_) => columns_compared(alloc, settings, how, versions),
     }
+}
+
+// The columns of changes: those of the new table and then those that it lacks; or of these the key and those that are picked alone.
+fn columns_changed<'a, R>(
+    alloc: Global,
+    key: Option<&str>,
+    picked: Picked<'_>,
+    versions: &Two<'a, R>,
+) -> Result<Columns, Fault<'a>>
+    ensures { IfOk result (AreChangeColumnsBy picked.entry key.entry
+        (first_header versions.now) (next_header versions.now)) }
+{
+    match picked {
+        Picked::All => versions.change_columns(alloc, key),
+        Picked::AllBut(_) => versions.change_columns(alloc, key),
+        Picked::Only(_) => columns_only(alloc, key, picked, versions),
+    }
+}
+
+// Those of the columns of changes that are picked.
+fn columns_only<'a, R>(
+    alloc: Global,
+    key: Option<&str>,
+    picked: Picked<'_>,
+    versions: &Two<'a, R>,
+) -> Result<Columns, Fault<'a>>
+    ensures { IfOk result (λ columns. (all : Columns)
+        × AreChangeColumns key.entry (first_header versions.now) (next_header versions.now) all
+        × ArePickedColumns picked.entry all columns) }
+{
+    let all = versions.change_columns(alloc, key)?;
+    let picked = picked_columns(alloc, picked, all);
+    at(versions.next.file, picked)
 }
 
 // The columns of both tables that are picked.
@@ -95,10 +135,10 @@ fn diff_files<'a, R: Read + Drop>(
     how: Comparing<'_>,
     versions: &mut Two<'a, R>,
 ) -> Result<Answer, Fault<'a>>
-    ensures csv { IfOk result (λ answer. how.entry.format ≡ Csv →
+    ensures csv { IfOk result (λ answer. how.entry.format ≡ format.Csv →
         DiffsSourcesBy R.remaining how.entry.view.columns job.entry versions.old answer) }
     ensures report { IfOk result (λ answer. IsReport how.entry.format → how.entry.sameness ≡ None →
-        ReportsSources R.remaining job.entry versions.old answer) }
+        ReportsSources R.remaining job.entry how.entry versions.old answer) }
 {
     match how.format {
         Format::Csv => diff_files_picked(job, how.view.columns, versions),
@@ -106,7 +146,7 @@ fn diff_files<'a, R: Read + Drop>(
     }
 }
 
-// The changes between the rows of two files as CSV, whole: of a row that differs in columns alone that are ignored there is none.
+// The changes between the rows of two files as CSV: of a row that differs in columns alone that are ignored, or not picked, there is none.
 fn diff_files_picked<'a, R: Read + Drop>(
     job: Job<'_, Columns>,
     picked: Picked<'_>,
@@ -116,9 +156,46 @@ fn diff_files_picked<'a, R: Read + Drop>(
 {
     match picked {
         Picked::All => diff_files_as_csv(job, versions),
-        Picked::Only(_) => diff_files_as_csv(job, versions),
+        Picked::Only(_) => diff_files_only(job, versions),
         Picked::AllBut(ignored) => diff_files_beside(job, ignored, versions),
     }
+}
+
+// The same of the key and some columns alone.
+fn diff_files_only<'a, R: Read + Drop>(
+    mut job: Job<'_, Columns>,
+    versions: &mut Two<'a, R>,
+) -> Result<Answer, Fault<'a>>
+    ensures { IfOk result (DiffsOnlySources R.remaining job.entry versions.old) }
+{
+    let tables = job.read_both(versions)?;
+    let marked = names_marked(job.alloc, job.columns, versions)?;
+    let earlier = names_among(job.alloc, versions.first.header(), job.columns);
+    let earlier = at(versions.first.file, earlier)?;
+    let later = names_among(job.alloc, versions.next.header(), job.columns);
+    let later = at(versions.next.file, later)?;
+    let columns = ColumnChanges::new(&earlier, &later);
+    let (old, new) = tables;
+    let answer = diff_as_csv(&job, columns, &marked, old, new);
+    at(versions.next.file, answer)
+}
+
+// The names of these columns, each with the mark of what became of it.
+fn names_marked<'a, R>(
+    alloc: Global,
+    columns: &Columns,
+    versions: &Two<'a, R>,
+) -> Result<Cells, Fault<'a>>
+    ensures { IfOk result (λ marked. marked
+        ≡ marked_columns columns.now (first_header versions.now) (next_header versions.now)) }
+{
+    let marked = marked_columns(
+        alloc,
+        columns,
+        versions.first.header(),
+        versions.next.header(),
+    );
+    at(versions.next.file, marked)
 }
 
 // The same where columns are ignored.
@@ -216,8 +293,8 @@ fn diff_files_as_report<'a, R: Read + Drop>(
     how: Comparing<'_>,
     versions: &mut Two<'a, R>,
 ) -> Result<Answer, Fault<'a>>
-    ensures { IfOk result (λ answer. how.entry.sameness ≡ None
-        → ReportsSources R.remaining job.entry versions.old answer) }
+    ensures { IfOk result (λ answer. how.entry.sameness ≡ None → how.entry.format ≡ format.Report look
+        → ReportsSources R.remaining job.entry how.entry versions.old answer) }
 {
     let tables = job.read_both(versions)?;
     let before = names_among(job.alloc, versions.first.header(), job.columns);
@@ -238,8 +315,11 @@ fn diff_as_report<'a>(
     old: Table,
     new: Table,
 ) -> Result<Answer, Reason>
-    ensures { IfOk result (λ answer. how.entry.sameness ≡ None →
+    ensures status { IfOk result (λ answer. how.entry.sameness ≡ None →
         IsDiffStatus column_changes.entry old.pairs.items new.pairs.items answer.status) }
+    ensures table { IfOk result (λ answer. how.entry.sameness ≡ None → TellsTable look how.entry.view →
+        TellsChanges how.entry.view job.now.groups job.now.columns.now (noted job.now.order)
+        (is_none job.now.row_order.files) old.pairs.items new.pairs.items answer.bytes.items) }
 {
     let tolerances = Tolerances::new(job.alloc, how.sameness)?;
     let alikes = tolerances.alikes(job.alloc, job.columns)?;

@@ -24,7 +24,7 @@ use crate::lost_cells::lose_cells;
 use crate::made_table::answer_of_rows;
 use crate::marks::{has_conflict, write_marked};
 use crate::preferred::rows_by_side;
-use crate::styles::{Noting, Watched, spelling_of, style_under, watch};
+use crate::styles::{Watched, spelling_of, style_under, unwatched, watch};
 use eob_joins::{Marked, Parted, part_marked};
 use keyed_columns::{Columns, Content, Tolerances, columns_of, merged_columns};
 use keyed_faults::{Fault, Reason, at};
@@ -35,6 +35,7 @@ use keyed_rows::{Group, Key};
 use keyed_tables::{
     marked_merge_by_cell_of, marked_merge_of, parted_merge_by_cell_of, parted_merge_of,
 };
+use keyed_text::Style;
 use std::alloc::{AllocError, Global};
 use std::io::Read;
 
@@ -55,16 +56,17 @@ pub fn merge<'a, R: Read + Drop>(
     ensures { IfOk result (λ answer. IsReported how.entry →
         MergesStreams R.remaining how.entry.unit settings.entry base.entry ours.entry theirs.entry answer) }
 {
-    let base = watch(alloc, settings.form, Noting::Unnoted, base);
-    let ours = watch(alloc, settings.form, Noting::Noted, ours);
-    let theirs = watch(alloc, settings.form, Noting::Unnoted, theirs);
+    let base = unwatched(alloc, base);
     let mut base = Opened::new(alloc, settings.form, Content::Rows, base)?;
+    let watched = watch(alloc, settings.form, ours)?;
+    let (ours, first_style) = watched;
+    let theirs = unwatched(alloc, theirs);
     let mut sides = Two::new(alloc, settings.form, Content::Rows, ours, theirs)?;
     base.rename(alloc, settings)?;
     let columns = columns_of_merge(alloc, settings, &base, &sides)?;
     at(base.file, check_known(alloc, how, &columns))?;
     let job = Job::new(alloc, settings, &columns);
-    merge_files(job, how, &mut base, &mut sides)
+    merge_files(job, first_style, how, &mut base, &mut sides)
 }
 
 // Tells of a column with a tolerance of its own that is none of these.
@@ -99,16 +101,18 @@ fn columns_of_merge<'a, R>(
 
 fn merge_files<'a, R: Read + Drop>(
     mut job: Job<'_, Columns>,
+    first_style: Style,
     how: Merging<'_>,
     base: &mut Opened<'a, Watched<R>>,
     sides: &mut Two<'a, Watched<R>>,
 ) -> Result<Answer, Fault<'a>>
     ensures { IfOk result (λ answer. IsReported how.entry →
-        MergesSources (watched_left R.remaining) how.entry.unit job.entry base.old sides.old answer) }
+        MergesSources (watched_left R.remaining) how.entry.unit job.entry first_style
+        base.old sides.old answer) }
 {
     let versions = read_versions(&mut job, base, sides)?;
-    let noted = sides.first.source.get_ref().style();
-    let style = style_under(job.form.writing.heading, noted);
+    let has_end = sides.first.source.get_ref().has_end();
+    let style = style_under(job.form.writing.heading, first_style, has_end);
     let spelling = spelling_of(&job, &sides.first)?;
     let job = job.in_style(style, spelling);
     at(sides.next.file, merge_tables(&job, how, versions))

@@ -1,14 +1,18 @@
 //! Tables that are laid one over the other, the last one on top.
-ghost use Rattle.std.specs.Prelude.{◌≡◌, ◌∷◌, [], IfOk, OnOk, is_none, map, option_map, unwrap_or};
+ghost use Rattle.std.specs.Prelude.{◌≡◌, ◌∷◌, [], IfOk, IfSome, MatchOption, OnOk, is_none, map, option_map};
+ghost use Rattle.std.specs.Prelude.{unwrap_or};
+ghost use Rattle.std.specs.Io.KnownBytes.{Keeps};
 ghost use Rattle.keyed_columns.specs.Keys.{AreColumnsBy};
 ghost use Rattle.keyed_columns.specs.declared.content.Content.TheVariants.{Rows};
+ghost use Rattle.keyed_files.specs.Opening.{form_of, text_of_stream};
 ghost use Rattle.keyed_tables.specs.Arranged.{noted};
 ghost use Rattle.keyed_commands.specs.Answers.{IsTableFile};
 ghost use Rattle.keyed_commands.specs.OverlayAnswers.{AreLaidOver, AreLayers, IsLayer, IsSpelledAsFirst};
-ghost use Rattle.keyed_commands.specs.OverlayAnswers.{LaysTables, NotesAll};
+ghost use Rattle.keyed_commands.specs.OverlayAnswers.{IsNotedFirst, LaysTables, NotesAll};
 ghost use Rattle.keyed_commands.specs.OverlayAnswers.{OverlaysSources, OverlaysStreams, rows_laid};
 ghost use Rattle.keyed_commands.specs.AppliedTexts.{watched_left};
 ghost use Rattle.keyed_commands.specs.FileOrder.{OfKeys, noted_with};
+ghost use Rattle.keyed_commands.specs.NotedStyles.{IsNoted};
 ghost use Rattle.keyed_commands.specs.TablesRead.{IsUnordered};
 ghost use Rattle.keyed_commands.specs.declared.answer.Outcome.TheVariants.{Made};
 
@@ -16,7 +20,7 @@ use crate::answer::Answer;
 use crate::files::put;
 use crate::job::{Job, Table};
 use crate::made_table::table_as_csv;
-use crate::styles::{Noting, Watched, spelling_of, style_under, watch};
+use crate::styles::{Watched, spelling_of, style_under, unwatched, watch};
 use keyed_columns::{Columns, Content, columns_of};
 use keyed_faults::{Fault, Reason, at};
 use keyed_files::{Opened, Stream, TableSpelling};
@@ -42,64 +46,106 @@ pub fn overlay<'a, R: Read + Drop>(
 ) -> Result<Answer, Fault<'a>>
     ensures { IfOk result (OverlaysStreams R.remaining settings.entry layer tables.entry.items) }
 {
-    let opened = open_all(alloc, settings, tables)?;
+    let layers = open_all(alloc, settings, tables)?;
+    let (opened, first_style) = layers;
     let file = first_file(&opened);
     let columns = at(file, columns_of_all(alloc, settings, &opened))?;
-    overlay_files(Job::new(alloc, settings, &columns), layer, file, opened)
+    overlay_files(
+        Job::new(alloc, settings, &columns),
+        first_style,
+        layer,
+        file,
+        opened,
+    )
 }
 
 fn overlay_files<'a, R: Read + Drop>(
     mut job: Job<'_, Columns>,
+    first_style: Style,
     layer: Layer,
     file: &'a str,
     tables: Vec<Opened<'a, Watched<R>>>,
 ) -> Result<Answer, Fault<'a>>
-    ensures { IfOk result (OverlaysSources R.remaining layer job.entry tables.entry.items) }
+    ensures { IfOk result
+        (OverlaysSources R.remaining layer first_style job.entry tables.entry.items) }
 {
     let laid = lay_all(&mut job, layer, tables)?;
-    let noted = laid.style.unwrap_or(job.form.writing.style);
-    let style = style_under(job.form.writing.heading, noted);
+    let has_end = laid.has_end.unwrap_or(first_style.has_end);
+    let style = style_under(job.form.writing.heading, first_style, has_end);
     let spelling = laid.spelling.unwrap_or(TableSpelling::even(job.alloc));
     let job = job.in_style(style, spelling);
     at(file, answer_laid(&job, laid.table))
 }
 
-// Reads the headers of all tables. The columns of the key have in the first one the names that they have in the others.
+// Reads the headers of all tables. The columns of the key have in the first one the names that they have in the others, and its text begins
+// in the style that is returned, which is that of the form where there is no table.
 fn open_all<'a, R: Read + Drop>(
     alloc: Global,
     settings: Settings<'a>,
     tables: Vec<Stream<'a, R>>,
-) -> Result<Vec<Opened<'a, Watched<R>>>, Fault<'a>>
-    ensures { IfOk result (λ opened. AreLayers R.remaining settings.entry.form settings.entry.key
-        tables.entry.items opened.items) }
+) -> Result<(Vec<Opened<'a, Watched<R>>>, Style), Fault<'a>>
+    ensures layers { IfOk result (λ read. AreLayers R.remaining settings.entry.form settings.entry.key
+        tables.entry.items read.0.items) }
+    ensures style { IfOk result (λ read. IsNotedFirst R.remaining settings.entry.form
+        tables.entry.items read.1) }
 {
     let mut opened = Vec::new(alloc);
     let mut key = settings.key;
-    let mut noting = Noting::Noted;
+    let mut first_style = None;
     for stream in tables {
         let file = stream.file;
-        let table = open_layer(alloc, settings.form, key, noting, stream)?;
+        let layer = open_layer(alloc, settings.form, key, first_style, stream)?;
+        let (table, style) = layer;
         at(file, put(&mut opened, table))?;
         key = None;
-        noting = Noting::Unnoted;
+        first_style = Some(style);
     }
-    Ok(opened)
+    let style = first_style.unwrap_or(settings.form.writing.style);
+    Ok((opened, style))
 }
 
-// Reads the header of a table whose columns of the key, where it is set, get the names that they have in the others.
+// Reads the header of a table whose columns of the key, where it is set, get the names that they have in the others, with the style in
+// which the first table begins: that is this one where none is known.
 fn open_layer<'a, R: Read + Drop>(
     alloc: Global,
     form: Form,
     key: Option<&str>,
-    noting: Noting,
+    first_style: Option<Style>,
     stream: Stream<'a, R>,
-) -> Result<Opened<'a, Watched<R>>, Fault<'a>>
-    ensures { IfOk result (IsLayer R.remaining form key.entry stream.entry) }
+) -> Result<(Opened<'a, Watched<R>>, Style), Fault<'a>>
+    ensures layer { IfOk result (λ read. IsLayer R.remaining form key.entry stream.entry read.0) }
+    ensures style { IfOk result (λ read. MatchOption first_style
+        (IfSome (text_of_stream R.remaining form stream.entry) (IsNoted (form_of form stream.entry) read.1))
+        (λ style. read.1 ≡ style)) }
 {
-    let stream = watch(alloc, form, noting, stream);
+    let watched = watch_layer(alloc, form, first_style, stream)?;
+    let (stream, style) = watched;
     let mut table = Opened::new(alloc, form, Content::Rows, stream)?;
     table.rename_key(alloc, key)?;
-    Ok(table)
+    Ok((table, style))
+}
+
+// A table that is read, with that style: of the first one alone one wants to know how it is written.
+fn watch_layer<'a, R: Read + Drop>(
+    alloc: Global,
+    form: Form,
+    first_style: Option<Style>,
+    stream: Stream<'a, R>,
+) -> Result<(Stream<'a, Watched<R>>, Style), Fault<'a>>
+    ensures form { IfOk result (λ read. form_of form read.0 ≡ form_of form stream.entry) }
+    ensures text { IfOk result (λ read. Keeps (text_of_stream R.remaining form stream.entry)
+        (text_of_stream (watched_left R.remaining) form read.0)) }
+    ensures style { IfOk result (λ read. MatchOption first_style
+        (IfSome (text_of_stream (watched_left R.remaining) form read.0) (IsNoted (form_of form read.0) read.1))
+        (λ style. read.1 ≡ style)) }
+{
+    match first_style {
+        Some(style) => Ok((unwatched(alloc, stream), style)),
+        None => {
+            let watched = watch(alloc, form, stream)?;
+            Ok(watched)
+        }
+    }
 }
 
 // The file of the first table, if there is one.
@@ -159,11 +205,12 @@ fn headers_of<'o, R>(
     Ok(headers)
 }
 
-// Tables that are laid one over the other, if there is one, and how the first one is written and its rows are spelled.
+// Tables that are laid one over the other, if there is one, and of the first one whether its last row has an end, and how its rows are
+// spelled.
 #[derive(Drop)]
 struct Laid {
     table: Option<Table>,
-    style: Option<Style>,
+    has_end: Option<bool>,
     spelling: Option<TableSpelling>,
 }
 
@@ -183,7 +230,7 @@ fn lay_all<'a, R: Read + Drop>(
 {
     let mut laid = Laid {
         table: None,
-        style: None,
+        has_end: None,
         spelling: None,
     };
     for table in tables {
@@ -207,12 +254,12 @@ fn lay<'a, R: Read + Drop>(
     ensures unordered { OnOk result (IsUnordered job.old → IsUnordered job.new) }
 {
     let above = job.read_table(job.columns, &mut table)?;
-    let style = below.style.unwrap_or(table.source.get_ref().style());
+    let has_end = below.has_end.unwrap_or(table.source.get_ref().has_end());
     let spelling = first_spelling(job, below.spelling, &table)?;
     let laid = at(table.file, lay_over(job.alloc, layer, below.table, above))?;
     Ok(Laid {
         table: Some(laid),
-        style: Some(style),
+        has_end: Some(has_end),
         spelling: Some(spelling),
     })
 }

@@ -1,25 +1,28 @@
 //! The answer to `apply`, of streams, where changes need not fit: the table with those made to it that do, and the others as changes.
-ghost use Rattle.std.specs.Prelude.{◌≡◌, ◌==◌, IfOk, OnOk, is_none, length};
+ghost use Rattle.std.specs.Prelude.{◌≡◌, ◌==◌, IfOk, OnOk, is_none, length, option_map};
 ghost use Rattle.keyed_tables.specs.Arranged.{noted};
 ghost use Rattle.keyed_files.specs.Gone.{IsTurned};
 ghost use Rattle.keyed_files.specs.Opening.{form_of};
 ghost use Rattle.keyed_commands.specs.AppliedTexts.{PartlySources, PartlyStreams, watched_left};
+ghost use Rattle.keyed_commands.specs.MadeChanges.{made_with};
 ghost use Rattle.keyed_commands.specs.Rejected.{AnswersPartly, beside, other_way, plain};
 ghost use Rattle.keyed_commands.specs.Turned.{changes_in};
 
 use crate::answer::Answer;
 use crate::job::{Changes, Job, Table};
+use crate::made_changes::{made_changes, missing_columns};
 use crate::made_table::answer_of_rows;
 use crate::parted::part_changes;
 use crate::rejected::{ChangesForm, changes_text};
-use crate::styles::{Noting, Watched, spelling_of, style_under, watch};
-use crate::turned::{changes_in, pairs_in};
+use crate::styles::{Watched, spelling_of, style_under, unwatched, watch};
+use crate::turned::pairs_in;
 use eob_joins::Change;
 use keyed_columns::{Columns, Content};
 use keyed_faults::{Fault, Reason, at};
 use keyed_files::{Opened, Stream, Two};
 use keyed_requests::{Direction, Form, Settings, Writing};
 use keyed_rows::{Cells, Group, Key};
+use keyed_text::Style;
 use std::alloc::Global;
 use std::io::Read;
 
@@ -47,14 +50,16 @@ pub fn apply_partly<'a, R: Read + Drop>(
     ensures { IfOk result (PartlyStreams R.remaining settings.entry direction old.entry changes.entry) }
 {
     let form = changes_form(settings.form, &changes);
-    let old = watch(alloc, settings.form, Noting::Noted, old);
-    let changes = watch(alloc, settings.form, Noting::Unnoted, changes);
+    let watched = watch(alloc, settings.form, old)?;
+    let (old, first_style) = watched;
+    let changes = unwatched(alloc, changes);
     let mut inputs = Two::new(alloc, settings.form, Content::Changes, old, changes)?;
     inputs.first.rename(alloc, settings)?;
     let how = how_marked(form, direction, &mut inputs.next)?;
     let columns = inputs.changed_columns(alloc, settings.key)?;
     partly_files(
         Job::new(alloc, settings, &columns),
+        first_style,
         &how,
         direction,
         &mut inputs,
@@ -114,44 +119,52 @@ fn other_way(direction: Direction) -> Direction
 
 fn partly_files<'a, R: Read + Drop>(
     mut job: Job<'_, Columns>,
+    first_style: Style,
     how: &ChangesForm,
     direction: Direction,
     inputs: &mut Two<'a, Watched<R>>,
 ) -> Result<Partly, Fault<'a>>
     ensures { IfOk result
-        (PartlySources (watched_left R.remaining) job.entry how.now direction inputs.old) }
+        (PartlySources (watched_left R.remaining) job.entry first_style
+        how.now direction inputs.old) }
 {
+    let (before, after) = (inputs.first.header(), inputs.next.header());
+    let missing = missing_columns(job.alloc, before, after, &job.columns.rest);
+    let missing = at(inputs.next.file, missing)?;
     let tables = job.read_to_change(inputs)?;
     let (old, changes) = tables;
-    let noted = inputs.first.source.get_ref().style();
-    let style = style_under(job.form.writing.heading, noted);
+    let has_end = inputs.first.source.get_ref().has_end();
+    let style = style_under(job.form.writing.heading, first_style, has_end);
     let spelling = spelling_of(&job, &inputs.first)?;
     let job = job.in_style(style, spelling);
     at(
         inputs.next.file,
-        partly_in(&job, how, direction, old, changes),
+        partly_in(&job, how, missing, direction, old, changes),
     )
 }
 
-// The answer in a direction: changes that are taken back are parted turned about, and written as they were given.
+// The answer in a direction, of changes that are missing these columns: those that are taken back are parted turned about, and written as
+// they were given.
 fn partly_in(
     job: &Job<'_, Columns>,
     how: &ChangesForm,
+    missing: Option<Vec<bool>>,
     direction: Direction,
     old: Table,
     changes: Changes,
 ) -> Result<Partly, Reason>
     ensures { IfOk result (λ partly. AnswersPartly direction how.now partly job.now.form
         job.now.columns.now (noted job.now.order) (is_none job.now.row_order.files)
-        old.pairs.items (changes_in direction changes.pairs.items)) }
+        old.pairs.items (made_with (option_map (λ are. are.items) missing) old.pairs.items
+        (changes_in direction changes.pairs.items))) }
 {
-    let changes = changes_in(job.alloc, direction, changes)?;
-    let parted = part_changes(job.alloc, old, changes)?;
+    let made = made_changes(job.alloc, missing, direction, old, changes)?;
+    let parted = part_changes(job.alloc, made.old, made.changes)?;
     let whole = are_none(&parted.rejected);
     let given = pairs_in(job.alloc, direction, parted.rejected)?;
-    let made = answer_of_rows(job, "table", parted.rows)?;
+    let table = answer_of_rows(job, "table", parted.rows)?;
     let rejected = changes_text(job, how, given)?;
-    let answer = beside(whole, made);
+    let answer = beside(whole, table);
     Ok(Partly { answer, rejected })
 }
 

@@ -20,7 +20,7 @@ pub returns-clause-status : goal.returns-clause-status
 unfolding distinct field_at repeats
 returns-clause-status c =
     let answer : Answer = record { bytes = c.diff_sorted.new.output; status = c.in_ok-finished.finished.status; outcome = Made } in
-    let whole = as_whole _ (Table Off) _ _ _ _ c.new-bytes.result.items answer c.new-bytes.ensures.items (c.in_ok-finished.ensures refl) in
+    let whole = as_whole _ (Table Off) _ _ _ _ c.new-bytes.result.items answer c.new-bytes.ensures.items (c.in_ok-finished.ensures.whole refl) in
     diff_differs whole (record { key = refl; renames = refl; order = refl }) id_a id_a (one_x ∷ []) (one_y ∷ [])
     (known_text _ _ _ _ _ c.as_slice.ensures refl with_x refl) (known_text _ _ _ _ _ c.as_slice-2.ensures refl with_y refl) ((codes "1" ∷ [], codes "x" ∷ []) ∷ [])
     ((codes "1" ∷ [], codes "y" ∷ []) ∷ []) (tt, tt) (tt, tt) (IsPermutation-refl _) (IsPermutation-refl _) refl refl
@@ -29,7 +29,7 @@ pub returns-clause-bytes : goal.returns-clause-bytes
 unfolding distinct escaped field_at fields_text is_blank placed repeats
 returns-clause-bytes c =
     let answer : Answer = record { bytes = c.diff_sorted.new.output; status = c.in_ok-finished.finished.status; outcome = Made } in
-    let whole = as_whole _ (Table Off) _ _ _ _ c.new-bytes.result.items answer c.new-bytes.ensures.items (c.in_ok-finished.ensures refl) in
+    let whole = as_whole _ (Table Off) _ _ _ _ c.new-bytes.result.items answer c.new-bytes.ensures.items (c.in_ok-finished.ensures.whole refl) in
     diff_bytes whole (record { key = refl; renames = refl; order = refl }) id_a id_a (one_x ∷ []) (one_y ∷ [])
     (known_text _ _ _ _ _ c.as_slice.ensures refl with_x refl) (known_text _ _ _ _ _ c.as_slice-2.ensures refl with_y refl) ((codes "1" ∷ [], codes "x" ∷ []) ∷ [])
     ((codes "1" ∷ [], codes "y" ∷ []) ∷ []) (tt, tt) (tt, tt) (IsPermutation-refl _) (IsPermutation-refl _)

@@ -1,4 +1,4 @@
-use Rattle.std.proofs.Common.{◌≡◌, [], append-nil, arith, rules, subst, sym}
+use Rattle.std.proofs.Common.{◌≡◌, [], append-nil, arith, rules, subst}
 use Rattle.std.proofs.lemmas.Grind.{common_steps}
 use Rattle.keyed_commands.specs.Requested.{AreStreamsOf}
 use Rattle.keyed_commands.proofs.RequestLemmas.{no-streams}

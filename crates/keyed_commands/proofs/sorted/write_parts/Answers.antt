@@ -1,9 +1,11 @@
 use Rattle.std.proofs.Common.{sym}
+use Rattle.std.proofs.lemmas.Result.{err_from_is_err_and}
+use Rattle.keyed_commands.proofs.PartsBegunLemmas.{begun_first, begun_none}
 use Rattle.keyed_commands.proofs.PartsWrittenLemmas.{written_all, written_first}
 use Rattle.keyed_commands.proofs.sorted.write_parts.Goals as goal
 
-pub returns : goal.returns
-returns g c by_key left right =
+pub returns-clause-whole : goal.returns-clause-whole
+returns-clause-whole g c by_key left right =
     let rem = g.R.Read.remaining in
     let how = c.args.work.now in
     let start = c.args.tables.now in
@@ -11,6 +13,35 @@ returns g c by_key left right =
     let between = g.W.Write.contents c.write_part.new.output in
     let after = g.W.Write.contents c.write_later.new.output in
     let first = c.in_ok-first.first in
-    let begun = written_first rem how start c.write_part.new.tables before between first left right (c.in_ok-first.ensures by_key) in
+    let begun = written_first rem how start c.write_part.new.tables before between first left right (c.in_ok-first.ensures.whole by_key) in
     written_all rem how start c.write_later.new.tables before after (g.W.Write.contents c.flush.new.self) c.in_ok-whole.whole c.in_ok-whole.ensures.last
     (c.in_ok-whole.ensures.rest how start before (sym c.leave_header.ensures) by_key begun) c.flush.ensures.bytes
+
+pub returns-in_err-first-clause-begun : goal.returns-in_err-first-clause-begun
+returns-in_err-first-clause-begun g c =
+    let p = err_from_is_err_and c.from_residual.result c.from_residual.ensures.1 in
+    rw (p.1, p.2) (λ by_key left right.
+    begun_first g.R.Read.remaining c.args.work.now c.args.tables.now _ (g.W.Write.contents c.args.output.now) (g.W.Write.contents c.write_part.new.output)
+    left right (c.in_err-first.ensures.begun by_key))
+
+pub returns-in_err-whole-clause-begun : goal.returns-in_err-whole-clause-begun
+returns-in_err-whole-clause-begun g c =
+    let before = g.W.Write.contents c.args.output.now in
+    let p = err_from_is_err_and c.from_residual-in_err-whole.result c.from_residual-in_err-whole.ensures.1 in
+    rw (p.1, p.2) (λ by_key left right.
+    c.in_err-whole.ensures.begun c.args.work.now c.args.tables.now before (sym c.leave_header.ensures) by_key
+    (written_first g.R.Read.remaining c.args.work.now c.args.tables.now c.write_part.new.tables before (g.W.Write.contents c.write_part.new.output) c.in_ok-first.first
+    left right (c.in_ok-first.ensures.whole by_key)))
+
+pub returns-in_err-at-clause-begun : goal.returns-in_err-at-clause-begun
+returns-in_err-at-clause-begun g c =
+    let rem = g.R.Read.remaining in
+    let how = c.args.work.now in
+    let start = c.args.tables.now in
+    let before = g.W.Write.contents c.args.output.now in
+    let between = g.W.Write.contents c.write_part.new.output in
+    let p = err_from_is_err_and c.from_residual-in_err-at.result c.from_residual-in_err-at.ensures.1 in
+    rw p.1 (λ by_key left right.
+    begun_none rem how start _ c.write_later.new.tables before (g.W.Write.contents c.write_later.new.output) (g.W.Write.contents c.flush.new.self) c.in_ok-whole.whole
+    (c.in_ok-whole.ensures.rest how start before (sym c.leave_header.ensures) by_key
+    (written_first rem how start c.write_part.new.tables before between c.in_ok-first.first left right (c.in_ok-first.ensures.whole by_key))) c.flush.ensures.bytes)

@@ -19,9 +19,9 @@ returns g c =
     (λ answer read. two-alike (λ f h t u. AppliesTexts settings direction f h t u answer)
     (text_of_stream g.R.Read.remaining settings.form c.args.old) _ (text_of_stream g.R.Read.remaining settings.form c.args.changes) _
     (form_of settings.form c.args.old) _ (form_of settings.form c.args.changes) _
-    c.watch-old.ensures.text c.watch-changes.ensures.text c.watch-old.ensures.form c.watch-changes.ensures.form
-    (apply-streams (watched_left g.R.Read.remaining) settings direction c.watch-old.result c.watch-changes.result c.in_ok-inputs.inputs
-    named c.new-2.result answer c.in_ok-inputs.ensures.first c.in_ok-inputs.ensures.next
+    c.in_ok-watched.ensures.text (c.unwatched-changes.ensures.text settings.form) c.in_ok-watched.ensures.form (c.unwatched-changes.ensures.form settings.form)
+    (apply-streams (watched_left g.R.Read.remaining) settings direction c.in_ok-watched.watched.0 c.unwatched-changes.result c.in_ok-inputs.inputs
+    named c.new-2.result c.in_ok-watched.watched.1 answer c.in_ok-watched.ensures.style c.in_ok-inputs.ensures.first c.in_ok-inputs.ensures.next
     c.in_ok-inputs.ensures.gone
     c.in_ok-rename.ensures c.turn.ensures.same c.new-2.ensures.form c.new-2.ensures.groups c.new-2.ensures.unordered c.new-2.ensures.order
     (subst P (sym c.new-2.ensures.columns) c.in_ok-columns.ensures.columns)

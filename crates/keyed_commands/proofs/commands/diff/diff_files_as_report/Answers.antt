@@ -1,7 +1,9 @@
-use Rattle.std.proofs.Common.{◌≡◌, ◌∙◌, ap, ap₂, subst}
+use Rattle.std.proofs.Common.{◌∙◌, ap, ap₂, subst}
+use Rattle.std.specs.Prelude.{is_none}
 use Rattle.std.proofs.lemmas.Result.{IfOk-weaker}
 use Rattle.keyed_columns.specs.Names.{compared}
-use Rattle.keyed_commands.specs.Reported.{names_among}
+use Rattle.keyed_tables.specs.Arranged.{noted}
+use Rattle.keyed_commands.specs.Reported.{IsTold, TellsChanges, names_among}
 use Rattle.keyed_commands.specs.TablesRead.{IsStatusBetween}
 use Rattle.keyed_commands.proofs.ReadLemmas.{status-between}
 use Rattle.keyed_commands.proofs.commands.diff.diff_files_as_report.Goals as goal
@@ -19,11 +21,20 @@ returns g c =
     (first ∙ ap (names_among job.columns.now) (c.header.ensures ∙ ap (λ header. header.names) read.first_header))
     (next ∙ ap (names_among job.columns.now) (c.header-2.ensures ∙ ap (λ header. header.names) read.next_header)) in
     IfOk-weaker c.at-3.result _ _
-    (λ answer is whole. record {
+    (λ answer is whole looks. record {
       old = tables.0.pairs.items;
       new = tables.1.pairs.items;
       old_read = read.first;
       new_read = read.next;
       status = subst (λ j. IsStatusBetween (names_among j.columns.now before) (names_among j.columns.now after) tables.0.pairs.items tables.1.pairs.items answer.status) read.same
-          (status-between c.new-columns.result _ _ _ _ answer.status headers (let told = rw is at c.diff_as_report-answer.ensures in told whole));
+          (status-between c.new-columns.result _ _ _ _ answer.status headers (let told = rw is at c.diff_as_report-answer.ensures.status in told whole));
+      notes = read.notes;
+      told = record {
+        keys = noted job.order;
+        by_cells = is_none job.row_order.files;
+        table = λ is_told. subst (λ j. TellsChanges c.args.how.view j.groups j.columns.now (noted job.order) (is_none job.row_order.files)
+            tables.0.pairs.items tables.1.pairs.items answer.bytes.items) read.same
+            (let tells = rw is at c.diff_as_report-answer.ensures.table in tells whole (subst (λ format. IsTold format c.args.how.view) looks is_told));
+        order = λ unordered. let after = read.unordered unordered in (after.keys, after.rows);
+      };
     }) c.at-3.ensures

@@ -1,4 +1,4 @@
-use Rattle.std.proofs.Common.{◌==◌, length, sym}
+use Rattle.std.proofs.Common.{sym}
 use Rattle.keyed_commands.proofs.commands.merge.answer_of_merge.Goals as goal
 
 pub returns-in_ok-answer : goal.returns-in_ok-answer

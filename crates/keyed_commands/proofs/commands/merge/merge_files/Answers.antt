@@ -4,6 +4,7 @@ use Rattle.std.proofs.lemmas.Result.{IfOk-weaker}
 use Rattle.keyed_requests.specs.AnswerForm.{in_style}
 use Rattle.keyed_tables.specs.Arranged.{noted}
 use Rattle.keyed_commands.specs.MergedTexts.{AnswersBy}
+use Rattle.keyed_commands.specs.NotedStyles.{IsStyleBy}
 use Rattle.keyed_commands.proofs.commands.merge.merge_files.Goals as goal
 
 pub returns : goal.returns
@@ -23,6 +24,7 @@ returns g c =
       notes = read.notes;
       merged = record {
         style = style;
+        styled = subst (λ j. IsStyleBy j.form.writing.heading c.args.first_style style) read.same c.style_under-style.ensures;
         keys = noted job.order;
         by_cells = is_none job.row_order.files;
         merged = subst (λ j. AnswersBy (in_style style j.form) j.columns.now (noted job.order) (is_none job.row_order.files)

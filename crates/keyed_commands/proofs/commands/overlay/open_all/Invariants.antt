@@ -1,8 +1,14 @@
 use Rattle.std.proofs.Common.{◌++◌}
-use Rattle.keyed_commands.specs.OverlayAnswers.{AreLayers}
+use Rattle.std.specs.Prelude.{MatchOption}
+use Rattle.keyed_text.specs.declared.style.Style.{Style}
+use Rattle.keyed_commands.specs.OverlayAnswers.{AreLayers, IsNotedFirst}
 use Rattle.keyed_commands.proofs.commands.overlay.open_all.Given as goal
 
 abbrev pub invariant-loop-stream : goal.invariant-loop-stream
-invariant-loop-stream g l =
-    (more : _) → AreLayers g.R.Read.remaining l.settings.form l.key l.stream-iterator.rest.items more
-    → AreLayers g.R.Read.remaining l.settings.form l.settings.key l.fn.tables.items (l.opened.items ++ more)
+invariant-loop-stream g l = record {
+  layers : (more : _) → AreLayers g.R.Read.remaining l.settings.form l.key l.stream-iterator.rest.items more
+      → AreLayers g.R.Read.remaining l.settings.form l.settings.key l.fn.tables.items (l.opened.items ++ more);
+  noted : MatchOption l.first_style
+      ((style : Style) → IsNotedFirst g.R.Read.remaining l.settings.form l.stream-iterator.rest.items style → IsNotedFirst g.R.Read.remaining l.settings.form l.fn.tables.items style)
+      (IsNotedFirst g.R.Read.remaining l.settings.form l.fn.tables.items);
+}

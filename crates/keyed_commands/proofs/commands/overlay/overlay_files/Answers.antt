@@ -4,6 +4,7 @@ use Rattle.std.proofs.lemmas.Result.{IfOk-weaker}
 use Rattle.keyed_requests.specs.AnswerForm.{in_style}
 use Rattle.keyed_tables.specs.Arranged.{noted}
 use Rattle.keyed_commands.specs.Answers.{IsTableFile}
+use Rattle.keyed_commands.specs.NotedStyles.{IsStyleBy}
 use Rattle.keyed_commands.specs.OverlayAnswers.{rows_laid}
 use Rattle.keyed_commands.proofs.commands.overlay.overlay_files.Goals as goal
 
@@ -25,6 +26,7 @@ returns g c =
         laid = read.laid.2;
         answers = record {
           style = style;
+          styled = subst (λ j. IsStyleBy j.form.writing.heading c.args.first_style style) read.same c.style_under-style.ensures;
           text = subst (λ j. IsTableFile (in_style style j.form) j.columns.now (noted job.order) (is_none job.row_order.files) (rows_laid laid) answer.bytes.items)
               read.same
               (subst (λ j. IsTableFile j.form j.columns.now (noted j.order) (is_none j.row_order.files) (rows_laid laid) answer.bytes.items)
