@@ -1,3 +1,7 @@
 pub mod CountLemmas
+pub mod ListingLawLemmas
+pub mod ListingLemmas
+pub mod ListingTextLemmas
+pub mod OrderLemmas
 pub mod PartitionLemmas
 pub mod SinkLemmas

@@ -8,6 +8,7 @@
 
 mod cutting;
 mod fault;
+mod laws;
 mod listing;
 mod names;
 mod request;
@@ -17,4 +18,5 @@ mod tables;
 
 pub use cutting::{CutStatus, write_cut};
 pub use fault::{CutFault, CutReason};
+pub use laws::law_listing_reads;
 pub use request::{Cut, CutTables, Divided, LEAST_PARTS, MOST_PARTS, Second};

@@ -1,4 +1,6 @@
 //! The names of the files that a cut writes.
+ghost use Rattle.std.specs.Prelude.{map};
+ghost use Rattle.keyed_cut.specs.Listing.{AreStems};
 
 use crate::request::CutTables;
 use std::alloc::{AllocError, Global};
@@ -12,7 +14,9 @@ static TWO: [&str; 2] = ["left", "right"];
 static THREE: [&str; 3] = ["base", "ours", "theirs"];
 
 /// What the names of the parts begin with, table by table.
-pub fn stems_of(tables: CutTables<'_>) -> &'static [&'static str] {
+pub fn stems_of(tables: CutTables<'_>) -> &'static [&'static str]
+    ensures { AreStems (map (λ stem. stem.now) result.now) }
+{
     match tables {
         CutTables::Two { .. } => &TWO,
         CutTables::Three { .. } => &THREE,

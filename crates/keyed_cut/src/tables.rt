@@ -1,5 +1,6 @@
 //! The tables that are cut, each with the columns of its own header, read row by row.
-ghost use Rattle.std.specs.Prelude.{◌≡◌, IfOk, IfSome, is_some};
+ghost use Rattle.std.specs.Prelude.{◌≡◌, ◌∷◌, [], IfOk, IfSome, is_some};
+ghost use Rattle.keyed_columns.specs.ColumnNames.{AreColumns};
 ghost use Rattle.keyed_files.specs.Reading.{GivesRecord, key_in, last_record};
 
 use crate::fault::{CutFault, CutReason};
@@ -152,7 +153,9 @@ fn table_of<'a, F: Read + Drop>(
 /// # Errors
 ///
 /// Returns `AllocError` if a request for memory was refused.
-pub fn columns_under(alloc: Global, key: Cells, header: &Cells) -> Result<Columns, AllocError> {
+pub fn columns_under(alloc: Global, key: Cells, header: &Cells) -> Result<Columns, AllocError>
+    ensures { IfOk result (AreColumns key (header.now ∷ [])) }
+{
     Columns::new(alloc, key, &[header])
 }
 
