@@ -1,11 +1,12 @@
 -- What `diff` tells of two texts that are known, where all columns are compared.
-use Rattle.std.proofs.Common.{◌≡◌, ◌∙◌, ◌++◌, ℕ, true, false, List, [], ◌∷◌, filter, length, map, IsPermutation, ap, subst, subst₂, sym, true≢false}
+use Rattle.std.proofs.Common.{◌≡◌, ◌∙◌, ◌++◌, ℕ, Bool, true, false, List, [], ◌∷◌, filter, length, map, IsPermutation, ap, subst, subst₂, sym, true≢false}
 use Rattle.std.specs.Prelude.{⊤, replicate}
 use Rattle.eob_lists.proofs.MergeLemmas.{Up}
 use Rattle.eob_both.specs.declared.either_or_both.EitherOrBoth.{EitherOrBoth}
 use Rattle.eob_joins.proofs.TableLemmas.{by_test}
 use Rattle.keyed_reports.specs.RowChanges.{row_changes, rows_eq}
-use Rattle.keyed_reports.specs.Shown.{shown_rows}
+use Rattle.keyed_reports.specs.SaidAfter.{count_rows, counts_of, text_after}
+use Rattle.keyed_reports.specs.Shown.{count_more, shown_rows}
 use Rattle.keyed_reports.specs.ShownColumns.{columns_shown}
 use Rattle.keyed_reports.specs.TableLines.{HasTextOfRows, versions_of}
 use Rattle.keyed_requests.specs.declared.request.Comparing.{Comparing}
@@ -17,7 +18,7 @@ use Rattle.keyed_columns.specs.ColumnNames.{HaveNames, column_names, has_name, i
 use Rattle.keyed_columns.specs.Keys.{ArePickedColumns}
 use Rattle.keyed_columns.specs.declared.columns.Columns.{Columns}
 use Rattle.keyed_tables.specs.Gathered.{alone}
-use Rattle.keyed_commands.specs.Answers.{TableChanges, key_cmp, status_of}
+use Rattle.keyed_commands.specs.Answers.{TableChanges, TableRows, key_cmp, status_of}
 use Rattle.keyed_commands.specs.ComeOut.{AlikePlaces, AlikeRows}
 use Rattle.keyed_commands.specs.Reported.{IsTold, ReportsTexts, names_among}
 use Rattle.keyed_commands.specs.TablesRead.{headers_differ}
@@ -72,25 +73,40 @@ module _ {settings : Settings} {old_form new_form : Form} {old_text new_text : L
       ∙ ap (λ rest. filter (has_name (diff_key old_fields new_fields ++ rest)) header) columns_known.rest
       ∙ ap (names_compared old_fields new_fields) is
 
-  -- the rows of changes that are shown
+  -- the rows of changes, and those that are shown
+  abbrev rows_changed : TableChanges → List (List (List ℕ) × EitherOrBoth (List (List ℕ)) (List (List ℕ)))
+  rows_changed changes = row_changes rows_eq settings.groups changes
+
   abbrev rows_told : TableChanges → List (List (List ℕ) × EitherOrBoth (List (List ℕ)) (List (List ℕ)))
-  rows_told changes = shown_rows how.view.rows (row_changes rows_eq settings.groups changes)
+  rows_told changes = shown_rows how.view.rows (rows_changed changes)
+
+  -- whether each of so many columns beside the key is shown of them
+  abbrev shown_of : ℕ → TableChanges → List Bool
+  shown_of count changes = columns_shown how.view.shown (replicate count as_they_stand) count (map versions_of (rows_told changes))
+
+  -- what stands after them, where the old table had so many rows
+  abbrev said_after : ℕ → ℕ → TableChanges → List ℕ
+  said_after count old_rows changes = text_after (length (rows_told changes)) (count_more how.view.rows (length (rows_changed changes)))
+      (shown_of count changes) (counts_of old_rows (rows_changed changes))
 
   -- a table of them, under columns, of which these stand beside the key
-  abbrev IsTableOf : Columns → List (List ℕ) → TableChanges → Type 0
-  IsTableOf columns rest changes =
-      HasTextOfRows (replicate (length rest) as_they_stand) (columns_shown how.view.shown (replicate (length rest) as_they_stand) (length rest) (map versions_of (rows_told changes)))
-      columns (rows_told changes) answer.bytes.items
+  abbrev IsTableOf : Columns → List (List ℕ) → TableRows → TableChanges → Type 0
+  IsTableOf columns rest before changes = HasTextOfRows (replicate (length rest) as_they_stand) (shown_of (length rest) changes)
+      columns (rows_told changes) (said_after (length rest) (count_rows before) changes) answer.bytes.items
 
   -- a table has the rows of the changes between the two
   pub report_table : IsTold how.format how.view → (columns : Columns) × HaveNames (diff_key old_fields new_fields) (report_names old_fields new_fields) columns
-      × IsTableOf columns (report_rest old_fields new_fields) (changes_between old new)
+      × IsTableOf columns (report_rest old_fields new_fields) (map alone old) (changes_between old new)
   report_table is_told =
       let tells = r.told.table is_told in
       let joined = tells.come_out in
       let changes = came_out r.told.keys r.told.by_cells (AlikePlaces AlikeRows AlikeRows) joined.0 tells.changes (r.told.order plain.order) joined.2
-      ∙ changes_are old new old_up new_up r.old r.new joined.0 old_table new_table joined.1 in
-      (r.columns, columns_known, subst₂ (IsTableOf r.columns) columns_known.rest changes tells.table)
+      ∙ changes_are old new old_up new_up r.old r.new joined.0 old_table new_table joined.1 in (
+        r.columns,
+        columns_known,
+        subst (λ before. IsTableOf r.columns (report_rest old_fields new_fields) before (changes_between old new)) old_table
+            (subst₂ (λ rest changes. IsTableOf r.columns rest r.old changes) columns_known.rest changes tells.table),
+      )
 
   -- the status where the tables are not the same, and where they are and no column comes or goes
   pub report_differs : same_tables (map alone old) (map alone old) ≡ true → same_tables (map alone old) (map alone new) ≡ false → answer.status ≡ 1

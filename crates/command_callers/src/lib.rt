@@ -150,7 +150,7 @@ pub fn reported_row(alloc: Global) -> Result<Answer, Fault<'static>>
 }
 
 /// Returns a table for a person of two tables: a line for the row that changed, with both cells, for the one that was removed, and for the one
-/// that was added, in this order, under the names of the columns.
+/// that was added, in this order, under the names of the columns, and the counts after them.
 ///
 /// # Errors
 ///
@@ -161,7 +161,8 @@ pub fn told_rows(alloc: Global) -> Result<Answer, Fault<'static>>
         × HasTextOfRows (as_they_stand ∷ []) (true ∷ []) columns
         ((codes "1" ∷ [], Both (codes "x" ∷ []) (codes "z" ∷ []))
         ∷ (codes "2" ∷ [], Left (codes "y" ∷ []))
-        ∷ (codes "3" ∷ [], Right (codes "w" ∷ [])) ∷ []) answer.bytes.items) }
+        ∷ (codes "3" ∷ [], Right (codes "w" ∷ [])) ∷ [])
+        (codes "1 added, 1 removed, 1 changed, 0 the same\n") answer.bytes.items) }
 {
     let old = file!("old.csv", b"id,a\n1,x\n2,y\n");
     let new = file!("new.csv", b"id,a\n3,w\n1,z\n");

@@ -12,6 +12,7 @@ use Rattle.keyed_files.specs.declared.opened.Two.{Two}
 use Rattle.keyed_files.proofs.TableLemmas.{open-anew}
 use Rattle.keyed_numbers.specs.declared.alike.Alike.{Alike}
 use Rattle.keyed_reports.specs.Shown.{shown_rows}
+use Rattle.keyed_reports.specs.declared.counts.Counts.{Counts}
 use Rattle.keyed_reports.specs.TableLines.{IsTable}
 use Rattle.keyed_requests.specs.declared.request.Comparing.{Comparing}
 use Rattle.keyed_requests.specs.declared.request.RowsShown.{RowsShown}
@@ -42,12 +43,14 @@ map-shown f (shows.First most) rows = sym (take-map f most rows)
 map-shown f shows.Nothing rows = refl
 
 -- a table under other words
-pub table-alike : (view view2 : View) (alikes alikes2 : List Alike) (columns columns2 : Columns)
+pub table-alike : (view view2 : View) (alikes alikes2 : List Alike) (columns columns2 : Columns) (more more2 : ℕ) (counts counts2 : Counts)
     (rows rows2 : List (List (List ℕ) × EitherOrBoth (List (List ℕ)) (List (List ℕ)))) (text : List ℕ)
-    → view ≡ view2 → alikes ≡ alikes2 → columns ≡ columns2 → rows ≡ rows2 → IsTable view alikes columns rows text → IsTable view2 alikes2 columns2 rows2 text
-table-alike view view2 alikes alikes2 columns columns2 rows rows2 text v a c r table =
-    subst (λ view. IsTable view alikes2 columns2 rows2 text) v (subst (λ alikes. IsTable view alikes columns2 rows2 text) a
-    (subst (λ columns. IsTable view alikes columns rows2 text) c (subst (λ rows. IsTable view alikes columns rows text) r table)))
+    → view ≡ view2 → alikes ≡ alikes2 → columns ≡ columns2 → more ≡ more2 → counts ≡ counts2 → rows ≡ rows2
+    → IsTable view alikes columns more counts rows text → IsTable view2 alikes2 columns2 more2 counts2 rows2 text
+table-alike view view2 alikes alikes2 columns columns2 more more2 counts counts2 rows rows2 text v a c m n r table =
+    subst (λ view. IsTable view alikes2 columns2 more2 counts2 rows2 text) v (subst (λ alikes. IsTable view alikes columns2 more2 counts2 rows2 text) a
+    (subst (λ columns. IsTable view alikes columns more2 counts2 rows2 text) c (subst (λ more. IsTable view alikes columns more counts2 rows2 text) m
+    (subst (λ counts. IsTable view alikes columns more counts rows2 text) n (subst (λ rows. IsTable view alikes columns more counts rows text) r table)))))
 
 -- two streams that are read, of their texts
 module _ {R : Type 0} (rem : R → Option (List ℕ)) (settings : Settings) (how : Comparing) (old new : Stream R) (versions named : Two R) (job : Job Columns) (answer : Answer) where

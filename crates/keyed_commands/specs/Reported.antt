@@ -2,6 +2,7 @@
 -- is shown.
 use Rattle.std.specs.Prelude.{◌≡◌, ◌++◌, ℕ, Bool, false, true, List, [], ◌∷◌, None, Option, IfSome, filter, length, replicate, ⊤}
 use Rattle.std.specs.Borrow.{Bor}
+use Rattle.eob_both.specs.declared.either_or_both.EitherOrBoth.{EitherOrBoth}
 use Rattle.keyed_columns.specs.Alikes.{as_they_stand}
 use Rattle.keyed_columns.specs.ColumnNames.{has_name}
 use Rattle.keyed_columns.specs.Keys.{AreColumnsBy, ArePickedColumns}
@@ -11,7 +12,8 @@ use Rattle.keyed_files.specs.Opening.{form_of, text_of_stream}
 use Rattle.keyed_files.specs.declared.opened.Stream.{Stream}
 use Rattle.keyed_files.specs.declared.opened.Two.{Two}
 use Rattle.keyed_reports.specs.RowChanges.{row_changes, rows_eq}
-use Rattle.keyed_reports.specs.Shown.{shown_rows}
+use Rattle.keyed_reports.specs.SaidAfter.{count_rows, counts_of}
+use Rattle.keyed_reports.specs.Shown.{count_more, shown_rows}
 use Rattle.keyed_reports.specs.TableLines.{IsTable, TellsTable}
 use Rattle.keyed_requests.specs.declared.request.Comparing.{Comparing}
 use Rattle.keyed_requests.specs.declared.request.Form.{Form}
@@ -45,12 +47,18 @@ abbrev pub IsTold : Format → View → Type 0
 IsTold Csv view = ⊥
 IsTold (Report look) view = TellsTable look view
 
--- a table of the changes between two tables, in the order in which these come out: a line for each row that is shown, and nothing left out
+-- a table of these rows, which changed of a table that had so many: a line for each that is shown, and the counts of all
+abbrev pub IsTableOf : View → Columns → ℕ → List (List (List ℕ) × EitherOrBoth (List (List ℕ)) (List (List ℕ))) → List ℕ → Type 0
+IsTableOf view columns old_rows rows text = IsTable view (replicate (length columns.rest) as_they_stand) columns
+    (count_more view.rows (length rows)) (counts_of old_rows rows) (shown_rows view.rows rows) text
+
+-- a table of the changes between two tables, in the order in which these come out: a line for each row that is shown, nothing left out, and
+-- how many rows were added, were removed, changed and stayed the same
 pub record TellsChanges (view : View) (groups : Bool) (columns : Columns) (keys : Option (List (List (List ℕ)))) (by_cells : Bool) (old new : TableRows)
     (text : List ℕ) : Type 0 where
   pub changes : TableChanges
   pub come_out : ChangesComeOut keys by_cells old new changes
-  pub table : IsTable view (replicate (length columns.rest) as_they_stand) columns (shown_rows view.rows (row_changes rows_eq groups changes)) text
+  pub table : IsTableOf view columns (count_rows old) (row_changes rows_eq groups changes) text
 
 -- the same where a table is asked for, with the order in which rows come out
 pub record ToldBetween (how : Comparing) (groups : Bool) (columns : Columns) (unordered : Type 0) (old new : TableRows) (text : List ℕ) : Type 0 where

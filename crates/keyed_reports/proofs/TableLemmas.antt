@@ -1,5 +1,5 @@
 -- Lines of rows that changed, one after another.
-use Rattle.std.proofs.Common.{◌≡◌, ◌∙◌, ◌+◌, ◌<◌, ◌++◌, ℕ, Bool, false, List, [], ◌∷◌, None, Some, ap, get_or, length, map, option_map, refl, subst, sym, take, true≢false}
+use Rattle.std.proofs.Common.{◌≡◌, ◌∙◌, ◌+◌, ◌<◌, ◌++◌, ℕ, Bool, false, List, [], ◌∷◌, None, Some, ap, ap₂, get_or, length, map, option_map, refl, suc, subst, sym, take, true≢false}
 use Rattle.std.specs.Prelude.{◌==◌}
 use Rattle.std.specs.Borrow.{Bor}
 use Rattle.std.specs.List.{AllZip}
@@ -12,6 +12,7 @@ use Rattle.keyed_layout.specs.Lines.{AreLinedUp}
 use Rattle.keyed_layout.specs.declared.lined_up.Line.{Line}
 use Rattle.keyed_numbers.specs.declared.alike.Alike.{Alike}
 use Rattle.keyed_reports.specs.RowChanges.{row_behind, word_of}
+use Rattle.keyed_reports.specs.SaidAfter.{count_added, count_changed, count_removed, counts_of, counts_with}
 use Rattle.keyed_reports.specs.TableLines.{AreLinesOf, IsTextOfRows, versions_of}
 
 -- the word of a row is that of what stands behind its references
@@ -50,3 +51,31 @@ versions-behind [] = refl
 versions-behind ((key, Left old) ∷ rows) = ap (λ l. (Some old.now, None) ∷ l) (versions-behind rows)
 versions-behind ((key, Both old new) ∷ rows) = ap (λ l. (Some old.now, Some new.now) ∷ l) (versions-behind rows)
 versions-behind ((key, Right new) ∷ rows) = ap (λ l. (None, Some new.now) ∷ l) (versions-behind rows)
+
+-- a row that changed, of references
+abbrev RowOf : Type 0
+RowOf = Bor (List (List ℕ)) × EitherOrBoth (Bor (List (List ℕ))) (Bor (List (List ℕ)))
+
+added-behind : (rows : List RowOf) → count_added (map row_behind rows) ≡ count_added rows
+added-behind [] = refl
+added-behind ((key, Left old) ∷ rows) = added-behind rows
+added-behind ((key, Both old new) ∷ rows) = added-behind rows
+added-behind ((key, Right new) ∷ rows) = ap suc (added-behind rows)
+
+removed-behind : (rows : List RowOf) → count_removed (map row_behind rows) ≡ count_removed rows
+removed-behind [] = refl
+removed-behind ((key, Left old) ∷ rows) = ap suc (removed-behind rows)
+removed-behind ((key, Both old new) ∷ rows) = removed-behind rows
+removed-behind ((key, Right new) ∷ rows) = removed-behind rows
+
+changed-behind : (rows : List RowOf) → count_changed (map row_behind rows) ≡ count_changed rows
+changed-behind [] = refl
+changed-behind ((key, Left old) ∷ rows) = changed-behind rows
+changed-behind ((key, Both old new) ∷ rows) = ap suc (changed-behind rows)
+changed-behind ((key, Right new) ∷ rows) = changed-behind rows
+
+-- the counts of rows are those of what stands behind their references
+pub counts-behind : (old_rows : ℕ) (rows : List RowOf) → counts_of old_rows rows ≡ counts_of old_rows (map row_behind rows)
+counts-behind old_rows rows =
+    sym (ap (λ added. counts_with old_rows added (count_removed (map row_behind rows)) (count_changed (map row_behind rows))) (added-behind rows)
+    ∙ ap₂ (counts_with old_rows (count_added rows)) (removed-behind rows) (changed-behind rows))

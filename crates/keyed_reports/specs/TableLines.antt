@@ -10,7 +10,9 @@ use Rattle.keyed_layout.specs.Lines.{AreBothShown, AreLinedUp, IsLineOf, picked_
 use Rattle.keyed_layout.specs.declared.lined_up.Line.{Line}
 use Rattle.keyed_numbers.specs.declared.alike.Alike.{Alike}
 use Rattle.keyed_reports.specs.RowChanges.{word_of}
+use Rattle.keyed_reports.specs.SaidAfter.{text_after}
 use Rattle.keyed_reports.specs.ShownColumns.{Versions, columns_shown}
+use Rattle.keyed_reports.specs.declared.counts.Counts.{Counts}
 use Rattle.keyed_requests.specs.declared.request.Look.{Look}
 use Rattle.keyed_requests.specs.declared.request.Look.TheVariants.{Html, Json, Markdown, Table}
 use Rattle.keyed_requests.specs.declared.request.RowsShown.{RowsShown}
@@ -39,19 +41,23 @@ module _ (alikes : List Alike) (shown : List Bool) where
   IsTextOfRows columns [] text = text ≡ []
   IsTextOfRows columns (row ∷ rows) text = (grid : List Line) × AreLinesOf columns (row ∷ rows) grid × AreLinedUp grid text
 
-  -- a text has them between what is said of columns and the counts
-  abbrev pub HasTextOfRows : Columns → List (List (List ℕ) × EitherOrBoth (List (List ℕ)) (List (List ℕ))) → List ℕ → Type 0
-  HasTextOfRows columns rows text = (before : List ℕ) × (lines : List ℕ) × (after : List ℕ) × IsTextOfRows columns rows lines
-      × (text ≡ before ++ (lines ++ after))
+  -- a text has them between what is said of columns and what is said after the rows
+  abbrev pub HasTextOfRows : Columns → List (List (List ℕ) × EitherOrBoth (List (List ℕ)) (List (List ℕ))) → List ℕ → List ℕ → Type 0
+  HasTextOfRows columns rows after text = (before : List ℕ) × (lines : List ℕ) × IsTextOfRows columns rows lines × (text ≡ before ++ (lines ++ after))
 
 -- the versions of a row that changed
 abbrev pub versions_of : List (List ℕ) × EitherOrBoth (List (List ℕ)) (List (List ℕ)) → Versions
 versions_of row = (left_place row.1, right_place row.1)
 
--- a table of rows that changed has a line for each, in their order, with the cells of the columns that are shown
-abbrev pub IsTable : View → List Alike → Columns → List (List (List ℕ) × EitherOrBoth (List (List ℕ)) (List (List ℕ))) → List ℕ → Type 0
-IsTable view alikes columns rows text =
-    HasTextOfRows alikes (columns_shown view.shown alikes (length columns.rest) (map versions_of rows)) columns rows text
+-- whether each of the columns beside the key is shown of rows that changed
+abbrev pub shown_in : View → List Alike → Columns → List (List (List ℕ) × EitherOrBoth (List (List ℕ)) (List (List ℕ))) → List Bool
+shown_in view alikes columns rows = columns_shown view.shown alikes (length columns.rest) (map versions_of rows)
+
+-- a table of rows that changed has a line for each, in their order, with the cells of the columns that are shown, then says how many more
+-- there are and how many columns are not shown, and ends with the counts
+abbrev pub IsTable : View → List Alike → Columns → ℕ → Counts → List (List (List ℕ) × EitherOrBoth (List (List ℕ)) (List (List ℕ))) → List ℕ → Type 0
+IsTable view alikes columns more counts rows text = HasTextOfRows alikes (shown_in view alikes columns rows) columns rows
+    (text_after (length rows) more (shown_in view alikes columns rows) counts) text
 
 -- rows are shown, and not how many there are alone
 abbrev pub TellsRows : RowsShown → Type 0

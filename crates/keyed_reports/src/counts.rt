@@ -1,6 +1,7 @@
 //! How many rows changed.
-ghost use Rattle.std.specs.Prelude.{◌≡◌, ◌+◌, ◌-◌, ◌^◌, filter, is_none, is_some, length, map, min, sum};
-ghost use Rattle.either_or_both.specs.Prelude.{left_place, option_zip, right_place};
+ghost use Rattle.std.specs.Prelude.{◌≡◌, ◌+◌, ◌-◌, ◌^◌, Some, min};
+ghost use Rattle.keyed_reports.specs.SaidAfter.{count_added, count_changed, count_removed, count_rows};
+ghost use Rattle.keyed_reports.specs.SaidAfter.{counts_of, counts_text};
 
 use eob_joins::Change;
 use keyed_rows::{Group, Key};
@@ -41,6 +42,8 @@ impl Counts {
 }
 
 impl fmt::Display for Counts {
+    ghost output = { λ counts. Some (counts_text counts) };
+
     fn fmt<W: fmt::Write>(&self, f: &mut fmt::Formatter<W>) -> fmt::Result {
         write!(
             f,
@@ -52,7 +55,7 @@ impl fmt::Display for Counts {
 
 /// How many rows a table has, or the greatest number where they are more.
 pub fn count_rows(pairs: &[(Key, Group)]) -> usize
-    ensures { result ≡ min (sum (map (λ pair. length pair.1) pairs.now)) (2 ^ 64 - 1) }
+    ensures { result ≡ count_rows pairs.now }
 {
     let mut count: usize = 0;
     for pair in pairs {
@@ -63,11 +66,7 @@ pub fn count_rows(pairs: &[(Key, Group)]) -> usize
 
 /// The counts of changes to a table that had this many rows, each of one row.
 pub fn count<K, V>(old_rows: usize, changes: &[(K, Change<V>)]) -> Counts
-    ensures added { result.added ≡ length (filter (λ row. is_none (left_place row.1)) changes.now) }
-    ensures removed { result.removed ≡ length (filter (λ row. is_none (right_place row.1)) changes.now) }
-    ensures changed { result.changed
-        ≡ length (filter (λ row. is_some (option_zip (left_place row.1) (right_place row.1))) changes.now) }
-    ensures same { result.same ≡ old_rows - result.removed - result.changed }
+    ensures { result ≡ counts_of old_rows changes.now }
 {
     let removed = count_removed(changes);
     let changed = count_changed(changes);
@@ -80,20 +79,19 @@ pub fn count<K, V>(old_rows: usize, changes: &[(K, Change<V>)]) -> Counts
 }
 
 fn count_added<K, V>(changes: &[(K, Change<V>)]) -> usize
-    ensures { result ≡ length (filter (λ row. is_none (left_place row.1)) changes.now) }
+    ensures { result ≡ count_added changes.now }
 {
     changes.iter().filter(|row| row.1.is_right()).count()
 }
 
 fn count_removed<K, V>(changes: &[(K, Change<V>)]) -> usize
-    ensures { result ≡ length (filter (λ row. is_none (right_place row.1)) changes.now) }
+    ensures { result ≡ count_removed changes.now }
 {
     changes.iter().filter(|row| row.1.is_left()).count()
 }
 
 fn count_changed<K, V>(changes: &[(K, Change<V>)]) -> usize
-    ensures { result
-        ≡ length (filter (λ row. is_some (option_zip (left_place row.1) (right_place row.1))) changes.now) }
+    ensures { result ≡ count_changed changes.now }
 {
     changes.iter().filter(|row| row.1.is_both()).count()
 }

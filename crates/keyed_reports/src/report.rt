@@ -1,6 +1,7 @@
 //! What there is to say of two tables, and the form in which it is said.
-ghost use Rattle.std.specs.Prelude.{◌≡◌, ◌-◌, IfOk, length, map};
+ghost use Rattle.std.specs.Prelude.{◌≡◌, IfOk, length, map};
 ghost use Rattle.keyed_reports.specs.RowChanges.{row_behind};
+ghost use Rattle.keyed_reports.specs.SaidAfter.{counts_of};
 ghost use Rattle.keyed_reports.specs.Shown.{count_more, shown_rows};
 ghost use Rattle.keyed_reports.specs.TableLines.{IsTable, TellsTable};
 
@@ -55,6 +56,7 @@ impl<'r> Report<'r> {
         ensures view { result.view ≡ view.entry }
         ensures rows { result.rows.now ≡ shown_rows view.entry.rows rows.now }
         ensures more { result.more ≡ count_more view.entry.rows (length rows.now) }
+        ensures counts { result.counts ≡ counts_of old_rows (map row_behind rows.now) }
     {
         Report {
             columns,
@@ -99,7 +101,8 @@ fn count_more(which: RowsShown, all: usize) -> usize
 /// Returns `AllocError` if a request for memory was refused.
 pub fn write_report(alloc: Global, look: Look, report: &Report<'_>) -> Result<Vec<u8>, AllocError>
     ensures { IfOk result (λ text. TellsTable look report.now.view → IsTable report.now.view
-        report.now.alikes.now report.now.columns.now (map row_behind report.now.rows.now) text.items) }
+        report.now.alikes.now report.now.columns.now report.now.more report.now.counts
+        (map row_behind report.now.rows.now) text.items) }
 {
     match report.view.rows {
         RowsShown::Nothing => write_summary(alloc, look, report),
@@ -110,7 +113,8 @@ pub fn write_report(alloc: Global, look: Look, report: &Report<'_>) -> Result<Ve
 // The report with its rows.
 fn write_rows(alloc: Global, look: Look, report: &Report<'_>) -> Result<Vec<u8>, AllocError>
     ensures { IfOk result (λ text. TellsTable look report.now.view → IsTable report.now.view
-        report.now.alikes.now report.now.columns.now (map row_behind report.now.rows.now) text.items) }
+        report.now.alikes.now report.now.columns.now report.now.more report.now.counts
+        (map row_behind report.now.rows.now) text.items) }
 {
     match look {
         Look::Table { colours } => {

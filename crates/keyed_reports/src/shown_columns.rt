@@ -1,5 +1,6 @@
 //! Which columns a report shows beside those of the key: of rows that all changed those in which one of them did.
-ghost use Rattle.std.specs.Prelude.{◌≡◌, IfOk, length, map, option_map, replicate};
+ghost use Rattle.std.specs.Prelude.{◌≡◌, IfOk, length, map, option_map, replicate, string_bytes};
+ghost use Rattle.keyed_reports.specs.SaidAfter.{count_hidden, hidden_text, left_out_text};
 ghost use Rattle.either_or_both.specs.Prelude.{left_place, right_place};
 ghost use Rattle.keyed_reports.specs.ShownColumns.{columns_changed, columns_shown, either_changed};
 
@@ -106,11 +107,28 @@ fn either_changed(
 /// # Errors
 ///
 /// Returns `AllocError` if a request for memory was refused.
-pub fn left_out(alloc: Global, report: &Report<'_>, shown: &[bool]) -> Result<String, AllocError> {
-    let count = shown.iter().filter(|is_shown| !**is_shown).count();
+pub fn left_out(alloc: Global, report: &Report<'_>, shown: &[bool]) -> Result<String, AllocError>
+    ensures { IfOk result
+        (λ text. string_bytes text ≡ left_out_text (length report.now.rows.now) shown.now) }
+{
+    let count = count_hidden(shown);
     if report.rows.is_empty() || count == 0 {
         return Ok(String::new(alloc));
     }
+    hidden_text(alloc, count)
+}
+
+// How many columns are not shown.
+fn count_hidden(shown: &[bool]) -> usize
+    ensures { result ≡ count_hidden shown.now }
+{
+    shown.iter().filter(|is_shown| !**is_shown).count()
+}
+
+// What is said of so many columns.
+fn hidden_text(alloc: Global, count: usize) -> Result<String, AllocError>
+    ensures { IfOk result (λ text. string_bytes text ≡ hidden_text count) }
+{
     let columns = if count == 1 {
         "column is"
     } else {

@@ -4,6 +4,7 @@ ghost use Rattle.either_or_both.specs.Prelude.{map_places};
 ghost use Rattle.keyed_layout.specs.Lines.{AreLinedUp, texts_of};
 ghost use Rattle.keyed_layout.specs.declared.lined_up.Line.{Line};
 ghost use Rattle.keyed_reports.specs.RowChanges.{row_behind};
+ghost use Rattle.keyed_reports.specs.SaidAfter.{more_text, text_after};
 ghost use Rattle.keyed_reports.specs.TableLines.{AreCells, AreLinesOf, HasTextOfRows, IsLineOfRow, IsTable};
 ghost use Rattle.keyed_reports.specs.TableLines.{IsTextOfRows};
 
@@ -20,7 +21,6 @@ use keyed_numbers::Alike;
 use keyed_requests::Colours;
 use keyed_rows::Cells;
 use std::alloc::{AllocError, Global};
-use std::fmt::Write;
 
 /// What became of the columns, the rows, each in the colour of its change where there are colours, how many columns are not shown, if any
 /// are not, and the counts. Where the width of a line is bounded, the rows stand in blocks of columns, each with the key, and an empty line
@@ -31,7 +31,8 @@ use std::fmt::Write;
 /// Returns `AllocError` if a request for memory was refused.
 pub fn table(alloc: Global, colours: Colours, report: &Report<'_>) -> Result<String, AllocError>
     ensures { IfOk result (λ text. report.now.view.width ≡ None → IsTable report.now.view
-        report.now.alikes.now report.now.columns.now (map row_behind report.now.rows.now) (string_bytes text)) }
+        report.now.alikes.now report.now.columns.now report.now.more report.now.counts
+        (map row_behind report.now.rows.now) (string_bytes text)) }
 {
     let before = format!(in alloc; "{}", report.column_changes)?;
     let shown = columns_of(alloc, report)?;
@@ -42,14 +43,26 @@ pub fn table(alloc: Global, colours: Colours, report: &Report<'_>) -> Result<Str
 }
 
 // How many rows and how many columns are not shown, if any are not, and the counts.
-fn said_after(alloc: Global, report: &Report<'_>, shown: &[bool]) -> Result<String, AllocError> {
-    let mut text = String::new(alloc);
-    if report.more > 0 {
-        writeln!(text, "and {} more", report.more)?;
-    }
-    text.push_str(&left_out(alloc, report, shown)?)?;
-    writeln!(text, "{}", report.counts)?;
+fn said_after(alloc: Global, report: &Report<'_>, shown: &[bool]) -> Result<String, AllocError>
+    ensures { IfOk result (λ text. string_bytes text
+        ≡ text_after (length report.now.rows.now) report.now.more shown.now report.now.counts) }
+{
+    let more = said_of_more(alloc, report.more)?;
+    let hidden = left_out(alloc, report, shown)?;
+    let counts = format!(in alloc; "{}\n", report.counts)?;
+    let text = joined(more, &hidden, &counts)?;
     Ok(text)
+}
+
+// How many more rows there are, where there are any.
+fn said_of_more(alloc: Global, more: usize) -> Result<String, AllocError>
+    ensures { IfOk result (λ text. string_bytes text ≡ more_text more) }
+{
+    if more == 0 {
+        Ok(String::new(alloc))
+    } else {
+        format!(in alloc; "and {more} more\n")
+    }
 }
 
 // Three texts as one.
