@@ -15,6 +15,8 @@ pub mod LawLemmas
 pub mod LookupLemmas
 pub mod LossLemmas
 pub mod MadeLemmas
+pub mod MarkLawLemmas
+pub mod MarkLemmas
 pub mod NotedLemmas
 pub mod OnceLemmas
 pub mod OneSideLemmas
@@ -27,6 +29,7 @@ pub mod ReadLemmas
 pub mod RejectedLemmas
 pub mod ReportLemmas
 pub mod RowDiffLemmas
+pub mod RowTextLemmas
 pub mod RequestLemmas
 pub mod SignedLemmas
 pub mod SortedBegunLemmas

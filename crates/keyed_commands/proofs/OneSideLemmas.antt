@@ -7,6 +7,7 @@ use Rattle.eob_joins.proofs.TableLemmas.{by_test}
 use Rattle.keyed_requests.specs.AnswerForm.{in_style}
 use Rattle.keyed_requests.specs.declared.request.Form.{Form}
 use Rattle.keyed_requests.specs.declared.request.Settings.{Settings}
+use Rattle.keyed_requests.specs.declared.merging.Conflicts.TheVariants.{Report}
 use Rattle.keyed_requests.specs.declared.merging.Unit.TheVariants as unit
 use Rattle.keyed_commands.specs.Answers.{AnswersMerged, HasNoConflict, IsTableFile, Stops, clashes_at, rows_eq}
 use Rattle.keyed_commands.specs.Lost.{loses}
@@ -40,7 +41,7 @@ stopped_made : Stopped ≡ Made → ⊥
 stopped_made e = absurd (cc)
 
 module _ (settings : Settings) (base_form ours_form theirs_form : Form) (base_text ours_text theirs_text : List ℕ) (answer : Answer)
-    (merges : MergesTexts unit.Row settings base_form ours_form theirs_form base_text ours_text theirs_text answer) (made : answer.outcome ≡ Made) where
+    (merges : MergesTexts Report unit.Row settings base_form ours_form theirs_form base_text ours_text theirs_text answer) (made : answer.outcome ≡ Made) where
   -- the form that the answer is written in
   abbrev made_in : Form
   made_in = in_style merges.merged.style settings.form

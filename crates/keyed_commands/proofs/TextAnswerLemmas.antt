@@ -4,6 +4,7 @@ use Rattle.std.specs.Prelude.{IfSome}
 use Rattle.std.specs.Io.KnownBytes.{Keeps}
 use Rattle.keyed_text.specs.declared.style.Style.{Style}
 use Rattle.keyed_requests.specs.AnswerForm.{in_style}
+use Rattle.keyed_requests.specs.declared.merging.Conflicts.{Conflicts}
 use Rattle.keyed_requests.specs.declared.merging.Unit.{Unit}
 use Rattle.keyed_requests.specs.declared.request.Form.{Form}
 use Rattle.keyed_requests.specs.declared.request.Settings.{Settings}
@@ -25,7 +26,8 @@ use Rattle.keyed_commands.specs.Rejected.{AnswersPartly, plain}
 use Rattle.keyed_tables.specs.Arranged.{noted}
 use Rattle.keyed_commands.specs.ChangesRead.{SaysChanges}
 use Rattle.keyed_commands.specs.FileOrder.{begun_keys, noted_with, placed_with}
-use Rattle.keyed_commands.specs.MergedTexts.{AnswersBy, MergesSources, MergesStreams, MergesTexts}
+use Rattle.keyed_commands.specs.MergedTexts.{AnswersAs, MergesSources, MergesStreams, MergesTexts}
+use Rattle.keyed_commands.specs.MarkedText.{all_as_they_stand}
 use Rattle.keyed_commands.specs.NotedStyles.{IsNoted}
 use Rattle.keyed_commands.specs.TablesRead.{IsUnordered, ReadsTable, SaysTable}
 use Rattle.keyed_commands.specs.MadeChanges.{made_in}
@@ -180,17 +182,17 @@ module _ {R : Type 0} (rem : R → Option (List ℕ)) (settings : Settings) (dir
       (changes-streams (AnswersPartly direction how partly) styled first next goes renamed turned form groups unordered begins columned spells read)
 
 -- three streams of versions of a table, of their texts
-module _ {R : Type 0} (rem : R → Option (List ℕ)) (by : Unit) (settings : Settings) (base ours theirs : Stream R) (opened named : Opened R) (sides : Two R) (job : Job Columns)
+module _ {R : Type 0} (rem : R → Option (List ℕ)) (conflicts : Conflicts) (by : Unit) (settings : Settings) (base ours theirs : Stream R) (opened named : Opened R) (sides : Two R) (job : Job Columns)
     (first_style : Style) (answer : Answer) where
   pub merge-streams : IfSome (text_of_stream rem settings.form ours) (IsNoted (form_of settings.form ours) first_style) → IsOpened rem settings.form Rows base opened → IsOpened rem settings.form Rows ours sides.first → IsOpened rem settings.form Rows theirs sides.next
       → IsNamedAnew settings opened.source.value named.source.value
       → job.form ≡ settings.form → job.groups ≡ settings.groups → (settings.keeps_order ≡ false → IsUnordered job) → noted job.order ≡ begun_keys settings.keeps_order
       → AreMergedColumnsBy settings.key named.source.value.header.names sides.first.source.value.header.names sides.next.source.value.header.names job.columns.now
       → IsSpelledAs sides.first.source.value.header.spelling.names sides.first.source.value.header.spelling.spelled job.columns.now
-      → MergesSources rem by job first_style named sides answer → MergesStreams rem by settings base ours theirs answer
+      → MergesSources rem conflicts by job first_style named sides answer → MergesStreams rem conflicts by settings base ours theirs answer
   merge-streams styled first second third renamed form groups unordered begins columned spells read =
       three-known {Q = λ u. IsOpen (form_of settings.form ours) Rows rem u sides.first.source.value.header.names sides.first.source.value × IsNoted (form_of settings.form ours) first_style u}
-      {T = λ t u v. MergesTexts by settings (form_of settings.form base) (form_of settings.form ours) (form_of settings.form theirs) t u v answer}
+      {T = λ t u v. MergesTexts conflicts by settings (form_of settings.form base) (form_of settings.form ours) (form_of settings.form theirs) t u v answer}
       _ _ _ first (both-of _ _ (text_of_stream rem settings.form ours) second styled) third (λ t u v one both three.
       let two = both.0 in
       let ours_say = says rem settings job (form_of settings.form ours) u sides.first.source.value.header.names sides.first read.ours groups read.ours_read two in record {
@@ -218,7 +220,7 @@ module _ {R : Type 0} (rem : R → Option (List ℕ)) (by : Unit) (settings : Se
           styled = style-of (form_of settings.form ours) job.form settings.form u first_style read.merged.style form both.1 read.merged.styled;
           keys = read.merged.keys;
           by_cells = read.merged.by_cells;
-          merged = subst (λ f. AnswersBy (in_style read.merged.style f) job.columns.now read.merged.keys read.merged.by_cells read.base read.ours read.theirs answer by) form read.merged.merged;
+          merged = subst (λ f. AnswersAs (in_style read.merged.style f) job.columns.now read.merged.keys read.merged.by_cells read.base read.ours read.theirs (all_as_they_stand job.columns.now) answer by conflicts) form read.merged.merged;
           order = λ by_key. read.merged.order (unordered by_key);
         };
       })

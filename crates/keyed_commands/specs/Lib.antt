@@ -13,6 +13,8 @@ pub mod Keys
 pub mod Laws
 pub mod LookupAnswers
 pub mod Lost
+pub mod MarkLaws
+pub mod MarkedText
 pub mod MadeChanges
 pub mod MergedTexts
 pub mod NotedStyles

@@ -4,6 +4,7 @@ use Rattle.eob_lists.specs.Join.{Rising, value_under}
 use Rattle.keyed_requests.specs.AnswerForm.{in_style}
 use Rattle.keyed_requests.specs.declared.request.Form.{Form}
 use Rattle.keyed_requests.specs.declared.request.Settings.{Settings}
+use Rattle.keyed_requests.specs.declared.merging.Conflicts.TheVariants.{Report}
 use Rattle.keyed_requests.specs.declared.merging.Unit.TheVariants as unit
 use Rattle.keyed_commands.specs.Answers.{IsTableFile, TableRows, key_cmp}
 use Rattle.keyed_commands.specs.MergedTexts.{MergesTexts}
@@ -22,6 +23,6 @@ pub record KeepsOneSide (base ours theirs rows : TableRows) : Type 0 where
 -- what `merge` makes of three texts row by row is the file of a table that has what one side alone changed, whatever the texts are
 abbrev pub OneSideLaw : Type 0
 OneSideLaw = (settings : Settings) (base_form ours_form theirs_form : Form) (base_text ours_text theirs_text : List ℕ) (answer : Answer)
-    → (merges : MergesTexts unit.Row settings base_form ours_form theirs_form base_text ours_text theirs_text answer) → answer.outcome ≡ Made
+    → (merges : MergesTexts Report unit.Row settings base_form ours_form theirs_form base_text ours_text theirs_text answer) → answer.outcome ≡ Made
     → (rows : TableRows) × KeepsOneSide merges.base merges.ours merges.theirs rows
     × IsTableFile (in_style merges.merged.style settings.form) merges.columns merges.merged.keys merges.merged.by_cells rows answer.bytes.items

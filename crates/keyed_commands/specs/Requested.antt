@@ -37,7 +37,7 @@ use Rattle.keyed_commands.specs.AppliedTexts.{AppliesStreams, PartlyStreams}
 use Rattle.keyed_commands.specs.DiffOnly.{DiffsStreamsBy}
 use Rattle.keyed_commands.specs.JoinAnswers.{JoinsStreams}
 use Rattle.keyed_commands.specs.LookupAnswers.{LooksUpStreams}
-use Rattle.keyed_commands.specs.MergedTexts.{IsReported, MergesStreams}
+use Rattle.keyed_commands.specs.MergedTexts.{MergesStreams}
 use Rattle.keyed_commands.specs.OverlayAnswers.{OverlaysStreams}
 use Rattle.keyed_commands.specs.Reported.{IsReport, ReportsStreams}
 use Rattle.keyed_commands.specs.RowDiff.{DiffsRowStreams}
@@ -108,7 +108,7 @@ module _ {F I : Type 0} (file_left : F → Option (List ℕ)) (input_left : I �
     abbrev pub MergesNamed : Bor (List ℕ) → Bor (List ℕ) → Bor (List ℕ) → Merging → Answer → Type 0
     MergesNamed base ours theirs how answer = (first : Stream (Either F I)) × (next : Stream (Either F I)) × (last : Stream (Either F I))
         × IsStreamOf base None first × IsStreamOf ours settings.form.reading.next next × IsStreamOf theirs settings.form.reading.last last
-        × (IsReported how → MergesStreams remaining how.unit settings first next last answer)
+        × (how.sameness ≡ None → MergesStreams remaining how.conflicts how.unit settings first next last answer)
 
     abbrev pub JoinsNamed : Bor (List ℕ) → Bor (List ℕ) → Joining → Answer → Type 0
     JoinsNamed left right how answer = (first : Stream (Either F I)) × (next : Stream (Either F I)) × IsStreamOf left None first

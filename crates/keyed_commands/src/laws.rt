@@ -1,6 +1,7 @@
 //! What follows of the answers of commands, of tables in memory and of texts. Calling one of these functions does nothing: its contract
 //! gives the caller's proof the law.
 ghost use Rattle.keyed_commands.specs.Laws.{DiffReadsLaw, TakenBackFitsLaw, TakenBackLaw};
+ghost use Rattle.keyed_commands.specs.MarkLaws.{MarksLaw};
 ghost use Rattle.keyed_commands.specs.OneSide.{OneSideLaw};
 ghost use Rattle.keyed_commands.specs.TextLaws.{DiffSaysLaw, DiffedTextByLaw, DiffedTextLaw};
 ghost use Rattle.keyed_commands.specs.TextLaws.{OneChangesLaw, OneTableLaw};
@@ -39,6 +40,12 @@ pub fn law_diff_apply_texts()
 /// no report.
 pub fn law_one_side()
     ensures { OneSideLaw }
+{}
+
+/// With marks, `merge` makes of three texts the table that it makes without them where no key is in conflict, and else a table with marks and
+/// status 1, or a report where a column goes, whatever the texts are. Call it where three texts are merged with marks.
+pub fn law_marks()
+    ensures { MarksLaw }
 {}
 
 /// Changes that are taken back fit the table that they made, and give the rows back that they were made to, whatever the table and the

@@ -61,7 +61,7 @@ pub use keyed_requests::{
 };
 pub use keyed_text::{CellQuotes, LineEnd, Style};
 pub use laws::{
-    law_diff_apply_texts, law_diff_reads, law_diff_says, law_one_side, law_taken_back,
+    law_diff_apply_texts, law_diff_reads, law_diff_says, law_marks, law_one_side, law_taken_back,
     law_text_once,
 };
 pub use output::write_into_file;

@@ -1,5 +1,5 @@
 //! The answer to `merge`, of streams: two versions of a table merged over their base, or a report of the rows in conflict.
-ghost use Rattle.std.specs.Prelude.{◌≡◌, IfOk, OnOk, is_none};
+ghost use Rattle.std.specs.Prelude.{◌≡◌, IfOk, None, OnOk, is_none};
 ghost use Rattle.eob_joins.specs.Marked.{merged_of};
 ghost use Rattle.keyed_columns.specs.Keys.{AreMergedColumnsBy};
 ghost use Rattle.keyed_columns.specs.Spelled.{IsSpelledAs};
@@ -7,7 +7,9 @@ ghost use Rattle.keyed_columns.specs.declared.content.Content.TheVariants.{Rows}
 ghost use Rattle.keyed_files.specs.Opening.{first_header, next_header};
 ghost use Rattle.keyed_tables.specs.Arranged.{noted};
 ghost use Rattle.keyed_commands.specs.AppliedTexts.{watched_left};
-ghost use Rattle.keyed_commands.specs.MergedTexts.{AnswersBy, IsReported, MergesSources, MergesStreams};
+ghost use Rattle.keyed_commands.specs.MarkedText.{AnswersMarks, IsMarkedBy, all_as_they_stand};
+ghost use Rattle.keyed_commands.specs.MarkedText.{has_all_columns};
+ghost use Rattle.keyed_commands.specs.MergedTexts.{AnswersAs, AnswersBy, MergesSources, MergesStreams};
 ghost use Rattle.keyed_commands.specs.Preferred.{rows_by_side};
 ghost use Rattle.keyed_commands.specs.FileOrder.{NotesBoth, placed_with};
 ghost use Rattle.keyed_commands.specs.TablesRead.{IsUnordered, ReadsTable};
@@ -15,14 +17,14 @@ ghost use Rattle.keyed_commands.specs.Answers.{AnswersMerge, AnswersMerged, Answ
 ghost use Rattle.keyed_commands.specs.Answers.{AnswersTable, HasNoConflict, HasNoneUnresolved};
 ghost use Rattle.keyed_commands.specs.Answers.{HasUnresolved, Stops};
 
-use crate::answer::{Answer, Outcome, stopped};
+use crate::answer::{Answer, stopped};
 use crate::by_number::settled_by_number;
 use crate::conflict_cells::{Telling, told_conflicts};
 use crate::conflicts::render_conflicts;
 use crate::job::{Job, Table};
 use crate::lost_cells::lose_cells;
 use crate::made_table::answer_of_rows;
-use crate::marks::{has_conflict, write_marked};
+use crate::marks::{answer_with_marks, has_conflict};
 use crate::preferred::rows_by_side;
 use crate::styles::{Watched, spelling_of, style_under, unwatched, watch};
 use eob_joins::{Marked, Parted, part_marked};
@@ -53,8 +55,9 @@ pub fn merge<'a, R: Read + Drop>(
     ours: Stream<'a, R>,
     theirs: Stream<'a, R>,
 ) -> Result<Answer, Fault<'a>>
-    ensures { IfOk result (λ answer. IsReported how.entry →
-        MergesStreams R.remaining how.entry.unit settings.entry base.entry ours.entry theirs.entry answer) }
+    ensures { IfOk result (λ answer. how.entry.sameness ≡ None →
+        MergesStreams R.remaining how.entry.conflicts how.entry.unit settings.entry
+        base.entry ours.entry theirs.entry answer) }
 {
     let base = unwatched(alloc, base);
     let mut base = Opened::new(alloc, settings.form, Content::Rows, base)?;
@@ -106,8 +109,8 @@ fn merge_files<'a, R: Read + Drop>(
     base: &mut Opened<'a, Watched<R>>,
     sides: &mut Two<'a, Watched<R>>,
 ) -> Result<Answer, Fault<'a>>
-    ensures { IfOk result (λ answer. IsReported how.entry →
-        MergesSources (watched_left R.remaining) how.entry.unit job.entry first_style
+    ensures { IfOk result (λ answer. how.entry.sameness ≡ None →
+        MergesSources (watched_left R.remaining) how.entry.conflicts how.entry.unit job.entry first_style
         base.old sides.old answer) }
 {
     let versions = read_versions(&mut job, base, sides)?;
@@ -155,10 +158,10 @@ fn merge_tables(
     how: Merging<'_>,
     versions: ThreeVersions,
 ) -> Result<Answer, Reason>
-    ensures { IfOk result (λ answer. IsReported how.entry → AnswersBy job.now.form job.now.columns.now
-        (noted job.now.order) (is_none job.now.row_order.files)
+    ensures { IfOk result (λ answer. how.entry.sameness ≡ None →
+        AnswersAs job.now.form job.now.columns.now (noted job.now.order) (is_none job.now.row_order.files)
         versions.base.pairs.items versions.ours.pairs.items versions.theirs.pairs.items
-        answer how.entry.unit) }
+        (all_as_they_stand job.now.columns.now) answer how.entry.unit how.entry.conflicts) }
 {
     let tolerances = Tolerances::new(job.alloc, how.sameness)?;
     let alikes = tolerances.alikes(job.alloc, job.columns)?;
@@ -168,17 +171,34 @@ fn merge_tables(
     };
     match how.sameness {
         Some(_) => merge_by_number(job, telling, how.conflicts, versions),
-        None => match how.conflicts {
-            Conflicts::Report => merge_reported(job, telling, versions),
-            Conflicts::Marks => {
-                let rows = marked_rows(job.alloc, how.unit, versions)?;
-                mark_conflicts(job, telling, rows)
-            }
-            Conflicts::Prefer(side) => {
-                let rows = marked_rows(job.alloc, how.unit, versions)?;
-                merge_by_side(job, telling, side, rows)
-            }
-        },
+        None => merge_as_written(job, telling, how.conflicts, versions),
+    }
+}
+
+// The same where cells are compared as they stand.
+fn merge_as_written(
+    job: &Job<'_, Columns>,
+    how: Telling<'_>,
+    conflicts: Conflicts,
+    versions: ThreeVersions,
+) -> Result<Answer, Reason>
+    ensures { IfOk result (λ answer. AnswersAs job.now.form job.now.columns.now
+        (noted job.now.order) (is_none job.now.row_order.files)
+        versions.base.pairs.items versions.ours.pairs.items versions.theirs.pairs.items
+        how.entry.alikes.now answer how.entry.unit conflicts) }
+{
+    match conflicts {
+        Conflicts::Report => merge_reported(job, how, versions),
+        Conflicts::Marks => {
+            let rows = marked_rows(job.alloc, how.unit, versions)?;
+            let answer = mark_conflicts(job, how, rows)?;
+            Ok(answer)
+        }
+        Conflicts::Prefer(side) => {
+            let rows = marked_rows(job.alloc, how.unit, versions)?;
+            let answer = merge_by_side(job, how, side, rows)?;
+            Ok(answer)
+        }
     }
 }
 
@@ -204,15 +224,29 @@ fn mark_conflicts(
     job: &Job<'_, Columns>,
     how: Telling<'_>,
     rows: Vec<(Key, Marked<Group>)>,
-) -> Result<Answer, Reason> {
-    if has_conflict(&rows) && job.columns.count_written() == job.columns.rest.len() {
-        return Ok(Answer {
-            bytes: write_marked(job, how, job.arrange(rows)?)?,
-            status: 1,
-            outcome: Outcome::Made,
-        });
+) -> Result<Answer, Reason>
+    ensures { IfOk result (AnswersMarks job.now.form job.now.columns.now (noted job.now.order)
+        (is_none job.now.row_order.files) how.entry.unit how.entry.alikes.now rows.items) }
+{
+    if has_conflict(&rows) {
+        if has_all_columns(job.columns) {
+            answer_with_marks(job, how, rows)
+        } else {
+            let parted = part_marked(job.alloc, rows)?;
+            report_conflicts(job, how, parted)
+        }
+    } else {
+        let parted = part_marked(job.alloc, rows)?;
+        let answer = answer_of_rows(job, "merged", parted.settled)?;
+        Ok(answer)
     }
-    answer_of_merge(job, how, part_marked(job.alloc, rows)?)
+}
+
+// Whether no column goes.
+fn has_all_columns(columns: &Columns) -> bool
+    ensures { result ≡ has_all_columns columns.now }
+{
+    columns.count_written() == columns.rest.len()
 }
 
 // The merged table, with rows in conflict as this side has them.
@@ -254,7 +288,10 @@ fn marked_rows(
     alloc: Global,
     unit: Unit,
     versions: ThreeVersions,
-) -> Result<Vec<(Key, Marked<Group>)>, AllocError> {
+) -> Result<Vec<(Key, Marked<Group>)>, AllocError>
+    ensures { IfOk result (λ rows. IsMarkedBy unit versions.base.pairs.items
+        versions.ours.pairs.items versions.theirs.pairs.items rows.items) }
+{
     let ThreeVersions { base, ours, theirs } = versions;
     match unit {
         Unit::Row => marked_merge_of(alloc, base, ours, theirs),
