@@ -30,7 +30,7 @@ module _ {V : Type 0} (eq : V → V → Bool) (gives : Option V → Option V →
   by_conflict true b p q value m n g h = given_once b p q m n g h
   by_conflict false b p q value m n g h = g ∙ sym h
 
-  became_once : (b p q m n : Option V) → Became eq gives b p q m → Became eq gives b p q n → m ≡ n
+  pub became_once : (b p q m n : Option V) → Became eq gives b p q m → Became eq gives b p q n → m ≡ n
   became_once b p q m n g h = by_conflict (is_conflict (verdict eq b p q)) b p q (merged_place eq b p q) m n g h
 
   -- what became of three places is what a function of their row says, if that says so of the row

@@ -8,6 +8,7 @@ use Rattle.eob_joins.proofs.TableLemmas.{same_table}
 use Rattle.keyed_text.specs.declared.style.Style.{Style}
 use Rattle.keyed_requests.specs.AnswerForm.{in_style, writes_heading}
 use Rattle.keyed_requests.specs.FormBytes.{comment_of, delimiter_of}
+use Rattle.keyed_requests.specs.declared.merging.Conflicts.TheVariants.{Report}
 use Rattle.keyed_requests.specs.declared.merging.Unit.TheVariants as unit
 use Rattle.keyed_requests.specs.declared.request.Form.{Form}
 use Rattle.keyed_requests.specs.declared.request.Settings.{Settings}
@@ -200,7 +201,7 @@ module _ {first settings : Settings} {first_form old_form new_form changes_form 
 
 -- what `merge` makes of three versions, of which one alone changed what stands under each key, is the file of the rows that have each change
 module _ {settings : Settings} {base_form ours_form theirs_form : Form} {base_text ours_text theirs_text : List ℕ} {answer : Answer}
-    (m : MergesTexts unit.Row settings base_form ours_form theirs_form base_text ours_text theirs_text answer) (law : OneSideLaw) (made : answer.outcome ≡ Made)
+    (m : MergesTexts Report unit.Row settings base_form ours_form theirs_form base_text ours_text theirs_text answer) (law : OneSideLaw) (made : answer.outcome ≡ Made)
     (plain : IsPlain settings) (base_fields ours_fields theirs_fields : List (List ℕ)) (base_records ours_records theirs_records : List (List (List ℕ)))
     (base_known : IsKnown base_form base_text base_fields base_records) (ours_known : IsKnown ours_form ours_text ours_fields ours_records)
     (theirs_known : IsKnown theirs_form theirs_text theirs_fields theirs_records)

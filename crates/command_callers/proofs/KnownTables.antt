@@ -168,6 +168,12 @@ headed_alike : (form : Form) (order : List Place) (names others : List (List ℕ
 headed_alike form order names others true is same = ap (headed form order) (same refl)
 headed_alike form order names others false is same = rw is refl
 
+pub heading_shown : (form : Form) (columns : Columns) (order : List Place) (key rest : List (List ℕ))
+    → columns.order.items ≡ order → columns.key ≡ key → columns.rest ≡ rest → HeadsPlainly form columns → heading form None columns ≡ heading_by form order key rest
+heading_shown form columns order key rest eo ek er heads =
+    headed_alike form columns.order.items (names_headed columns) (names_placed columns) _ refl heads
+    ∙ ap (λ o. heading_by form o columns.key columns.rest) eo ∙ ap (λ k. heading_by form order k columns.rest) ek ∙ ap (heading_by form order key) er
+
 abbrev pub table_text : Form → List Place → (key rest : List (List ℕ)) → TableRows → List ℕ
 table_text form order key rest rows = file_text form (heading_by form order key rest ++ table_rows order rows)
 

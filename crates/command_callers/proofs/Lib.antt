@@ -10,6 +10,7 @@ pub mod KnownSorted
 pub mod KnownStyles
 pub mod KnownReport
 pub mod KnownJoinText
+pub mod KnownMarks
 pub mod KnownMerge
 pub mod KnownApply
 pub mod KnownLayers

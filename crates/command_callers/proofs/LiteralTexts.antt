@@ -165,6 +165,9 @@ one_z_y = codes "1" ∷ codes "z" ∷ codes "y" ∷ []
 abbrev pub one_x_w : List (List ℕ)
 one_x_w = codes "1" ∷ codes "x" ∷ codes "w" ∷ []
 
+abbrev pub one_v_w : List (List ℕ)
+one_v_w = codes "1" ∷ codes "v" ∷ codes "w" ∷ []
+
 abbrev pub one__w : List (List ℕ)
 one__w = codes "1" ∷ codes "" ∷ codes "w" ∷ []
 
@@ -183,6 +186,10 @@ with_z_y = (st.StartRecord, [], (_, refl, refl, (_, refl, refl, (refl, refl))), 
 pub with_x_w : AreRows 44 None (codes "id,a,b\n1,x,w\n") (id_a_b ∷ one_x_w ∷ [])
 unfolding csv_on_literals Reached
 with_x_w = (st.StartRecord, [], (_, refl, refl, (_, refl, refl, (refl, refl))), refl)
+
+pub with_v_w : AreRows 44 None (codes "id,a,b\n1,v,w\n") (id_a_b ∷ one_v_w ∷ [])
+unfolding csv_on_literals Reached
+with_v_w = (st.StartRecord, [], (_, refl, refl, (_, refl, refl, (refl, refl))), refl)
 
 -- and those of texts with no header
 abbrev pub first_second : List (List ℕ)

@@ -61,6 +61,14 @@ pub record IsTableInStyle (rows : List (List (List ℕ))) (named : Style) (text 
   pub file : IsInStyle (IsButForEnd named) (IsSpelledIn rows) answer
   pub whole : file_in rows named ≡ text
 
+-- an answer is a merged table with marks: this text in this style, whose last line has an end or none
+pub record IsMarkedInStyle (named : Style) (text : List ℕ) (answer : Answer) : Type 0 where
+  pub style : Style
+  pub styled : IsButForEnd named style
+  pub bytes : answer.bytes.items ≡ finished style text
+  pub status : answer.status ≡ 1
+  pub outcome : answer.outcome ≡ Made
+
 -- the text of a header and a row with semicolons between cells, each in its spelling
 abbrev pub spelled_rows : Style → (header row : RowSpelling) → List ℕ
 spelled_rows style header row = text_as style 59 None ((header, codes "id" ∷ codes "name" ∷ []) ∷ (row, codes "2" ∷ codes "a;b" ∷ []) ∷ []) []

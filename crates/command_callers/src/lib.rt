@@ -10,7 +10,7 @@ ghost use Rattle.keyed_columns.specs.ColumnNames.{HaveNames};
 ghost use Rattle.keyed_columns.specs.declared.columns.Columns.{Columns};
 ghost use Rattle.keyed_reports.specs.TableLines.{HasTextOfRows};
 ghost use Rattle.keyed_commands.specs.Answers.{Stops};
-ghost use Rattle.command_callers.specs.Answered.{IsTableInStyle, fully, plainly};
+ghost use Rattle.command_callers.specs.Answered.{IsMarkedInStyle, IsTableInStyle, fully, plainly};
 
 // A file of this name and this text, with the delimiter of the settings.
 macro_rules! file {
@@ -107,6 +107,12 @@ const TABLE: Comparing<'static> = Comparing {
 const BY_CELL: Merging<'static> = Merging {
     unit: Unit::Cell,
     conflicts: Conflicts::Report,
+    sameness: None,
+};
+
+const WITH_MARKS: Merging<'static> = Merging {
+    unit: Unit::Row,
+    conflicts: Conflicts::Marks,
     sameness: None,
 };
 
@@ -374,6 +380,21 @@ pub fn conflict(alloc: Global) -> Result<Answer, Fault<'static>>
     merge(alloc, PLAIN, Merging::PLAIN, base, ours, theirs)
 }
 
+/// Returns the same merge with marks: the versions of the row stand between them, and after them the row that theirs alone added.
+///
+/// # Errors
+///
+/// Returns the errors of `merge`.
+pub fn marked(alloc: Global) -> Result<Answer, Fault<'static>>
+    ensures { IfOk result (IsMarkedInStyle plainly
+        (codes "id,a\n<<<<<<< ours\n1,y\n||||||| base\n1,x\n=======\n1,z\n>>>>>>> theirs\n2,y\n")) }
+{
+    let base = file!("base.csv", b"id,a\n1,x\n");
+    let ours = file!("ours.csv", b"id,a\n1,y\n");
+    let theirs = file!("theirs.csv", b"id,a\n1,z\n2,y\n");
+    merge(alloc, PLAIN, WITH_MARKS, base, ours, theirs)
+}
+
 /// Returns two versions of a table merged cell by cell: a row of which each of them changed another cell.
 ///
 /// # Errors
@@ -388,6 +409,22 @@ pub fn merged_by_cell(alloc: Global) -> Result<Answer, Fault<'static>>
     let ours = file!("ours.csv", b"id,a,b\n1,z,y\n");
     let theirs = file!("theirs.csv", b"id,a,b\n1,x,w\n");
     merge(alloc, PLAIN, BY_CELL, base, ours, theirs)
+}
+
+/// Returns two versions of a table merged cell by cell, with marks: of a row of which both changed one cell, and theirs alone the other one.
+/// Each version between the marks has that other cell as theirs has it.
+///
+/// # Errors
+///
+/// Returns the errors of `merge`.
+pub fn marked_by_cell(alloc: Global) -> Result<Answer, Fault<'static>>
+    ensures { IfOk result (IsMarkedInStyle plainly
+        (codes "id,a,b\n<<<<<<< ours\n1,z,w\n||||||| base\n1,x,w\n=======\n1,v,w\n>>>>>>> theirs\n")) }
+{
+    let base = file!("base.csv", b"id,a,b\n1,x,y\n");
+    let ours = file!("ours.csv", b"id,a,b\n1,z,y\n");
+    let theirs = file!("theirs.csv", b"id,a,b\n1,v,w\n");
+    merge(alloc, PLAIN, Merging::AS_GIT, base, ours, theirs)
 }
 
 /// Returns the answer to a merge cell by cell of two versions that changed the same cell, and not alike: a report, with status 1.

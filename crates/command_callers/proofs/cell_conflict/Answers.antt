@@ -16,7 +16,7 @@ pub returns : goal.returns
 unfolding distinct escaped field_at fields_text is_blank placed repeats
 returns c =
     IfOk-weaker c.merge.result _ _ (λ answer told.
-    merge_unresolved (told (record { as_written = refl; reports = refl })) (record { key = refl; renames = refl; order = refl }) id_a id_a id_a (one_x ∷ []) (one_y ∷ []) (one_z ∷ [])
+    merge_unresolved (told refl) (record { key = refl; renames = refl; order = refl }) id_a id_a id_a (one_x ∷ []) (one_y ∷ []) (one_z ∷ [])
     (known_text _ _ _ _ _ c.as_slice.ensures refl with_x refl) (known_text _ _ _ _ _ c.as_slice-2.ensures refl with_y refl) (known_text _ _ _ _ _ c.as_slice-3.ensures refl with_z refl)
     ((codes "1" ∷ [], codes "x" ∷ []) ∷ []) ((codes "1" ∷ [], codes "y" ∷ []) ∷ []) ((codes "1" ∷ [], codes "z" ∷ []) ∷ []) (tt, tt) (tt, tt) (tt, tt)
-    (IsPermutation-refl _) (IsPermutation-refl _) (IsPermutation-refl _) refl (codes "1" ∷ []) refl) c.merge.ensures
+    (IsPermutation-refl _) (IsPermutation-refl _) (IsPermutation-refl _) refl refl (codes "1" ∷ []) refl) c.merge.ensures

@@ -19,10 +19,10 @@ pub returns : goal.returns
 unfolding distinct escaped field_at fields_text is_blank line_end_from placed quoted_from repeats
 returns c =
     IfOk-weaker c.merge.result _ _ (λ answer told. record {
-      file = merge_whole (told (record { as_written = refl; reports = refl })) (record { key = refl; renames = refl; order = refl }) id_a id_a id_a (one_x ∷ []) (one_y ∷ []) (one_x ∷ two_z ∷ [])
+      file = merge_whole (told refl) (record { key = refl; renames = refl; order = refl }) id_a id_a id_a (one_x ∷ []) (one_y ∷ []) (one_x ∷ two_z ∷ [])
           (known_text _ _ _ _ _ c.as_slice.ensures refl with_x refl) (known_text _ _ _ _ _ c.as_slice-2.ensures refl fully_with_y refl) (known_text _ _ _ _ _ c.as_slice-3.ensures refl with_x_and_z refl)
           ((codes "1" ∷ [], codes "x" ∷ []) ∷ []) ((codes "1" ∷ [], codes "y" ∷ []) ∷ []) ((codes "1" ∷ [], codes "x" ∷ []) ∷ (codes "2" ∷ [], codes "z" ∷ []) ∷ []) (tt, tt) (tt, tt) (tt, (refl, tt))
           (IsPermutation-refl _) (IsPermutation-refl _) (IsPermutation-refl _)
-          fully (known_style _ _ _ _ fully c.as_slice-2.ensures refl refl) refl (refl, (refl, tt)) refl;
+          fully (known_style _ _ _ _ fully c.as_slice-2.ensures refl refl) refl refl (refl, (refl, tt)) refl;
       whole = refl;
     }) c.merge.ensures

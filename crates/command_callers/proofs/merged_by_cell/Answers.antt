@@ -20,11 +20,11 @@ pub returns : goal.returns
 unfolding distinct escaped field_at fields_text is_blank line_end_from placed quoted_from repeats
 returns c =
     IfOk-weaker c.merge.result _ _ (λ answer told. record {
-      file = merge_cells (told (record { as_written = refl; reports = refl })) (record { key = refl; renames = refl; order = refl }) id_a_b id_a_b id_a_b (one_x_y ∷ []) (one_z_y ∷ []) (one_x_w ∷ [])
+      file = merge_cells (told refl) (record { key = refl; renames = refl; order = refl }) id_a_b id_a_b id_a_b (one_x_y ∷ []) (one_z_y ∷ []) (one_x_w ∷ [])
           (known_text _ _ _ _ _ c.as_slice.ensures refl with_x_y refl) (known_text _ _ _ _ _ c.as_slice-2.ensures refl with_z_y refl) (known_text _ _ _ _ _ c.as_slice-3.ensures refl with_x_w refl)
           ((codes "1" ∷ [], codes "x" ∷ codes "y" ∷ []) ∷ []) ((codes "1" ∷ [], codes "z" ∷ codes "y" ∷ []) ∷ []) ((codes "1" ∷ [], codes "x" ∷ codes "w" ∷ []) ∷ []) (tt, tt) (tt, tt) (tt, tt)
           (IsPermutation-refl _) (IsPermutation-refl _) (IsPermutation-refl _)
-          plainly (known_style _ _ _ _ plainly c.as_slice-2.ensures refl refl) refl (refl, tt)
+          plainly (known_style _ _ _ _ plainly c.as_slice-2.ensures refl refl) refl refl (refl, tt)
           (merged_map (codes "x" ∷ codes "y" ∷ []) (codes "z" ∷ codes "y" ∷ []) (codes "x" ∷ codes "w" ∷ []) (codes "z" ∷ codes "w" ∷ []) refl refl, tt) refl;
       whole = refl;
     }) c.merge.ensures

@@ -17,7 +17,7 @@ pub returns : goal.returns
 unfolding distinct escaped field_at fields_text is_blank placed repeats
 returns c =
     IfOk-weaker c.merge.result _ _ (λ answer told made.
-    let merges = told (record { as_written = refl; reports = refl }) in (
+    let merges = told refl in (
       merges.merged.style,
       has_both merges c.law_one_side.ensures made (record { key = refl; renames = refl; order = refl }) id_a id_a id_a
           (one_x ∷ two_y ∷ []) (one_z ∷ two_y ∷ []) (one_x ∷ three_w ∷ [])
