@@ -29,10 +29,11 @@ use Rattle.keyed_files.specs.Rows.{heading}
 use Rattle.keyed_files.specs.Writing.{quoted_first, text_of}
 use Rattle.keyed_tables.specs.Gathered.{alone}
 use Rattle.keyed_tables.specs.RowsByCell.{GivesRow, can_by_row}
-use Rattle.keyed_commands.specs.Answers.{AnswersTable, HasConflict, HasNoConflict, HasNoneUnresolved, HasUnresolved, IsTableFile, Stops, TableRows, clashes_at, key_cmp, rows_eq, unresolved_at}
+use Rattle.keyed_commands.specs.Answers.{AnswersMerged, AnswersTable, HasConflict, HasNoConflict, HasNoneUnresolved, HasUnresolved, IsTableFile, Stops, TableRows, clashes_at, key_cmp, rows_eq, unresolved_at}
 use Rattle.keyed_commands.specs.ComeOut.{AlikeMarked}
 use Rattle.keyed_commands.specs.ConflictCells.{ThreeGroups}
 use Rattle.keyed_commands.specs.Lost.{loses}
+use Rattle.keyed_commands.specs.MarkLaws.{MarksByKey}
 use Rattle.keyed_commands.specs.MarkedText.{AnswersMarkedFile, AnswersMarks, IsMarkedBy, MarkedRows, all_as_they_stand, has_all_columns, has_conflict, marked_rows_text}
 use Rattle.keyed_commands.specs.MergedTexts.{AnswersAs, AnswersByCell, AnswersByRow, MergesTexts}
 use Rattle.keyed_commands.specs.declared.answer.Answer.{Answer}
@@ -191,20 +192,35 @@ module _ {settings : Settings} {conflicts : Conflicts} {by : Unit} {base_form ou
   abbrev pub merged_three : TableRows
   merged_three = kept (merged rows_eq) (three key_cmp (map alone base) (map alone ours) (map alone theirs))
 
+  -- the rows of the three, none of which is in conflict, have a table of the merged rows
+  module _ (whole : HasNoConflict m.base m.ours m.theirs → AnswersMerged made_in m.columns m.merged.keys m.merged.by_cells m.base m.ours m.theirs answer) where
+    whole_table : (named : Style) → IsStyled ours_form settings.form.writing.heading ours_text named
+        → AllByRecursion (λ z. clashes rows_eq z.1 ≡ false) (three key_cmp (map alone base) (map alone ours) (map alone theirs))
+        → loses_by order rest merged_three ≡ false → IsInStyle (IsButForEnd named) (λ s. IsTableFileOf (in_style s settings.form) order key rest merged_three) answer
+    whole_table named known settled none =
+        let told = whole (from_tables HasNoConflict (no_conflict key_cmp key_total key_exact rows_eq (map alone base) (map alone ours) (map alone theirs) base_rises ours_rise theirs_rise settled)) in
+        let are : told.0 ≡ merged_three =
+        merged_rows key_cmp key_total key_exact rows_eq (map alone base) (map alone ours) (map alone theirs) base_rises ours_rise theirs_rise told.0
+        (of_tables (λ b o t. Tabulates key_cmp told.0 (λ k. merged_place rows_eq (value_under key_cmp b k) (value_under key_cmp o k) (value_under key_cmp t k))) told.1) in
+        styled_table m.merged.style (named_style ours_form settings.form.writing.heading ours_text named m.merged.style known m.merged.styled) settings.form m.columns m.merged.keys m.merged.by_cells merged_three answer order key rest
+        columns_known.order columns_known.key columns_known.rest (m.merged.order plain.order) heads none
+        (subst (λ r. AnswersTable made_in m.columns m.merged.keys m.merged.by_cells r answer) are told.2)
+
   -- where no row of the three is in conflict, the answer is the table of the merged rows
   pub merge_whole : (named : Style) → IsStyled ours_form settings.form.writing.heading ours_text named → conflicts ≡ Report → by ≡ unit.Row
       → AllByRecursion (λ z. clashes rows_eq z.1 ≡ false) (three key_cmp (map alone base) (map alone ours) (map alone theirs))
       → loses_by order rest merged_three ≡ false → IsInStyle (IsButForEnd named) (λ s. IsTableFileOf (in_style s settings.form) order key rest merged_three) answer
-  merge_whole named known asked is settled none =
-      let free : HasNoConflict m.base m.ours m.theirs =
-      from_tables HasNoConflict (no_conflict key_cmp key_total key_exact rows_eq (map alone base) (map alone ours) (map alone theirs) base_rises ours_rise theirs_rise settled) in
-      let told = (by_row asked is).whole free in
-      let are : told.0 ≡ merged_three =
-      merged_rows key_cmp key_total key_exact rows_eq (map alone base) (map alone ours) (map alone theirs) base_rises ours_rise theirs_rise told.0
-      (of_tables (λ b o t. Tabulates key_cmp told.0 (λ k. merged_place rows_eq (value_under key_cmp b k) (value_under key_cmp o k) (value_under key_cmp t k))) told.1) in
-      styled_table m.merged.style (named_style ours_form settings.form.writing.heading ours_text named m.merged.style known m.merged.styled) settings.form m.columns m.merged.keys m.merged.by_cells merged_three answer order key rest
-      columns_known.order columns_known.key columns_known.rest (m.merged.order plain.order) heads none
-      (subst (λ r. AnswersTable made_in m.columns m.merged.keys m.merged.by_cells r answer) are told.2)
+  merge_whole named known asked is settled none = whole_table (by_row asked is).whole named known settled none
+
+  -- so too where it has marks, by what is said of these by key
+  pub merge_unmarked : MarksByKey by made_in m.columns m.merged.keys m.merged.by_cells m.base m.ours m.theirs answer
+      → (named : Style) → IsStyled ours_form settings.form.writing.heading ours_text named → by ≡ unit.Row
+      → AllByRecursion (λ z. clashes rows_eq z.1 ≡ false) (three key_cmp (map alone base) (map alone ours) (map alone theirs))
+      → loses_by order rest merged_three ≡ false → IsInStyle (IsButForEnd named) (λ s. IsTableFileOf (in_style s settings.form) order key rest merged_three) answer
+  merge_unmarked marks named known is settled none =
+      let said : MarksByKey unit.Row made_in m.columns m.merged.keys m.merged.by_cells m.base m.ours m.theirs answer =
+      subst (λ u. MarksByKey u made_in m.columns m.merged.keys m.merged.by_cells m.base m.ours m.theirs answer) is marks in
+      whole_table said.whole named known settled none
 
   -- and where one is, a report
   pub merge_stops : conflicts ≡ Report → by ≡ unit.Row → (k : List (List ℕ)) → clashes_at (map alone base) (map alone ours) (map alone theirs) k ≡ true → Stops answer

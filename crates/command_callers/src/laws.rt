@@ -3,12 +3,12 @@ ghost use Rattle.std.specs.Prelude.{◌≡◌, ◌∷◌, [], ℕ, List, IfOk, N
 ghost use Rattle.eob_both.specs.declared.either_or_both.EitherOrBoth.TheVariants.{Left, Both, Right};
 ghost use Rattle.keyed_text.specs.Texts.{ReadsAs};
 ghost use Rattle.keyed_commands.specs.declared.answer.Outcome.TheVariants.{Made};
-ghost use Rattle.command_callers.specs.Answered.{IsFileOf, IsTableInStyle, SaysOnlyChanges, plainly};
+ghost use Rattle.command_callers.specs.Answered.{IsFileOf, IsTableInStyle, SaysOnlyChanges, fully, plainly};
 
-use crate::{CHANGES, PLAIN};
+use crate::{CHANGES, PLAIN, WITH_MARKS};
 use keyed_commands::{
     Answer, Direction, Fault, Merging, Stream, apply, diff, law_diff_apply_texts, law_diff_reads,
-    law_diff_says, law_one_side, law_text_once, merge,
+    law_diff_says, law_marks, law_one_side, law_text_once, merge,
 };
 use std::alloc::Global;
 
@@ -119,4 +119,21 @@ pub fn one_side_each(alloc: Global) -> Result<Answer, Fault<'static>>
     let theirs = file!("theirs.csv", b"id,a\n1,x\n3,w\n");
     law_one_side();
     merge(alloc, PLAIN, Merging::PLAIN, base, ours, theirs)
+}
+
+/// Returns two versions of a table merged with marks, of which no row is in conflict: the merged table, with no mark, in the style of ours.
+///
+/// # Errors
+///
+/// Returns the errors of `merge`.
+pub fn merged_with_marks(alloc: Global) -> Result<Answer, Fault<'static>>
+    ensures { IfOk result (IsTableInStyle
+        ((codes "id" ∷ codes "a" ∷ []) ∷ (codes "1" ∷ codes "y" ∷ []) ∷ (codes "2" ∷ codes "z" ∷ []) ∷ [])
+        fully (239 ∷ 187 ∷ 191 ∷ codes "\"id\",\"a\"\r\n\"1\",\"y\"\r\n\"2\",\"z\"\r\n")) }
+{
+    let base = file!("base.csv", b"id,a\n1,x\n");
+    let ours = file!("ours.csv", b"\xef\xbb\xbf\"id\",\"a\"\r\n\"1\",\"y\"\r\n");
+    let theirs = file!("theirs.csv", b"id,a\n1,x\n2,z\n");
+    law_marks();
+    merge(alloc, PLAIN, WITH_MARKS, base, ours, theirs)
 }
