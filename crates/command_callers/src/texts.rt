@@ -10,6 +10,7 @@ ghost use Rattle.keyed_text.specs.declared.spelling.RowSpelling.{RowSpelling};
 ghost use Rattle.command_callers.specs.Answered.{spelled_rows};
 
 use csv::ByteRecord;
+use keyed_cut::law_listing_reads;
 use keyed_text::{
     CellQuotes, LineEnd, Marks, RowReader, RowWriter, Style, law_reads_back, law_reads_once,
     law_spelled_back,
@@ -184,4 +185,13 @@ pub fn known_cells(alloc: Global) -> Result<Vec<u8>, AllocError>
     SEMICOLONS.put_cell(&mut text, true, b"2")?;
     SEMICOLONS.put_cell(&mut text, false, b"c")?;
     Ok(text)
+}
+
+/// Tells the rows of a list of where no table was cut, by the column `id` at one key: it has a row for each of two parts.
+pub fn listing_known()
+    ensures { AreRows 44 None (codes "part,from.id\n000,\n001,b\n")
+        ((codes "part" ∷ codes "from.id" ∷ []) ∷ (codes "000" ∷ [] ∷ [])
+        ∷ (codes "001" ∷ codes "b" ∷ []) ∷ []) }
+{
+    law_listing_reads();
 }
