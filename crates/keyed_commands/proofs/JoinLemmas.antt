@@ -55,12 +55,12 @@ sides_put columns key a b sides row first left right h =
     subst (λ m. P (record { first = row.first; left = row.left; right = m })) right two
 
 module _ {K V : Type 0} (P : V → V → Type 0) where
-  groups_next : (b : Bool) (row : K × V) (shown : V) (rest others : List (K × V)) → AlikeIn b P row.1 shown → HasGroups b P rest others
+  pub groups_next : (b : Bool) (row : K × V) (shown : V) (rest others : List (K × V)) → AlikeIn b P row.1 shown → HasGroups b P rest others
       → HasGroups b P (row ∷ rest) ((row.0, shown) ∷ others)
   groups_next true row shown rest others e h = ap (λ v. (row.0, v) ∷ others) e ∙ ap (λ l. row ∷ l) h
   groups_next false row shown rest others a h = ((refl, a), h)
 
-groups_none : (K : Type 0) {V : Type 0} (P : V → V → Type 0) (b : Bool) → HasGroups {K = K} b P [] []
+pub groups_none : (K : Type 0) {V : Type 0} (P : V → V → Type 0) (b : Bool) → HasGroups {K = K} b P [] []
 groups_none K P true = refl
 groups_none K P false = tt
 

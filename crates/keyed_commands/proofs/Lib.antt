@@ -10,6 +10,7 @@ pub mod FirstRowsLemmas
 pub mod GatheredLemmas
 pub mod GoneLemmas
 pub mod JoinLemmas
+pub mod JoinOutputLemmas
 pub mod KeyLemmas
 pub mod LawLemmas
 pub mod LookupLemmas

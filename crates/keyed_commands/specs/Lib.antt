@@ -6,6 +6,7 @@ pub mod ChangesRead
 pub mod ComeOut
 pub mod ConflictCells
 pub mod JoinAnswers
+pub mod JoinOutput
 pub mod DiffOnly
 pub mod FileOrder
 pub mod FirstRows

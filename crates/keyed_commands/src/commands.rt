@@ -5,6 +5,7 @@ pub mod diff;
 pub mod git;
 pub mod join;
 pub mod join_json;
+pub mod join_output;
 pub mod lookup;
 pub mod merge;
 pub mod overlay;

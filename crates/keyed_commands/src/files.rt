@@ -11,6 +11,7 @@ use crate::answer::Answer;
 use crate::commands::apply::apply;
 use crate::commands::diff::diff;
 use crate::commands::join::join;
+use crate::commands::join_output::put_join;
 use crate::commands::lookup::lookup;
 use crate::commands::merge::merge;
 use crate::commands::overlay::overlay;
@@ -192,9 +193,34 @@ pub fn write_request<'a, R: Files + Input + AllocGlobal, W: Write>(
         (AnswersRequest R.File.remaining R.Reader.remaining settings.entry request.entry)
         (W.contents output.old) (W.contents output.new)) }
 {
-    let answer = answer_request(rt, settings, request)?;
-    let status = write_answer(output, &answer)?;
-    Ok(status)
+    match request {
+        Request::Join { left, right, how } => {
+            request.check_stdin()?;
+            write_join(rt, settings, how, left, right, output)
+        }
+        _ => {
+            let answer = answer_request(rt, settings, request)?;
+            let status = write_answer(output, &answer)?;
+            Ok(status)
+        }
+    }
+}
+
+// Writes the join of the tables of two files, part by part once all its rows are known.
+fn write_join<'a, R: Files + Input + AllocGlobal, W: Write>(
+    rt: &R,
+    settings: Settings<'a>,
+    how: Joining<'a>,
+    left: &'a str,
+    right: &'a str,
+    output: &mut W,
+) -> Result<u8, Fault<'a>>
+    ensures { IfOk result (WritesAnswer (JoinsNamed R.File.remaining R.Reader.remaining settings.entry
+        left.entry right.entry how.entry) (W.contents output.old) (W.contents output.new)) }
+{
+    let left = stream_of(rt, left, None);
+    let right = stream_of(rt, right, settings.form.reading.next);
+    put_join(rt.alloc(), settings, how, left, right, output)
 }
 
 // Writes the text of an answer, and returns its status.

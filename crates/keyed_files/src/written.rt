@@ -31,6 +31,16 @@ impl Written {
         }
     }
 
+    /// No row yet, in the memory of these bytes, which go.
+    pub fn in_memory(mut bytes: Vec<u8>, form: Form) -> Self
+        ensures { Wrote form [] result }
+    {
+        bytes.clear();
+        Written {
+            rows: RowWriter::in_style(bytes, marks_of(form), form.writing.style),
+        }
+    }
+
     /// Puts cells into the row.
     ///
     /// # Errors

@@ -286,7 +286,7 @@ pub fn join_as_csv(
 }
 
 // The rows of a join of two sides, as they come out.
-fn write_joined<T: JoinedRow + Drop>(
+pub(crate) fn write_joined<T: JoinedRow + Drop>(
     job: &Job<'_, JoinColumns>,
     header: &Cells,
     rows: Vec<(Key, T)>,
@@ -318,7 +318,7 @@ fn put_rows<T: JoinedRow + Drop>(
 }
 
 // Puts the rows under a key, those of each side in the order of its file.
-fn put_row<T: JoinedRow + Drop>(
+pub(crate) fn put_row<T: JoinedRow + Drop>(
     job: &Job<'_, JoinColumns>,
     written: &mut Written,
     row: (Key, T),
