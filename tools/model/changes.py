@@ -80,7 +80,7 @@ class Changes:
         whole = {tuple(row[name] for name in key): row for row in self.base.rows}
         made = []
         for it in self.in_order(key, {*new}, self.base, Table(named, [dict(zip(named, row[1:])) for row in rows])):
-            cells = {**whole.get(it, {}), **dict(zip(key, it))} | (dict(zip(part, new[it])) if it in changed else {})
+            cells = {**whole.get(it, {}), **dict(zip(key, it))} | (dict(zip(part, new[it])) if old.get(it) != new[it] else {})
             made.append([cells.get(name, "") for name in stay])
         self.expect("apply of some columns", self.ask("apply", "base", "part"), 0, stay, made, "base")
 

@@ -247,15 +247,15 @@ class Round:
         fed, were_bare = re.sub("\r(?!\n)", "\n", source), None
         for row in a_row.finditer(body):
             line, stop = row.groups()
-            if not row[0] or row[0] in source or row[0] in fed or line in marks and stop == end:
+            bare = are_bare(line) if has_quotes else ()
+            # The search in the whole text comes last: in a table of many rows it is long.
+            if not row[0] or stop == end and (line in marks or not any(bare)) or row[0] in source or row[0] in fed:
                 continue
             if stop != end:
                 return False
-            bare = are_bare(line)
-            if has_quotes and any(bare):
-                were_bare = were_bare or {are_bare(it[1]) for it in a_row.finditer(fed.removeprefix(MARK))}
-                if not any(len(it) == len(bare) and all(map(le, bare, it)) for it in were_bare):
-                    return False
+            were_bare = were_bare or {are_bare(it[1]) for it in a_row.finditer(fed.removeprefix(MARK))}
+            if not any(len(it) == len(bare) and all(map(le, bare, it)) for it in were_bare):
+                return False
         return True
 
     def expect_objects(self, words, status, objects, options=None):
