@@ -37,15 +37,15 @@ use Rattle.keyed_tables.specs.Gathered.{alone}
 use Rattle.keyed_text.specs.Texts.{AreRows}
 use Rattle.keyed_text.specs.declared.style.Style.{Style}
 use Rattle.keyed_text.proofs.TextLemmas.{rows-once}
-use Rattle.keyed_commands.specs.Answers.{AllFit, AnswersTable, Stops, TableChanges, TableRows, key_cmp}
+use Rattle.keyed_jobs.specs.Answers.{AllFit, AnswersTable, Stops, TableChanges, TableRows, key_cmp}
+use Rattle.keyed_jobs.specs.ChangesRead.{SaysChanges, come_by, come_rows, gone_by, gone_rows, signed_parts, signed_under}
+use Rattle.keyed_jobs.specs.MadeChanges.{made_in, made_with, missing_by}
+use Rattle.keyed_jobs.specs.Turned.{changes_in}
+use Rattle.keyed_jobs.specs.declared.answer.Answer.{Answer}
+use Rattle.keyed_jobs.proofs.AnswerLemmas.{key_exact, key_total}
+use Rattle.keyed_jobs.proofs.TurnedLemmas.{turned-rises}
 use Rattle.keyed_commands.specs.AppliedTexts.{AppliesTexts}
-use Rattle.keyed_commands.specs.ChangesRead.{SaysChanges, come_by, come_rows, gone_by, gone_rows, signed_parts, signed_under}
-use Rattle.keyed_commands.specs.MadeChanges.{made_in, made_with, missing_by}
-use Rattle.keyed_commands.specs.Turned.{changes_in}
-use Rattle.keyed_commands.specs.declared.answer.Answer.{Answer}
-use Rattle.keyed_commands.proofs.AnswerLemmas.{key_exact, key_total}
-use Rattle.keyed_commands.proofs.MadeLemmas.{made-rises}
-use Rattle.keyed_commands.proofs.TurnedLemmas.{turned-rises}
+use Rattle.keyed_laws.proofs.MadeLemmas.{made-rises}
 use Rattle.command_callers.specs.Answered.{IsButForEnd, IsInStyle}
 use Rattle.command_callers.proofs.KnownJoins.{joined, kept_joined, value_has}
 use Rattle.command_callers.proofs.KnownMerge.{loses_by, styled_loss, styled_table}

@@ -16,7 +16,7 @@ use Rattle.eob_joins.specs.Versions.{clashes, is_conflict, merged, merged_place,
 use Rattle.eob_joins.proofs.SettledLemmas.{no_items}
 use Rattle.eob_joins.proofs.TableLemmas.{kept_law, same_table}
 use Rattle.keyed_tables.specs.RowsByCell.{GivesRow, MergesRows, cell_of, one_row}
-use Rattle.keyed_commands.specs.Answers.{rows_eq}
+use Rattle.keyed_jobs.specs.Answers.{rows_eq}
 use Rattle.command_callers.proofs.KnownJoins.{three, three_tabulated, value_has}
 
 -- a rule that gives one value at most

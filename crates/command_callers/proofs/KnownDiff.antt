@@ -13,12 +13,12 @@ use Rattle.keyed_columns.specs.ColumnNames.{HaveNames, column_names, is_beside, 
 use Rattle.keyed_columns.specs.Keys.{first_name}
 use Rattle.keyed_files.specs.Writing.{text_of}
 use Rattle.keyed_tables.specs.Gathered.{alone}
-use Rattle.keyed_commands.specs.Answers.{TableChanges, TableRows, key_cmp, rows_eq, status_of}
-use Rattle.keyed_commands.specs.ComeOut.{AlikePlaces, AlikeRows}
-use Rattle.keyed_commands.specs.ChangeRows.{changes_heading, changes_rows}
-use Rattle.keyed_commands.specs.TablesRead.{DiffsTexts, headers_differ}
-use Rattle.keyed_commands.specs.declared.answer.Answer.{Answer}
-use Rattle.keyed_commands.proofs.AnswerLemmas.{key_exact, key_total}
+use Rattle.keyed_jobs.specs.Answers.{TableChanges, TableRows, key_cmp, rows_eq, status_of}
+use Rattle.keyed_jobs.specs.ComeOut.{AlikePlaces, AlikeRows}
+use Rattle.keyed_jobs.specs.ChangeRows.{changes_heading, changes_rows}
+use Rattle.keyed_jobs.specs.TablesRead.{DiffsTexts, headers_differ}
+use Rattle.keyed_jobs.specs.declared.answer.Answer.{Answer}
+use Rattle.keyed_jobs.proofs.AnswerLemmas.{key_exact, key_total}
 use Rattle.command_callers.proofs.KnownJoins.{kept_joined}
 use Rattle.command_callers.proofs.KnownRows.{alone_rise}
 use Rattle.command_callers.proofs.KnownTables.{IsKnown, IsPlain, KeyedRows, came_out, columns_are, header_is, names_are, rows_by, table_is}

@@ -18,11 +18,11 @@ use Rattle.keyed_columns.specs.declared.columns.JoinColumns.{JoinColumns}
 use Rattle.keyed_files.specs.JoinedRows.{each_before, side_count, side_row}
 use Rattle.keyed_files.specs.Writing.{quoted_text}
 use Rattle.keyed_tables.specs.Gathered.{alone}
-use Rattle.keyed_commands.specs.Answers.{IsTableText, TableRows, key_cmp}
-use Rattle.keyed_commands.specs.ComeOut.{AlikePlaces, AlikeRows}
+use Rattle.keyed_jobs.specs.Answers.{IsTableText, TableRows, key_cmp}
+use Rattle.keyed_jobs.specs.ComeOut.{AlikePlaces, AlikeRows}
+use Rattle.keyed_jobs.specs.declared.answer.Answer.{Answer}
+use Rattle.keyed_jobs.proofs.AnswerLemmas.{key_exact, key_total}
 use Rattle.keyed_commands.specs.JoinAnswers.{AlikeBoth, AlikeLeft, AlikeRight, IsJoinText, IsTextOfJoin, JoinsTexts, RowSides, heading_of_join, inner_sides, left_sides, outer_sides, right_sides}
-use Rattle.keyed_commands.specs.declared.answer.Answer.{Answer}
-use Rattle.keyed_commands.proofs.AnswerLemmas.{key_exact, key_total}
 use Rattle.command_callers.proofs.KnownJoins.{anti_joined, inner_joined, joined, left_joined, right_joined, semi_joined}
 use Rattle.command_callers.proofs.KnownRows.{alone_rise}
 use Rattle.command_callers.proofs.KnownTables.{IsKnown, IsPlain, KeyedRows, came_out, header_is, plain_key, rows_by, table_is, table_text, table_text_is}

@@ -26,19 +26,19 @@ use Rattle.keyed_files.specs.Rows.{change_name}
 use Rattle.keyed_tables.specs.Gathered.{alone}
 use Rattle.keyed_text.specs.Texts.{AreRows, BeginsComments, PartsCells, ReadsAs}
 use Rattle.keyed_text.proofs.TextLemmas.{rows-once}
-use Rattle.keyed_commands.specs.Answers.{IsTableFile, TableChanges, TableRows, key_cmp, status_of}
+use Rattle.keyed_jobs.specs.Answers.{IsTableFile, TableChanges, TableRows, key_cmp, status_of}
+use Rattle.keyed_jobs.specs.ChangeRows.{changes_rows}
+use Rattle.keyed_jobs.specs.ChangesRead.{PairsRows, SaysChanges, come_rows, gone_rows, signed_under}
+use Rattle.keyed_jobs.specs.ComeOut.{AlikePlaces, AlikeRows}
+use Rattle.keyed_jobs.specs.TablesRead.{DiffsTexts, SaysTable, headers_differ}
+use Rattle.keyed_jobs.specs.declared.answer.Answer.{Answer}
+use Rattle.keyed_jobs.specs.declared.answer.Outcome.TheVariants.{Made}
+use Rattle.keyed_jobs.proofs.AnswerLemmas.{key_exact, key_total}
 use Rattle.keyed_commands.specs.AppliedTexts.{AppliesTexts}
-use Rattle.keyed_commands.specs.ChangeRows.{changes_rows}
-use Rattle.keyed_commands.specs.ChangesRead.{PairsRows, SaysChanges, come_rows, gone_rows, signed_under}
-use Rattle.keyed_commands.specs.ComeOut.{AlikePlaces, AlikeRows}
-use Rattle.keyed_commands.specs.Laws.{DiffReadsLaw}
 use Rattle.keyed_commands.specs.MergedTexts.{MergesTexts}
-use Rattle.keyed_commands.specs.OneSide.{KeepsOneSide, OneSideLaw}
-use Rattle.keyed_commands.specs.TablesRead.{DiffsTexts, SaysTable, headers_differ}
-use Rattle.keyed_commands.specs.TextLaws.{AnswersTableOf, DiffSaysLaw, DiffedTextLaw, NamesOnce, OneTableLaw}
-use Rattle.keyed_commands.specs.declared.answer.Answer.{Answer}
-use Rattle.keyed_commands.specs.declared.answer.Outcome.TheVariants.{Made}
-use Rattle.keyed_commands.proofs.AnswerLemmas.{key_exact, key_total}
+use Rattle.keyed_laws.specs.Laws.{DiffReadsLaw}
+use Rattle.keyed_laws.specs.OneSide.{KeepsOneSide, OneSideLaw}
+use Rattle.keyed_laws.specs.TextLaws.{AnswersTableOf, DiffSaysLaw, DiffedTextLaw, NamesOnce, OneTableLaw}
 use Rattle.command_callers.specs.Answered.{IsButForEnd, IsInStyle, SaysOnlyChanges}
 use Rattle.command_callers.proofs.KnownApply as apply
 use Rattle.command_callers.proofs.KnownDiff as diff

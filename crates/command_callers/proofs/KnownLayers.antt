@@ -15,7 +15,7 @@ use Rattle.keyed_requests.specs.declared.overlays.Layer.{Layer}
 use Rattle.keyed_requests.specs.declared.overlays.Layer.TheVariants as layer
 use Rattle.keyed_requests.specs.declared.request.Form.{Form}
 use Rattle.keyed_requests.specs.declared.request.Settings.{Settings}
-use Rattle.keyed_commands.specs.FileOrder.{KeysOf}
+use Rattle.keyed_jobs.specs.FileOrder.{KeysOf}
 use Rattle.keyed_columns.specs.ColumnNames.{HaveNames, column_names, is_beside, place_under_key}
 use Rattle.keyed_columns.specs.Keys.{AreColumnsBy, first_name}
 use Rattle.keyed_columns.specs.Spelled.{IsSpelledAs, SpelledOf}
@@ -25,12 +25,12 @@ use Rattle.keyed_columns.specs.declared.content.Content.TheVariants.{Rows}
 use Rattle.keyed_files.specs.Opening.{form_of, text_of_stream}
 use Rattle.keyed_files.specs.declared.opened.Stream.{Stream}
 use Rattle.keyed_tables.specs.Gathered.{alone}
-use Rattle.keyed_commands.specs.Answers.{TableRows, key_cmp}
-use Rattle.keyed_commands.specs.NotedStyles.{IsStyleOf}
+use Rattle.keyed_jobs.specs.Answers.{TableRows, key_cmp}
+use Rattle.keyed_jobs.specs.NotedStyles.{IsStyleOf}
+use Rattle.keyed_jobs.specs.TablesRead.{AreNames, SaysTable}
+use Rattle.keyed_jobs.specs.declared.answer.Answer.{Answer}
+use Rattle.keyed_jobs.proofs.AnswerLemmas.{key_exact, key_total}
 use Rattle.keyed_commands.specs.OverlayAnswers.{AreLaidOver, AreNamed, OverlaidIn, OverlaysStreams, Said, SaysRows, SpellsFirst, StylesFirst, laid_rows}
-use Rattle.keyed_commands.specs.TablesRead.{AreNames, SaysTable}
-use Rattle.keyed_commands.specs.declared.answer.Answer.{Answer}
-use Rattle.keyed_commands.proofs.AnswerLemmas.{key_exact, key_total}
 use Rattle.command_callers.specs.Answered.{IsButForEnd, IsInStyle}
 use Rattle.command_callers.proofs.KnownRows.{alone_rise}
 use Rattle.command_callers.proofs.KnownStyles.{IsStyled, named_style}

@@ -29,16 +29,16 @@ use Rattle.keyed_files.specs.Rows.{heading}
 use Rattle.keyed_files.specs.Writing.{quoted_first, text_of}
 use Rattle.keyed_tables.specs.Gathered.{alone}
 use Rattle.keyed_tables.specs.RowsByCell.{GivesRow, can_by_row}
-use Rattle.keyed_commands.specs.Answers.{AnswersMerged, AnswersTable, HasConflict, HasNoConflict, HasNoneUnresolved, HasUnresolved, IsTableFile, Stops, TableRows, clashes_at, key_cmp, rows_eq, unresolved_at}
-use Rattle.keyed_commands.specs.ComeOut.{AlikeMarked}
-use Rattle.keyed_commands.specs.ConflictCells.{ThreeGroups}
-use Rattle.keyed_commands.specs.Lost.{loses}
-use Rattle.keyed_commands.specs.MarkLaws.{MarksByKey}
-use Rattle.keyed_commands.specs.MarkedText.{AnswersMarkedFile, AnswersMarks, IsMarkedBy, MarkedRows, all_as_they_stand, has_all_columns, has_conflict, marked_rows_text}
+use Rattle.keyed_jobs.specs.Answers.{AnswersMerged, AnswersTable, HasConflict, HasNoConflict, HasNoneUnresolved, HasUnresolved, IsTableFile, Stops, TableRows, clashes_at, key_cmp, rows_eq, unresolved_at}
+use Rattle.keyed_jobs.specs.ComeOut.{AlikeMarked}
+use Rattle.keyed_jobs.specs.ConflictCells.{ThreeGroups}
+use Rattle.keyed_jobs.specs.Lost.{loses}
+use Rattle.keyed_jobs.specs.MarkedText.{AnswersMarkedFile, AnswersMarks, IsMarkedBy, MarkedRows, all_as_they_stand, has_all_columns, has_conflict, marked_rows_text}
+use Rattle.keyed_jobs.specs.declared.answer.Answer.{Answer}
+use Rattle.keyed_jobs.specs.declared.answer.Outcome.TheVariants.{Made}
+use Rattle.keyed_jobs.proofs.AnswerLemmas.{key_exact, key_total}
 use Rattle.keyed_commands.specs.MergedTexts.{AnswersAs, AnswersByCell, AnswersByRow, MergesTexts}
-use Rattle.keyed_commands.specs.declared.answer.Answer.{Answer}
-use Rattle.keyed_commands.specs.declared.answer.Outcome.TheVariants.{Made}
-use Rattle.keyed_commands.proofs.AnswerLemmas.{key_exact, key_total}
+use Rattle.keyed_laws.specs.MarkLaws.{MarksByKey}
 use Rattle.command_callers.specs.Answered.{IsButForEnd, IsInStyle, IsMarkedInStyle}
 use Rattle.command_callers.proofs.KnownCells.{gives_once, merged_by_cell, none_unresolved, settled_rows}
 use Rattle.command_callers.proofs.KnownJoins.{merged_rows, no_conflict, three}

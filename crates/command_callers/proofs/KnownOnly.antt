@@ -17,12 +17,12 @@ use Rattle.keyed_columns.specs.Placed.{placed}
 use Rattle.keyed_columns.specs.declared.columns.Place.{Place}
 use Rattle.keyed_files.specs.Writing.{text_of}
 use Rattle.keyed_tables.specs.Gathered.{alone}
-use Rattle.keyed_commands.specs.Answers.{TableChanges, key_cmp, rows_eq, status_of}
-use Rattle.keyed_commands.specs.ComeOut.{AlikePlaces, AlikeRows}
-use Rattle.keyed_commands.specs.ChangeRows.{changes_heading, changes_rows}
+use Rattle.keyed_jobs.specs.Answers.{TableChanges, key_cmp, rows_eq, status_of}
+use Rattle.keyed_jobs.specs.ComeOut.{AlikePlaces, AlikeRows}
+use Rattle.keyed_jobs.specs.ChangeRows.{changes_heading, changes_rows}
+use Rattle.keyed_jobs.specs.declared.answer.Answer.{Answer}
+use Rattle.keyed_jobs.proofs.AnswerLemmas.{key_exact, key_total}
 use Rattle.keyed_commands.specs.DiffOnly.{DiffsOnlyTexts}
-use Rattle.keyed_commands.specs.declared.answer.Answer.{Answer}
-use Rattle.keyed_commands.proofs.AnswerLemmas.{key_exact, key_total}
 use Rattle.command_callers.proofs.KnownDiff.{changes_between, diff_key, diff_names, diff_rest, same_tables}
 use Rattle.command_callers.proofs.KnownJoins.{kept_joined}
 use Rattle.command_callers.proofs.KnownRows.{alone_rise}

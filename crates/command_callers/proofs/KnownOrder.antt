@@ -27,14 +27,14 @@ use Rattle.keyed_files.specs.Reading.{behind_header}
 use Rattle.keyed_files.specs.declared.opened.Stream.{Stream}
 use Rattle.keyed_tables.specs.Gathered.{alone}
 use Rattle.keyed_text.proofs.TextLemmas.{rows-once}
-use Rattle.keyed_commands.specs.Answers.{IsTableFile, TableRows, key_cmp}
-use Rattle.keyed_commands.specs.ComeOut.{AlikeRows, HasGroups}
-use Rattle.keyed_commands.specs.FileOrder.{Keys, KeysOf, noted_keys}
-use Rattle.keyed_commands.specs.NotedStyles.{IsStyleOf}
+use Rattle.keyed_jobs.specs.Answers.{IsTableFile, TableRows, key_cmp}
+use Rattle.keyed_jobs.specs.ComeOut.{AlikeRows, HasGroups}
+use Rattle.keyed_jobs.specs.FileOrder.{Keys, KeysOf, noted_keys}
+use Rattle.keyed_jobs.specs.NotedStyles.{IsStyleOf}
+use Rattle.keyed_jobs.specs.TablesRead.{AreNames, SaysTable}
+use Rattle.keyed_jobs.specs.declared.answer.Answer.{Answer}
+use Rattle.keyed_jobs.proofs.AnswerLemmas.{key_exact, key_total}
 use Rattle.keyed_commands.specs.OverlayAnswers.{AreKnown, AreLaidOver, AreNamed, OverlaidIn, OverlaysStreams, Said, SaysRows, SpellsFirst, StylesFirst, laid_under}
-use Rattle.keyed_commands.specs.TablesRead.{AreNames, SaysTable}
-use Rattle.keyed_commands.specs.declared.answer.Answer.{Answer}
-use Rattle.keyed_commands.proofs.AnswerLemmas.{key_exact, key_total}
 use Rattle.keyed_commands.proofs.OverlayLemmas.{laid_alone}
 use Rattle.command_callers.specs.Answered.{IsButForEnd, IsInStyle}
 use Rattle.command_callers.proofs.KnownLayers.{restyled}

@@ -18,11 +18,11 @@ use Rattle.keyed_columns.specs.ColumnNames.{HaveNames, column_names, has_name, i
 use Rattle.keyed_columns.specs.Keys.{ArePickedColumns}
 use Rattle.keyed_columns.specs.declared.columns.Columns.{Columns}
 use Rattle.keyed_tables.specs.Gathered.{alone}
-use Rattle.keyed_commands.specs.Answers.{TableChanges, TableRows, key_cmp, status_of}
-use Rattle.keyed_commands.specs.ComeOut.{AlikePlaces, AlikeRows}
+use Rattle.keyed_jobs.specs.Answers.{TableChanges, TableRows, key_cmp, status_of}
+use Rattle.keyed_jobs.specs.ComeOut.{AlikePlaces, AlikeRows}
+use Rattle.keyed_jobs.specs.TablesRead.{headers_differ}
+use Rattle.keyed_jobs.specs.declared.answer.Answer.{Answer}
 use Rattle.keyed_commands.specs.Reported.{IsTold, ReportsTexts, names_among}
-use Rattle.keyed_commands.specs.TablesRead.{headers_differ}
-use Rattle.keyed_commands.specs.declared.answer.Answer.{Answer}
 use Rattle.command_callers.proofs.KnownDiff.{changes_are, changes_between, diff_key, same_tables}
 use Rattle.command_callers.proofs.KnownTables.{IsKnown, IsPlain, KeyedRows, came_out, columns_are, header_is, names_are, rows_by, table_is}
 

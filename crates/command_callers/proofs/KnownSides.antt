@@ -5,9 +5,9 @@ use Rattle.std.specs.Ordering.{is_eq}
 use Rattle.eob_lists.specs.Join.{Rising, value_under}
 use Rattle.eob_joins.proofs.TableLemmas.{by_test}
 use Rattle.keyed_tables.specs.Gathered.{alone}
-use Rattle.keyed_commands.specs.Answers.{TableRows, key_cmp}
-use Rattle.keyed_commands.specs.OneSide.{KeepsOneSide}
-use Rattle.keyed_commands.proofs.AnswerLemmas.{key_total}
+use Rattle.keyed_jobs.specs.Answers.{TableRows, key_cmp}
+use Rattle.keyed_jobs.proofs.AnswerLemmas.{key_total}
+use Rattle.keyed_laws.specs.OneSide.{KeepsOneSide}
 use Rattle.command_callers.proofs.KnownRows.{alone_rise}
 use Rattle.command_callers.proofs.KnownTables.{KeyedRows}
 

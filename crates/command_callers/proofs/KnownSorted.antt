@@ -9,11 +9,11 @@ use Rattle.keyed_columns.specs.ChangedColumns.{marked_names}
 use Rattle.keyed_columns.specs.declared.columns.Columns.{Columns}
 use Rattle.keyed_columns.specs.declared.content.Content.TheVariants.{Rows}
 use Rattle.keyed_files.specs.Reading.{behind_header}
-use Rattle.keyed_commands.specs.Answers.{TableRows}
-use Rattle.keyed_commands.specs.FileOrder.{Keys, KeysOf}
+use Rattle.keyed_jobs.specs.Answers.{TableRows}
+use Rattle.keyed_jobs.specs.FileOrder.{Keys, KeysOf}
+use Rattle.keyed_jobs.specs.TablesRead.{DiffsTexts, SaysTable}
+use Rattle.keyed_jobs.specs.declared.answer.Answer.{Answer}
 use Rattle.keyed_commands.specs.SortedTexts.{DiffsTextsInParts}
-use Rattle.keyed_commands.specs.TablesRead.{DiffsTexts, SaysTable}
-use Rattle.keyed_commands.specs.declared.answer.Answer.{Answer}
 
 -- the keys of a text that says a table
 said_keys : (form : Form) (text : List ℕ) (header names : List (List ℕ)) (columns : Columns) (table : TableRows)

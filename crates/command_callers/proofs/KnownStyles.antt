@@ -5,7 +5,7 @@ use Rattle.keyed_text.specs.declared.style.Style.{Style}
 use Rattle.keyed_requests.specs.declared.request.Form.{Form}
 use Rattle.keyed_requests.specs.declared.writing.Heading.{Heading}
 use Rattle.keyed_requests.specs.declared.writing.Heading.TheVariants.{Written}
-use Rattle.keyed_commands.specs.NotedStyles.{IsStyleOf, marks_in}
+use Rattle.keyed_jobs.specs.NotedStyles.{IsStyleOf, marks_in}
 use Rattle.command_callers.specs.Answered.{IsButForEnd}
 
 -- a text in a form is known, and with it its style

@@ -27,12 +27,12 @@ use Rattle.keyed_tables.specs.Gathered.{alone}
 use Rattle.keyed_text.specs.Texts.{AreRows}
 use Rattle.keyed_text.specs.declared.style.Style.{Style}
 use Rattle.keyed_text.proofs.TextLemmas.{rows-once}
-use Rattle.keyed_commands.specs.Answers.{IsTableFile, IsTableText, TableRows, key_cmp}
-use Rattle.keyed_commands.specs.ComeOut.{AlikeRows, ComesOut, HasGroups}
-use Rattle.keyed_commands.specs.TablesRead.{AreNames, AreNamesBy, SaysTable}
-use Rattle.keyed_commands.proofs.AnswerLemmas.{key_exact, key_total}
-use Rattle.keyed_commands.proofs.LawLemmas.{has-header}
-use Rattle.keyed_commands.proofs.SpelledLemmas.{spells-plainly}
+use Rattle.keyed_jobs.specs.Answers.{IsTableFile, IsTableText, TableRows, key_cmp}
+use Rattle.keyed_jobs.specs.ComeOut.{AlikeRows, ComesOut, HasGroups}
+use Rattle.keyed_jobs.specs.TablesRead.{AreNames, AreNamesBy, SaysTable}
+use Rattle.keyed_jobs.proofs.AnswerLemmas.{key_exact, key_total}
+use Rattle.keyed_laws.proofs.LawLemmas.{has-header}
+use Rattle.keyed_laws.proofs.SpelledLemmas.{spells-plainly}
 use Rattle.command_callers.proofs.KnownRows.{gathered}
 
 -- rows by key

@@ -11,10 +11,10 @@ use Rattle.keyed_requests.specs.declared.request.Form.{Form}
 use Rattle.keyed_columns.specs.declared.columns.Columns.{Columns}
 use Rattle.keyed_files.specs.SpelledFiles.{IsSpelledFile}
 use Rattle.keyed_files.specs.Writing.{quoted_first}
-use Rattle.keyed_commands.specs.Answers.{TableChanges}
-use Rattle.keyed_commands.specs.ChangesRead.{SaysChanges}
-use Rattle.keyed_commands.specs.declared.answer.Answer.{Answer}
-use Rattle.keyed_commands.specs.declared.answer.Outcome.TheVariants.{Made}
+use Rattle.keyed_jobs.specs.Answers.{TableChanges}
+use Rattle.keyed_jobs.specs.ChangesRead.{SaysChanges}
+use Rattle.keyed_jobs.specs.declared.answer.Answer.{Answer}
+use Rattle.keyed_jobs.specs.declared.answer.Outcome.TheVariants.{Made}
 
 -- what a text says that is read as changes, with commas between cells and with a header, by a key and these other columns: these changes, and
 -- no others

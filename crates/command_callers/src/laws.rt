@@ -2,13 +2,13 @@
 ghost use Rattle.std.specs.Prelude.{◌≡◌, ◌∷◌, [], ℕ, List, IfOk, None, codes};
 ghost use Rattle.eob_both.specs.declared.either_or_both.EitherOrBoth.TheVariants.{Left, Both, Right};
 ghost use Rattle.keyed_text.specs.Texts.{ReadsAs};
-ghost use Rattle.keyed_commands.specs.declared.answer.Outcome.TheVariants.{Made};
+ghost use Rattle.keyed_jobs.specs.declared.answer.Outcome.TheVariants.{Made};
 ghost use Rattle.command_callers.specs.Answered.{IsFileOf, IsTableInStyle, SaysOnlyChanges, fully, plainly};
 
 use crate::{CHANGES, PLAIN, WITH_MARKS};
-use keyed_commands::{
-    Answer, Direction, Fault, Merging, Stream, apply, diff, law_diff_apply_texts, law_diff_reads,
-    law_diff_says, law_marks, law_one_side, law_text_once, merge,
+use keyed_commands::{Answer, Direction, Fault, Merging, Stream, apply, diff, merge};
+use keyed_laws::{
+    law_diff_apply_texts, law_diff_reads, law_diff_says, law_marks, law_one_side, law_text_once,
 };
 use std::alloc::Global;
 

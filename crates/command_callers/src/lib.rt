@@ -9,7 +9,7 @@ ghost use Rattle.keyed_columns.specs.Alikes.{as_they_stand};
 ghost use Rattle.keyed_columns.specs.ColumnNames.{HaveNames};
 ghost use Rattle.keyed_columns.specs.declared.columns.Columns.{Columns};
 ghost use Rattle.keyed_reports.specs.TableLines.{HasTextOfRows};
-ghost use Rattle.keyed_commands.specs.Answers.{Stops};
+ghost use Rattle.keyed_jobs.specs.Answers.{Stops};
 ghost use Rattle.command_callers.specs.Answered.{IsMarkedInStyle, IsTableInStyle, fully, plainly};
 
 // A file of this name and this text, with the delimiter of the settings.

@@ -11,14 +11,14 @@ use Rattle.keyed_requests.specs.declared.request.Picked.{Picked}
 use Rattle.keyed_requests.specs.declared.request.Picked.TheVariants as picked
 use Rattle.keyed_requests.specs.declared.request.Settings.{Settings}
 use Rattle.keyed_tables.specs.Arranged.{noted}
-use Rattle.keyed_commands.specs.Answers.{IsDiffText}
+use Rattle.keyed_jobs.specs.Answers.{IsDiffText}
+use Rattle.keyed_jobs.specs.FileOrder.{begun_keys, noted_with}
+use Rattle.keyed_jobs.specs.TablesRead.{IsUnordered, SaysTable}
+use Rattle.keyed_jobs.specs.declared.answer.Answer.{Answer}
+use Rattle.keyed_jobs.specs.declared.job.Job.{Job}
+use Rattle.keyed_jobs.proofs.NotedLemmas.{notes-known}
+use Rattle.keyed_jobs.proofs.ReadLemmas.{are-names, beside-streams, both-known, diff-streams}
 use Rattle.keyed_commands.specs.DiffOnly.{AreChangeColumnsBy, DiffsOnlySources, DiffsOnlyStreams, DiffsOnlyTexts, DiffsSourcesBy, DiffsStreamsBy}
-use Rattle.keyed_commands.specs.FileOrder.{begun_keys, noted_with}
-use Rattle.keyed_commands.specs.TablesRead.{IsUnordered, SaysTable}
-use Rattle.keyed_commands.specs.declared.answer.Answer.{Answer}
-use Rattle.keyed_commands.specs.declared.job.Job.{Job}
-use Rattle.keyed_commands.proofs.NotedLemmas.{notes-known}
-use Rattle.keyed_commands.proofs.ReadLemmas.{are-names, beside-streams, both-known, diff-streams}
 
 -- two streams that are read, of their texts
 module _ {R : Type 0} (rem : R → Option (List ℕ)) (settings : Settings) (old new : Stream R) (versions named : Two R) (job : Job Columns) (answer : Answer) where

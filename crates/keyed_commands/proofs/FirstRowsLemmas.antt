@@ -30,10 +30,10 @@ use Rattle.keyed_files.specs.declared.source.Next.{Next}
 use Rattle.keyed_files.specs.declared.source.Next.TheVariants as next
 use Rattle.keyed_files.specs.declared.source.Places.{Places}
 use Rattle.keyed_files.specs.declared.source.Source.{Source}
+use Rattle.keyed_jobs.specs.Written.{PutsBeginning}
 use Rattle.keyed_commands.specs.FirstRows.{IsBeyond, ReadsFirst}
 use Rattle.keyed_commands.specs.PartAnswers.{left_columns, right_columns}
 use Rattle.keyed_commands.specs.SortedParts.{HasTaken, IsCutAt, IsSpent, SaysFirst, SaysTaken}
-use Rattle.keyed_commands.specs.Written.{PutsBeginning}
 use Rattle.keyed_commands.specs.declared.sorted.TwoParts.{TwoParts}
 use Rattle.keyed_commands.specs.declared.sorted.Work.{Work}
 use Rattle.keyed_commands.proofs.PartReadLemmas.{all_weaker, at_most_less, at_most_within, last_below, last_key}

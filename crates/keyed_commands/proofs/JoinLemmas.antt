@@ -22,17 +22,17 @@ use Rattle.keyed_files.specs.declared.opened.Stream.{Stream}
 use Rattle.keyed_files.specs.declared.opened.Two.{Two}
 use Rattle.keyed_files.specs.declared.written.Written.{Written}
 use Rattle.keyed_files.proofs.WritingLemmas.{no-rows-left, then-rows}
-use Rattle.keyed_commands.specs.ComeOut.{AlikeIn, AlikePlaces, AlikeRows, HasGroups}
+use Rattle.keyed_jobs.specs.ComeOut.{AlikeIn, AlikePlaces, AlikeRows, HasGroups}
+use Rattle.keyed_jobs.specs.Answers.{TableRows}
 use Rattle.keyed_commands.specs.JoinAnswers.{AlikeBoth, AlikeLeft, AlikeRight, IsJoinText, IsTextOfJoin, JoinsSources, JoinsStreams, JoinsTexts, PutsJoin, PutsSides, RowSides}
 use Rattle.keyed_commands.specs.JoinAnswers.{header_of_join, heading_of_join, inner_sides, join_rows, left_sides, names_as, outer_sides, right_sides, rows_of_sides}
-use Rattle.keyed_commands.specs.Answers.{TableRows}
 use Rattle.keyed_tables.specs.Arranged.{noted}
-use Rattle.keyed_commands.specs.FileOrder.{begun_keys, noted_with}
-use Rattle.keyed_commands.specs.TablesRead.{IsUnordered, SaysTable}
-use Rattle.keyed_commands.specs.declared.answer.Answer.{Answer}
-use Rattle.keyed_commands.specs.declared.job.Job.{Job}
-use Rattle.keyed_commands.proofs.ReadLemmas.{both-known}
-use Rattle.keyed_commands.proofs.NotedLemmas.{notes-known}
+use Rattle.keyed_jobs.specs.FileOrder.{begun_keys, noted_with}
+use Rattle.keyed_jobs.specs.TablesRead.{IsUnordered, SaysTable}
+use Rattle.keyed_jobs.specs.declared.answer.Answer.{Answer}
+use Rattle.keyed_jobs.specs.declared.job.Job.{Job}
+use Rattle.keyed_jobs.proofs.ReadLemmas.{both-known}
+use Rattle.keyed_jobs.proofs.NotedLemmas.{notes-known}
 
 -- the header of a join
 pub heading_then : (form : Form) (written : Written) (rows : List (List (List ℕ))) (has : Bool) → has ≡ true → Wrote form rows written

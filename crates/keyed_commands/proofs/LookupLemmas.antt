@@ -27,10 +27,10 @@ use Rattle.keyed_files.specs.declared.written.Written.{Written}
 use Rattle.keyed_files.proofs.TableLemmas.{reads-and, table-read}
 use Rattle.keyed_rows.specs.declared.row.ReadRow.{ReadRow}
 use Rattle.keyed_text.specs.Texts.{AreRows}
+use Rattle.keyed_jobs.proofs.ReadLemmas.{both-known}
 use Rattle.keyed_commands.specs.JoinAnswers.{heading_of_join}
 use Rattle.keyed_commands.specs.LookupAnswers.{AppendsRows, LooksUpStreams, LooksUpTexts, WritesBehind, WritesPart, WritesRest, as_row, as_rows, cells_under, found_under, held_rows, key_eq, lookup_rows, parts_text, rows_of, shown_row, shown_rows}
 use Rattle.keyed_commands.specs.declared.commands.lookup.Found.{Found}
-use Rattle.keyed_commands.proofs.ReadLemmas.{both-known}
 
 module _ {R : Type 0} (rem : R → Option (List ℕ)) (places : Places) where
   -- rows that are read after none, and more after these

@@ -22,18 +22,17 @@ use Rattle.keyed_files.specs.declared.opened.Opened.{Opened}
 use Rattle.keyed_files.specs.declared.opened.Stream.{Stream}
 use Rattle.keyed_files.specs.declared.source.Source.{Source}
 use Rattle.keyed_files.proofs.TableLemmas.{open-renamed}
-use Rattle.keyed_commands.specs.Answers.{IsTableFile, TableRows, key_cmp}
-use Rattle.keyed_commands.specs.AppliedTexts.{watched_left}
-use Rattle.keyed_commands.specs.NotedStyles.{IsNoted, IsStyleBy}
+use Rattle.keyed_jobs.specs.Answers.{IsTableFile, TableRows, key_cmp}
+use Rattle.keyed_jobs.specs.NotedStyles.{IsNoted, IsStyleBy, watched_left}
 use Rattle.keyed_commands.specs.OverlayAnswers.{AreKnown, AreLaidOver, AreLayers, AreNamed, IsLayer, IsNotedFirst, IsSpelledAsFirst, LaysTables, NotesAll, OverlaysSources, OverlaysStreams, ReadTables, Said, SaysRows, SpellsFirst, StylesFirst, laid_rows, laid_under}
 use Rattle.keyed_tables.specs.Arranged.{noted}
-use Rattle.keyed_commands.specs.FileOrder.{Keys, KeysOf, OfKeys, begun_keys, noted_with}
-use Rattle.keyed_commands.specs.TablesRead.{IsUnordered}
-use Rattle.keyed_commands.specs.declared.answer.Answer.{Answer}
-use Rattle.keyed_commands.specs.declared.job.Job.{Job}
-use Rattle.keyed_commands.specs.declared.styles.Watched.{Watched}
+use Rattle.keyed_jobs.specs.FileOrder.{Keys, KeysOf, OfKeys, begun_keys, noted_with}
+use Rattle.keyed_jobs.specs.TablesRead.{IsUnordered}
+use Rattle.keyed_jobs.specs.declared.answer.Answer.{Answer}
+use Rattle.keyed_jobs.specs.declared.job.Job.{Job}
+use Rattle.keyed_jobs.specs.declared.styles.Watched.{Watched}
+use Rattle.keyed_jobs.proofs.NotedLemmas.{noted-more, noted-none}
 use Rattle.keyed_commands.proofs.GoneLemmas.{spelled-of}
-use Rattle.keyed_commands.proofs.NotedLemmas.{noted-more, noted-none}
 use Rattle.keyed_commands.proofs.StyleLemmas.{kept-known, known-more, style-of}
 
 on_none : (layer : Layer) (m : Option (List (List (List ℕ)))) → option_map (laid_rows layer) (from_places None m) ≡ m

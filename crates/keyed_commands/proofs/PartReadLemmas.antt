@@ -20,13 +20,13 @@ use Rattle.keyed_tables.proofs.GatherLemmas.{alone_law}
 use Rattle.keyed_files.specs.Parts.{AreRead, Fills, HasParts, IsFull, RisesTo, Takes, TakesUpTo, first_within, is_within, keys_in}
 use Rattle.keyed_files.specs.Reading.{parts_of, picked}
 use Rattle.keyed_files.specs.declared.parts.Parts.{Parts}
-use Rattle.keyed_commands.specs.Answers.{TableRows, key_cmp}
+use Rattle.keyed_jobs.specs.Answers.{TableRows, key_cmp}
+use Rattle.keyed_jobs.specs.TablesRead.{Gathers}
+use Rattle.keyed_jobs.proofs.AnswerLemmas.{key_exact, key_total}
 use Rattle.keyed_commands.specs.Keys.{IsAtMost}
 use Rattle.keyed_commands.specs.FirstRows.{table_of}
 use Rattle.keyed_commands.specs.SortedParts.{HasTaken, IsCutAt, IsFresh, bound_of}
-use Rattle.keyed_commands.specs.TablesRead.{Gathers}
-use Rattle.keyed_commands.proofs.AnswerLemmas.{key_exact, key_total}
-use Rattle.keyed_commands.proofs.TextLawLemmas.{table_once}
+use Rattle.keyed_commands.proofs.TableOnceLemmas.{table_once}
 
 abbrev Key : Type 0
 Key = List (List ℕ)

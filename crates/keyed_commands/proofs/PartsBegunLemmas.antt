@@ -3,9 +3,9 @@
 use Rattle.std.proofs.Common.{◌≡◌, ◌∙◌, ℕ, false, List, [], ◌++◌, Option, append-nil, append_assoc, inl, inr, sym, ap}
 use Rattle.std.specs.Io.KnownBytes.{Appends, Keeps}
 use Rattle.std.proofs.KnownBytes.{Appends-kept, Appends-trans, Keeps-refl}
+use Rattle.keyed_jobs.specs.Written.{PutsBeginning, PutsSome}
 use Rattle.keyed_commands.specs.PartAnswers.{on_later}
 use Rattle.keyed_commands.specs.SortedParts.{HasWritten, IsFresh, SaysNext, SaysTaken}
-use Rattle.keyed_commands.specs.Written.{PutsBeginning, PutsSome}
 use Rattle.keyed_commands.specs.declared.sorted.PartWritten.{PartWritten}
 use Rattle.keyed_commands.specs.declared.sorted.TwoParts.{TwoParts}
 use Rattle.keyed_commands.specs.declared.sorted.Work.{Work}

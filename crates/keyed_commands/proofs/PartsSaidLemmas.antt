@@ -24,16 +24,16 @@ use Rattle.keyed_columns.specs.declared.columns.Columns.{Columns}
 use Rattle.keyed_columns.specs.declared.columns.JoinColumns.{JoinColumns}
 use Rattle.keyed_files.specs.Rows.{heading, rows_under, table_rows}
 use Rattle.keyed_files.specs.Writing.{file_text, quoted_text, text_of, writer_of}
-use Rattle.keyed_commands.specs.Answers.{IsTableText, TableChanges, TableRows, key_cmp, rows_eq, status_of}
-use Rattle.keyed_commands.specs.ChangeRows.{change_rows, changes_heading, changes_rows}
-use Rattle.keyed_commands.specs.ComeOut.{AlikePlaces, AlikeRows, ComesOut}
+use Rattle.keyed_jobs.specs.Answers.{IsTableText, TableChanges, TableRows, key_cmp, rows_eq, status_of}
+use Rattle.keyed_jobs.specs.ChangeRows.{change_rows, changes_heading, changes_rows}
+use Rattle.keyed_jobs.specs.ComeOut.{AlikePlaces, AlikeRows, ComesOut}
+use Rattle.keyed_jobs.proofs.AnswerLemmas.{key_total}
 use Rattle.keyed_commands.specs.JoinAnswers.{AlikeBoth, AlikeLeft, AlikeRight, IsJoinText, IsTextOfJoin, RowSides, heading_of_join, inner_sides, join_rows, left_sides, outer_sides, right_sides, rows_shown}
 use Rattle.keyed_commands.specs.PartAnswers.{AreJoinRows, SaysChanges, SaysChangesIn, SaysJoin, SaysOf, heading_of_kind, on_later, status_both, text_of_kind, unheaded}
 use Rattle.keyed_commands.specs.declared.sorted.ChangesForm.{ChangesForm}
 use Rattle.keyed_commands.specs.declared.sorted.ChangesForm.TheVariants as way
 use Rattle.keyed_commands.specs.declared.sorted.Work.{Work}
 use Rattle.keyed_commands.specs.declared.sorted.Work.TheVariants as work
-use Rattle.keyed_commands.proofs.AnswerLemmas.{key_total}
 
 -- the texts of rows, one after the other
 text_both : (w : WriterBuilder) (rows more : List (List (List ℕ))) → text_by w (rows ++ more) ≡ text_by w rows ++ text_by w more

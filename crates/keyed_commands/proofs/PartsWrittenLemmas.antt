@@ -17,11 +17,12 @@ use Rattle.keyed_files.specs.declared.opened.Two.{Two}
 use Rattle.keyed_files.specs.declared.parts.Parts.{Parts}
 use Rattle.keyed_files.specs.declared.source.Source.{Source}
 use Rattle.keyed_files.proofs.TableLemmas.{table-read}
-use Rattle.keyed_commands.specs.Answers.{TableRows}
+use Rattle.keyed_jobs.specs.Answers.{TableRows}
+use Rattle.keyed_jobs.specs.TablesRead.{Gathers, ReadsTable}
+use Rattle.keyed_jobs.proofs.ReadLemmas.{table-gathered}
 use Rattle.keyed_commands.specs.PartAnswers.{IsByKey, SaysOf, left_columns, on_later, right_columns, status_both}
 use Rattle.keyed_commands.specs.FirstRows.{table_of}
 use Rattle.keyed_commands.specs.SortedParts.{AreCut, HasTaken, HasWritten, IsFresh, IsLesser, IsSpent, ReadsAll, ReadsNext, SaysNext, SaysTaken, TakesPart, WritesAll, WritesPart, WritesTables, bound_of}
-use Rattle.keyed_commands.specs.TablesRead.{Gathers, ReadsTable}
 use Rattle.keyed_commands.specs.declared.sorted.Part.{Part}
 use Rattle.keyed_commands.specs.declared.sorted.PartWritten.{PartWritten}
 use Rattle.keyed_commands.specs.declared.sorted.TwoParts.{TwoParts}
@@ -29,7 +30,6 @@ use Rattle.keyed_commands.specs.declared.sorted.Work.{Work}
 use Rattle.keyed_commands.specs.declared.sorted.Work.TheVariants as work
 use Rattle.keyed_commands.proofs.PartReadLemmas.{all_first, all_weaker, at_most_both, cut_there, gathers_alone, not_less, only_alone, rises_sorted, sorted_after, sorted_first, still_beyond, tables_below, taken_all, taken_filled, taken_more, taken_none}
 use Rattle.keyed_commands.proofs.PartsSaidLemmas.{said_both}
-use Rattle.keyed_commands.proofs.ReadLemmas.{table-gathered}
 
 abbrev Key : Type 0
 Key = List (List ℕ)

@@ -20,13 +20,13 @@ use Rattle.keyed_requests.specs.declared.request.RowsShown.TheVariants as shows
 use Rattle.keyed_requests.specs.declared.request.Settings.{Settings}
 use Rattle.keyed_requests.specs.declared.request.View.{View}
 use Rattle.keyed_tables.specs.Arranged.{noted}
-use Rattle.keyed_commands.specs.FileOrder.{begun_keys, noted_with}
+use Rattle.keyed_jobs.specs.FileOrder.{begun_keys, noted_with}
+use Rattle.keyed_jobs.specs.TablesRead.{IsUnordered, SaysTable}
+use Rattle.keyed_jobs.specs.declared.answer.Answer.{Answer}
+use Rattle.keyed_jobs.specs.declared.job.Job.{Job}
+use Rattle.keyed_jobs.proofs.NotedLemmas.{notes-known}
+use Rattle.keyed_jobs.proofs.ReadLemmas.{are-names, both-known}
 use Rattle.keyed_commands.specs.Reported.{AreComparedColumns, ReportsSources, ReportsStreams, ReportsTexts, TellsChanges}
-use Rattle.keyed_commands.specs.TablesRead.{IsUnordered, SaysTable}
-use Rattle.keyed_commands.specs.declared.answer.Answer.{Answer}
-use Rattle.keyed_commands.specs.declared.job.Job.{Job}
-use Rattle.keyed_commands.proofs.NotedLemmas.{notes-known}
-use Rattle.keyed_commands.proofs.ReadLemmas.{are-names, both-known}
 
 -- the test of a status: there is no change, and no column that comes or goes
 pub told-same : {P : Type 0} (n : ℕ) (differ : Bool) → ((n ≡ 0) ↔ P) → (((n == 0) && not differ) ≡ true) ↔ (P × (differ ≡ false))

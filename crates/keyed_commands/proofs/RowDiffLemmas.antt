@@ -17,10 +17,10 @@ use Rattle.keyed_files.specs.declared.opened.Stream.{Stream}
 use Rattle.keyed_files.specs.declared.opened.Two.{Two}
 use Rattle.keyed_files.specs.declared.source.Source.{Source}
 use Rattle.keyed_rows.specs.declared.row.ReadRow.{ReadRow}
+use Rattle.keyed_jobs.specs.declared.answer.Answer.{Answer}
+use Rattle.keyed_jobs.proofs.ReadLemmas.{both-known}
 use Rattle.keyed_commands.specs.RowDiff.{AnswersRows, DiffsRowSources, DiffsRowStreams, DiffsRowTexts, IsSameRow, ReadsCells, RowParts, have_same_columns}
-use Rattle.keyed_commands.specs.declared.answer.Answer.{Answer}
 use Rattle.keyed_commands.specs.declared.commands.row_diff.RowJob.{RowJob}
-use Rattle.keyed_commands.proofs.ReadLemmas.{both-known}
 
 -- a row that stays and counts as the same has the same cells
 same-row : (part : Part (List (List ℕ))) → IsAlike (pointwise (pointwise nat_eq)) part → IsSameRow part

@@ -18,20 +18,20 @@ use Rattle.keyed_files.specs.Writing.{text_of}
 use Rattle.keyed_files.specs.declared.opened.Stream.{Stream}
 use Rattle.keyed_files.specs.declared.opened.Two.{Two}
 use Rattle.keyed_files.proofs.TableLemmas.{open-renamed}
-use Rattle.keyed_commands.specs.ChangeRows.{changes_heading, changes_rows}
+use Rattle.keyed_jobs.specs.ChangeRows.{changes_heading, changes_rows}
+use Rattle.keyed_jobs.specs.Written.{PutsBeginning}
+use Rattle.keyed_jobs.specs.declared.job.Job.{Job}
+use Rattle.keyed_jobs.proofs.ReadLemmas.{are-names, both-known}
 use Rattle.keyed_commands.specs.FirstRows.{ReadsFirst, table_of}
 use Rattle.keyed_commands.specs.JoinAnswers.{header_of_join}
 use Rattle.keyed_commands.specs.PartAnswers.{SaysJoin}
 use Rattle.keyed_commands.specs.SortedBegun.{DiffsStreamsBegun, JoinsStreamsBegun, DiffsFirst, DiffsFirstRows, JoinsFirstRows}
 use Rattle.keyed_commands.specs.SortedParts.{SaysFirst}
-use Rattle.keyed_commands.specs.Written.{PutsBeginning}
 use Rattle.keyed_commands.specs.declared.commands.join.JoinForm.{JoinForm}
-use Rattle.keyed_commands.specs.declared.job.Job.{Job}
 use Rattle.keyed_commands.specs.declared.sorted.ChangesForm.TheVariants as way
 use Rattle.keyed_commands.specs.declared.sorted.Work.TheVariants as work
 use Rattle.keyed_commands.proofs.JoinLemmas.{once_asked}
 use Rattle.keyed_commands.proofs.PartsBegunLemmas.{begun_not, begun_weaker}
-use Rattle.keyed_commands.proofs.ReadLemmas.{are-names, both-known}
 use Rattle.keyed_commands.proofs.SortedTextLemmas.{said_headed}
 
 -- what holds of any two texts holds of two that are known

@@ -21,21 +21,21 @@ use Rattle.keyed_files.specs.Writing.{text_of}
 use Rattle.keyed_files.specs.declared.opened.Stream.{Stream}
 use Rattle.keyed_files.specs.declared.opened.Two.{Two}
 use Rattle.keyed_files.proofs.TableLemmas.{open-renamed}
-use Rattle.keyed_commands.specs.Answers.{TableChanges, TableRows, key_cmp, rows_eq, status_of}
-use Rattle.keyed_commands.specs.ChangeRows.{changes_heading, changes_rows}
+use Rattle.keyed_jobs.specs.Answers.{TableChanges, TableRows, key_cmp, rows_eq, status_of}
+use Rattle.keyed_jobs.specs.ChangeRows.{changes_heading, changes_rows}
+use Rattle.keyed_jobs.specs.TablesRead.{ReadsTable, headers_differ}
+use Rattle.keyed_jobs.specs.declared.job.Job.{Job}
+use Rattle.keyed_jobs.proofs.AnswerLemmas.{key_exact, key_total, none_same, rows_decides, same_none}
+use Rattle.keyed_jobs.proofs.ReadLemmas.{are-names, both-known}
 use Rattle.keyed_commands.specs.JoinAnswers.{header_of_join}
 use Rattle.keyed_commands.specs.PartAnswers.{SaysJoin, heading_of_kind}
 use Rattle.keyed_commands.specs.SortedTexts.{DiffsInParts, DiffsStreamsInParts, DiffsTextsInParts, JoinsInParts, JoinsStreamsInParts, JoinsTextsInParts}
 use Rattle.keyed_commands.specs.SortedParts.{WritesTables}
-use Rattle.keyed_commands.specs.TablesRead.{ReadsTable, headers_differ}
 use Rattle.keyed_commands.specs.declared.commands.join.JoinForm.{JoinForm}
-use Rattle.keyed_commands.specs.declared.job.Job.{Job}
 use Rattle.keyed_commands.specs.declared.sorted.ChangesForm.TheVariants as way
 use Rattle.keyed_commands.specs.declared.sorted.Work.TheVariants as work
-use Rattle.keyed_commands.proofs.AnswerLemmas.{key_exact, key_total, none_same, rows_decides, same_none}
 use Rattle.keyed_commands.proofs.JoinLemmas.{once_asked, same_heading}
 use Rattle.keyed_commands.proofs.PartsSaidLemmas.{not_empty}
-use Rattle.keyed_commands.proofs.ReadLemmas.{are-names, both-known}
 
 -- the status of changes, where columns come or go or do not
 status_same : (differ : Bool) (old new : TableRows) (changes : TableChanges) (status : ℕ) → ((changes ≡ [] → old ≡ new) × (old ≡ new → changes ≡ []))

@@ -4,7 +4,7 @@ use Rattle.std.specs.Prelude.{IfSome}
 use Rattle.std.specs.Io.KnownBytes.{Keeps}
 use Rattle.keyed_text.specs.declared.style.Style.{Style}
 use Rattle.keyed_requests.specs.declared.request.Form.{Form}
-use Rattle.keyed_commands.specs.NotedStyles.{IsNoted, IsStyleBy, IsStyleOf}
+use Rattle.keyed_jobs.specs.NotedStyles.{IsNoted, IsStyleBy, IsStyleOf}
 
 -- what holds of a text that is known, and of one that stayed as it was
 pub known-more : {P Q : List ℕ → Type 0} (m : Option (List ℕ)) → ((t : List ℕ) → P t → Q t) → IfSome m P → IfSome m Q

@@ -21,23 +21,24 @@ use Rattle.keyed_files.specs.declared.opened.Stream.{Stream}
 use Rattle.keyed_files.specs.declared.opened.Two.{Two}
 use Rattle.keyed_requests.specs.declared.request.Direction.{Direction}
 use Rattle.keyed_requests.specs.declared.request.Direction.TheVariants.{Backward, Forward}
+use Rattle.keyed_jobs.specs.Rejected.{plain}
 use Rattle.keyed_commands.specs.AppliedTexts.{AppliesSources, AppliesStreams, AppliesTexts, ChangesSources, ChangesTexts, OfChanges, PartlySources, PartlyStreams, PartlyTexts, applies}
-use Rattle.keyed_commands.specs.Rejected.{AnswersPartly, plain}
+use Rattle.keyed_commands.specs.PartlyAnswers.{AnswersPartly}
 use Rattle.keyed_tables.specs.Arranged.{noted}
-use Rattle.keyed_commands.specs.ChangesRead.{SaysChanges}
-use Rattle.keyed_commands.specs.FileOrder.{begun_keys, noted_with, placed_with}
+use Rattle.keyed_jobs.specs.ChangesRead.{SaysChanges}
+use Rattle.keyed_jobs.specs.FileOrder.{begun_keys, noted_with, placed_with}
+use Rattle.keyed_jobs.specs.MarkedText.{all_as_they_stand}
+use Rattle.keyed_jobs.specs.NotedStyles.{IsNoted}
+use Rattle.keyed_jobs.specs.TablesRead.{IsUnordered, ReadsTable, SaysTable}
+use Rattle.keyed_jobs.specs.MadeChanges.{made_in}
+use Rattle.keyed_jobs.specs.declared.answer.Answer.{Answer}
+use Rattle.keyed_jobs.specs.declared.job.Job.{Job}
+use Rattle.keyed_jobs.specs.declared.rejected.ChangesForm.{ChangesForm}
+use Rattle.keyed_jobs.proofs.NotedLemmas.{notes-known}
+use Rattle.keyed_jobs.proofs.ReadLemmas.{are-names, both-known}
 use Rattle.keyed_commands.specs.MergedTexts.{AnswersAs, MergesSources, MergesStreams, MergesTexts}
-use Rattle.keyed_commands.specs.MarkedText.{all_as_they_stand}
-use Rattle.keyed_commands.specs.NotedStyles.{IsNoted}
-use Rattle.keyed_commands.specs.TablesRead.{IsUnordered, ReadsTable, SaysTable}
-use Rattle.keyed_commands.specs.MadeChanges.{made_in}
-use Rattle.keyed_commands.specs.declared.answer.Answer.{Answer}
 use Rattle.keyed_commands.specs.declared.commands.partly.Partly.{Partly}
-use Rattle.keyed_commands.specs.declared.job.Job.{Job}
-use Rattle.keyed_commands.specs.declared.rejected.ChangesForm.{ChangesForm}
 use Rattle.keyed_commands.proofs.GoneLemmas.{both-of, leave-of, names-turned, open-turned, spelled-of}
-use Rattle.keyed_commands.proofs.NotedLemmas.{notes-known}
-use Rattle.keyed_commands.proofs.ReadLemmas.{are-names, both-known}
 use Rattle.keyed_commands.proofs.StyleLemmas.{kept-known, style-of}
 
 -- what holds of two texts, where these are known under other words

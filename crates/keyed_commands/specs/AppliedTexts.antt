@@ -1,6 +1,5 @@
 -- What `apply` answers of the texts of a table and of changes.
 use Rattle.std.specs.Prelude.{◌≡◌, ℕ, Bool, false, true, List, Option, None, IfSome}
-use Rattle.keyed_text.specs.TextStyles.{headed_left}
 use Rattle.keyed_text.specs.declared.style.Style.{Style}
 use Rattle.keyed_requests.specs.AnswerForm.{in_style}
 use Rattle.keyed_requests.specs.declared.request.Form.{Form}
@@ -15,22 +14,18 @@ use Rattle.keyed_files.specs.declared.opened.Stream.{Stream}
 use Rattle.keyed_files.specs.declared.opened.Two.{Two}
 use Rattle.keyed_requests.specs.declared.request.Direction.{Direction}
 use Rattle.keyed_tables.specs.Arranged.{noted}
-use Rattle.keyed_commands.specs.Answers.{AllFit, AnswersPatched, Stops, TableChanges, TableRows, key_cmp}
-use Rattle.keyed_commands.specs.ChangesRead.{ReadsChanges, SaysChanges}
-use Rattle.keyed_commands.specs.Rejected.{AnswersPartly, plain}
-use Rattle.keyed_commands.specs.FileOrder.{AreKeysOfBoth, NotesBoth, noted_with}
-use Rattle.keyed_commands.specs.MadeChanges.{made_in}
-use Rattle.keyed_commands.specs.NotedStyles.{IsStyleBy, IsStyleOf}
-use Rattle.keyed_commands.specs.TablesRead.{AreNamesBy, IsUnordered, ReadsTable, SaysTable}
-use Rattle.keyed_commands.specs.declared.answer.Answer.{Answer}
+use Rattle.keyed_jobs.specs.Answers.{AllFit, AnswersPatched, Stops, TableChanges, TableRows, key_cmp}
+use Rattle.keyed_jobs.specs.ChangesRead.{ReadsChanges, SaysChanges}
+use Rattle.keyed_jobs.specs.Rejected.{plain}
+use Rattle.keyed_jobs.specs.FileOrder.{AreKeysOfBoth, NotesBoth, noted_with}
+use Rattle.keyed_jobs.specs.MadeChanges.{made_in}
+use Rattle.keyed_jobs.specs.NotedStyles.{IsStyleBy, IsStyleOf}
+use Rattle.keyed_jobs.specs.TablesRead.{AreNamesBy, IsUnordered, ReadsTable, SaysTable}
+use Rattle.keyed_jobs.specs.declared.answer.Answer.{Answer}
+use Rattle.keyed_jobs.specs.declared.job.Job.{Job}
+use Rattle.keyed_jobs.specs.declared.rejected.ChangesForm.{ChangesForm}
+use Rattle.keyed_commands.specs.PartlyAnswers.{AnswersPartly}
 use Rattle.keyed_commands.specs.declared.commands.partly.Partly.{Partly}
-use Rattle.keyed_commands.specs.declared.job.Job.{Job}
-use Rattle.keyed_commands.specs.declared.rejected.ChangesForm.{ChangesForm}
-use Rattle.keyed_commands.specs.declared.styles.Watched.{Watched}
-
--- what a reader that is watched has left
-abbrev pub watched_left : {R : Type 0} → (R → Option (List ℕ)) → Watched R → Option (List ℕ)
-watched_left remaining watched = headed_left remaining watched.reader
 
 -- the table with changes made to it where each of them fits, and else a report with status 1
 pub record AnswersApplied (form : Form) (columns : Columns) (keys : Option (List (List (List ℕ)))) (by_cells : Bool)

@@ -13,13 +13,13 @@ use Rattle.keyed_requests.specs.declared.request.Picked.{Picked}
 use Rattle.keyed_requests.specs.declared.request.Picked.TheVariants as picked
 use Rattle.keyed_requests.specs.declared.request.Settings.{Settings}
 use Rattle.keyed_tables.specs.Arranged.{noted}
-use Rattle.keyed_commands.specs.Answers.{TableRows}
-use Rattle.keyed_commands.specs.Beside.{DiffsBesideSources, DiffsBesideStreams}
-use Rattle.keyed_commands.specs.FileOrder.{AreKeysOfBoth, NotesBoth, noted_with}
+use Rattle.keyed_jobs.specs.Answers.{TableRows}
+use Rattle.keyed_jobs.specs.Beside.{DiffsBesideSources, DiffsBesideStreams}
+use Rattle.keyed_jobs.specs.FileOrder.{AreKeysOfBoth, NotesBoth, noted_with}
+use Rattle.keyed_jobs.specs.TablesRead.{AreNamesBy, ChangesBetween, DiffsSources, DiffsStreams, IsStatusBetween, IsUnordered, ReadsTable, SaysTable}
+use Rattle.keyed_jobs.specs.declared.answer.Answer.{Answer}
+use Rattle.keyed_jobs.specs.declared.job.Job.{Job}
 use Rattle.keyed_commands.specs.Reported.{names_among}
-use Rattle.keyed_commands.specs.TablesRead.{AreNamesBy, ChangesBetween, DiffsSources, DiffsStreams, IsStatusBetween, IsUnordered, ReadsTable, SaysTable}
-use Rattle.keyed_commands.specs.declared.answer.Answer.{Answer}
-use Rattle.keyed_commands.specs.declared.job.Job.{Job}
 
 -- the columns of changes, or of these the key and those that are picked alone
 abbrev pub AreChangeColumnsBy : Picked → Option (Bor (List ℕ)) → List (List ℕ) → List (List ℕ) → Columns → Type 0

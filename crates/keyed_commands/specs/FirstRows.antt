@@ -13,7 +13,7 @@ use Rattle.keyed_files.specs.Parts.{is_within, key_cmp, keys_in}
 use Rattle.keyed_files.specs.Reading.{IsOpen, IsTable, parts_of}
 use Rattle.keyed_files.specs.declared.source.Source.{Source}
 use Rattle.keyed_tables.specs.Gathered.{alone}
-use Rattle.keyed_commands.specs.Answers.{TableRows}
+use Rattle.keyed_jobs.specs.Answers.{TableRows}
 
 -- rows of which each is a group of its own
 abbrev pub table_of : List ReadRow → TableRows

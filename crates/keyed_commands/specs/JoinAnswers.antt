@@ -27,13 +27,13 @@ use Rattle.keyed_files.specs.declared.opened.Stream.{Stream}
 use Rattle.keyed_files.specs.declared.opened.Two.{Two}
 use Rattle.keyed_files.specs.declared.written.Written.{Written}
 use Rattle.keyed_tables.specs.Arranged.{noted}
-use Rattle.keyed_commands.specs.Answers.{IsTableText, TableRows, key_cmp}
-use Rattle.keyed_commands.specs.ComeOut.{AlikeIn, AlikePlace, AlikePlaces, AlikeRows, ComesOut, HasGroups}
-use Rattle.keyed_commands.specs.FileOrder.{AreKeysOfBoth, NotesBoth, noted_with}
-use Rattle.keyed_commands.specs.TablesRead.{IsUnordered, ReadsTable, SaysTable}
-use Rattle.keyed_commands.specs.declared.answer.Answer.{Answer}
-use Rattle.keyed_commands.specs.declared.answer.Outcome.TheVariants.{Made}
-use Rattle.keyed_commands.specs.declared.job.Job.{Job}
+use Rattle.keyed_jobs.specs.Answers.{IsTableText, TableRows, key_cmp}
+use Rattle.keyed_jobs.specs.ComeOut.{AlikeIn, AlikePlace, AlikePlaces, AlikeRows, ComesOut, HasGroups}
+use Rattle.keyed_jobs.specs.FileOrder.{AreKeysOfBoth, NotesBoth, noted_with}
+use Rattle.keyed_jobs.specs.TablesRead.{IsUnordered, ReadsTable, SaysTable}
+use Rattle.keyed_jobs.specs.declared.answer.Answer.{Answer}
+use Rattle.keyed_jobs.specs.declared.answer.Outcome.TheVariants.{Made}
+use Rattle.keyed_jobs.specs.declared.job.Job.{Job}
 
 -- what a row of a join has: a cell before its key, if there is one, and the rows of each side
 pub record RowSides : Type 0 where

@@ -19,14 +19,14 @@ use Rattle.keyed_files.specs.declared.opened.Opened.{Opened}
 use Rattle.keyed_files.specs.declared.opened.Stream.{Stream}
 use Rattle.keyed_files.specs.declared.opened.Two.{Two}
 use Rattle.keyed_tables.specs.Arranged.{noted}
-use Rattle.keyed_commands.specs.Answers.{AnswersMerged, AnswersMergedByCell, AnswersTable, HasConflict, HasNoConflict, HasNoneUnresolved, HasUnresolved, Stops, TableRows}
-use Rattle.keyed_commands.specs.FileOrder.{AreKeysOfBoth, NotesBoth, placed_with}
-use Rattle.keyed_commands.specs.MarkedText.{AnswersMarks, IsMarkedBy, MarkedRows, all_as_they_stand}
-use Rattle.keyed_commands.specs.NotedStyles.{IsStyleBy, IsStyleOf}
-use Rattle.keyed_commands.specs.Preferred.{rows_by_side}
-use Rattle.keyed_commands.specs.TablesRead.{AreNamesBy, IsUnordered, ReadsTable, SaysTable}
-use Rattle.keyed_commands.specs.declared.answer.Answer.{Answer}
-use Rattle.keyed_commands.specs.declared.job.Job.{Job}
+use Rattle.keyed_jobs.specs.Answers.{AnswersMerged, AnswersMergedByCell, AnswersTable, HasConflict, HasNoConflict, HasNoneUnresolved, HasUnresolved, Stops, TableRows}
+use Rattle.keyed_jobs.specs.FileOrder.{AreKeysOfBoth, NotesBoth, placed_with}
+use Rattle.keyed_jobs.specs.MarkedText.{AnswersMarks, IsMarkedBy, MarkedRows, all_as_they_stand}
+use Rattle.keyed_jobs.specs.NotedStyles.{IsStyleBy, IsStyleOf}
+use Rattle.keyed_jobs.specs.Preferred.{rows_by_side}
+use Rattle.keyed_jobs.specs.TablesRead.{AreNamesBy, IsUnordered, ReadsTable, SaysTable}
+use Rattle.keyed_jobs.specs.declared.answer.Answer.{Answer}
+use Rattle.keyed_jobs.specs.declared.job.Job.{Job}
 
 module _ (form : Form) (columns : Columns) (keys : Option (List (List (List ℕ)))) (by_cells : Bool) (base ours theirs : TableRows) (answer : Answer) where
   -- the merged table exactly where no row is in conflict, and else a report with status 1

@@ -22,16 +22,15 @@ use Rattle.keyed_files.specs.Opening.{form_of, text_of_stream}
 use Rattle.keyed_files.specs.Reading.{IsOpen}
 use Rattle.keyed_files.specs.declared.opened.Opened.{Opened}
 use Rattle.keyed_files.specs.declared.opened.Stream.{Stream}
-use Rattle.keyed_commands.specs.Answers.{IsTableFile, TableRows, key_cmp}
-use Rattle.keyed_commands.specs.AppliedTexts.{watched_left}
-use Rattle.keyed_commands.specs.FileOrder.{Keys, KeysOf, OfKeys, noted_keys, noted_with}
-use Rattle.keyed_commands.specs.NotedStyles.{IsNoted, IsStyleBy, IsStyleOf}
-use Rattle.keyed_commands.specs.TablesRead.{AreNames, IsUnordered, ReadsTable, SaysTable}
-use Rattle.keyed_commands.specs.declared.answer.Answer.{Answer}
-use Rattle.keyed_commands.specs.declared.answer.Outcome.TheVariants.{Made}
-use Rattle.keyed_commands.specs.declared.job.Job.{Job}
+use Rattle.keyed_jobs.specs.Answers.{IsTableFile, TableRows, key_cmp}
+use Rattle.keyed_jobs.specs.NotedStyles.{IsNoted, IsStyleBy, IsStyleOf, watched_left}
+use Rattle.keyed_jobs.specs.FileOrder.{Keys, KeysOf, OfKeys, noted_keys, noted_with}
+use Rattle.keyed_jobs.specs.TablesRead.{AreNames, IsUnordered, ReadsTable, SaysTable}
+use Rattle.keyed_jobs.specs.declared.answer.Answer.{Answer}
+use Rattle.keyed_jobs.specs.declared.answer.Outcome.TheVariants.{Made}
+use Rattle.keyed_jobs.specs.declared.job.Job.{Job}
+use Rattle.keyed_jobs.specs.declared.styles.Watched.{Watched}
 use Rattle.keyed_commands.specs.declared.commands.overlay.Laid.{Laid}
-use Rattle.keyed_commands.specs.declared.styles.Watched.{Watched}
 
 -- what stands under a key that two tables have, one over the other: the rows of the upper one, or the cells of both
 abbrev pub laid_rows : Layer → EitherOrBoth (List (List (List ℕ))) (List (List (List ℕ))) → List (List (List ℕ))

@@ -14,10 +14,10 @@ use Rattle.keyed_columns.specs.declared.columns.Columns.{Columns}
 use Rattle.keyed_columns.specs.declared.columns.JoinColumns.{JoinColumns}
 use Rattle.keyed_files.specs.Rows.{heading, table_rows}
 use Rattle.keyed_files.specs.Writing.{file_text, quoted_text, text_of}
-use Rattle.keyed_commands.specs.Answers.{TableChanges, TableRows, key_cmp, rows_eq, status_of}
-use Rattle.keyed_commands.specs.ChangeRows.{changes_heading, changes_rows}
+use Rattle.keyed_jobs.specs.Answers.{TableChanges, TableRows, key_cmp, rows_eq, status_of}
+use Rattle.keyed_jobs.specs.ChangeRows.{changes_heading, changes_rows}
+use Rattle.keyed_jobs.specs.TablesRead.{IsUnordered}
 use Rattle.keyed_commands.specs.JoinAnswers.{heading_of_join, inner_sides, join_rows, left_sides, outer_sides, right_sides}
-use Rattle.keyed_commands.specs.TablesRead.{IsUnordered}
 use Rattle.keyed_commands.specs.declared.sorted.ChangesForm.{ChangesForm}
 use Rattle.keyed_commands.specs.declared.sorted.ChangesForm.TheVariants as way
 use Rattle.keyed_commands.specs.declared.sorted.Work.{Work}

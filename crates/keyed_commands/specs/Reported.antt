@@ -23,11 +23,11 @@ use Rattle.keyed_requests.specs.declared.request.Picked.{Picked}
 use Rattle.keyed_requests.specs.declared.request.Settings.{Settings}
 use Rattle.keyed_requests.specs.declared.request.View.{View}
 use Rattle.keyed_tables.specs.Arranged.{noted}
-use Rattle.keyed_commands.specs.Answers.{ChangesComeOut, TableChanges, TableRows}
-use Rattle.keyed_commands.specs.FileOrder.{AreKeysOfBoth, NotesBoth, noted_with}
-use Rattle.keyed_commands.specs.TablesRead.{AreNamesBy, IsStatusBetween, IsUnordered, ReadsTable, SaysTable}
-use Rattle.keyed_commands.specs.declared.answer.Answer.{Answer}
-use Rattle.keyed_commands.specs.declared.job.Job.{Job}
+use Rattle.keyed_jobs.specs.Answers.{ChangesComeOut, TableChanges, TableRows}
+use Rattle.keyed_jobs.specs.FileOrder.{AreKeysOfBoth, NotesBoth, noted_with}
+use Rattle.keyed_jobs.specs.TablesRead.{AreNamesBy, IsStatusBetween, IsUnordered, ReadsTable, SaysTable}
+use Rattle.keyed_jobs.specs.declared.answer.Answer.{Answer}
+use Rattle.keyed_jobs.specs.declared.job.Job.{Job}
 
 -- changes are told as a report, and not as CSV
 abbrev pub IsReport : Format → Type 0

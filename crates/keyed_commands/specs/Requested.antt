@@ -33,6 +33,7 @@ use Rattle.keyed_requests.specs.declared.request.SortedRequest.{SortedRequest}
 use Rattle.keyed_requests.specs.declared.request.SortedRequest.TheVariants as sorted
 use Rattle.keyed_requests.specs.declared.request.Wanted.{Wanted}
 use Rattle.keyed_requests.specs.declared.request.Wanted.TheVariants as wanted
+use Rattle.keyed_jobs.specs.declared.answer.Answer.{Answer}
 use Rattle.keyed_commands.specs.AppliedTexts.{AppliesStreams, PartlyStreams}
 use Rattle.keyed_commands.specs.DiffOnly.{DiffsStreamsBy}
 use Rattle.keyed_commands.specs.JoinAnswers.{JoinsStreams}
@@ -42,7 +43,6 @@ use Rattle.keyed_commands.specs.OverlayAnswers.{OverlaysStreams}
 use Rattle.keyed_commands.specs.Reported.{IsReport, ReportsStreams}
 use Rattle.keyed_commands.specs.RowDiff.{DiffsRowStreams}
 use Rattle.keyed_commands.specs.SortedTexts.{DiffsStreamsInParts, JoinsStreamsInParts}
-use Rattle.keyed_commands.specs.declared.answer.Answer.{Answer}
 use Rattle.keyed_commands.specs.declared.commands.partly.Partly.{Partly}
 
 -- whether a name is that of the standard input

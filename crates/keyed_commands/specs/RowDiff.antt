@@ -22,9 +22,9 @@ use Rattle.keyed_files.specs.declared.opened.Two.{Two}
 use Rattle.keyed_files.specs.declared.sign.Sign.TheVariants.{Minus, Plus}
 use Rattle.keyed_files.specs.declared.source.Source.{Source}
 use Rattle.keyed_rows.specs.declared.row.ReadRow.{ReadRow}
-use Rattle.keyed_commands.specs.Answers.{status_of}
-use Rattle.keyed_commands.specs.ChangeRows.{changes_heading}
-use Rattle.keyed_commands.specs.declared.answer.Answer.{Answer}
+use Rattle.keyed_jobs.specs.Answers.{status_of}
+use Rattle.keyed_jobs.specs.ChangeRows.{changes_heading}
+use Rattle.keyed_jobs.specs.declared.answer.Answer.{Answer}
 use Rattle.keyed_commands.specs.declared.commands.row_diff.RowJob.{RowJob}
 
 -- rows of two tables: each one stays, goes or comes

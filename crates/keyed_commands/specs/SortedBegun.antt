@@ -17,12 +17,12 @@ use Rattle.keyed_files.specs.Opening.{first_header, form_of, next_header, text_o
 use Rattle.keyed_files.specs.Writing.{text_of}
 use Rattle.keyed_files.specs.declared.opened.Stream.{Stream}
 use Rattle.keyed_files.specs.declared.opened.Two.{Two}
-use Rattle.keyed_commands.specs.Answers.{IsDiffText, TableChanges, key_cmp, rows_eq}
-use Rattle.keyed_commands.specs.ChangeRows.{changes_heading, changes_rows}
+use Rattle.keyed_jobs.specs.Answers.{IsDiffText, TableChanges, key_cmp, rows_eq}
+use Rattle.keyed_jobs.specs.ChangeRows.{changes_heading, changes_rows}
+use Rattle.keyed_jobs.specs.TablesRead.{AreNames}
+use Rattle.keyed_jobs.specs.Written.{PutsBeginning}
 use Rattle.keyed_commands.specs.FirstRows.{BeginsWith, ReadsFirst, table_of}
 use Rattle.keyed_commands.specs.PartAnswers.{SaysJoin}
-use Rattle.keyed_commands.specs.TablesRead.{AreNames}
-use Rattle.keyed_commands.specs.Written.{PutsBeginning}
 
 module _ {R : Type 0} (remaining : R → Option (List ℕ)) where
   -- the text of exactly the changes between the rows that two sources begin with, up to one key

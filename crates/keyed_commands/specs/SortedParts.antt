@@ -10,12 +10,12 @@ use Rattle.keyed_files.specs.declared.opened.Two.{Two}
 use Rattle.keyed_files.specs.declared.parts.Parts.{Parts}
 use Rattle.keyed_rows.specs.declared.row.ReadRow.{ReadRow}
 use Rattle.keyed_text.specs.Texts.{AreRows}
-use Rattle.keyed_commands.specs.Answers.{TableRows}
+use Rattle.keyed_jobs.specs.Answers.{TableRows}
+use Rattle.keyed_jobs.specs.TablesRead.{Gathers, ReadsTable}
+use Rattle.keyed_jobs.specs.Written.{PutsBeginning}
 use Rattle.keyed_commands.specs.FirstRows.{ReadsFirst, table_of}
 use Rattle.keyed_commands.specs.Keys.{IsAtMost}
 use Rattle.keyed_commands.specs.PartAnswers.{IsByKey, SaysOf, left_columns, on_later, right_columns}
-use Rattle.keyed_commands.specs.TablesRead.{Gathers, ReadsTable}
-use Rattle.keyed_commands.specs.Written.{PutsBeginning}
 use Rattle.keyed_commands.specs.declared.sorted.Part.{Part}
 use Rattle.keyed_commands.specs.declared.sorted.PartWritten.{PartWritten}
 use Rattle.keyed_commands.specs.declared.sorted.TwoParts.{TwoParts}

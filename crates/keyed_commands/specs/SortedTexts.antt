@@ -17,11 +17,11 @@ use Rattle.keyed_files.specs.Opening.{first_header, form_of, next_header, text_o
 use Rattle.keyed_files.specs.Writing.{text_of}
 use Rattle.keyed_files.specs.declared.opened.Stream.{Stream}
 use Rattle.keyed_files.specs.declared.opened.Two.{Two}
-use Rattle.keyed_commands.specs.Answers.{IsDiffText, TableChanges, TableRows, key_cmp, rows_eq, status_of}
-use Rattle.keyed_commands.specs.ChangeRows.{changes_heading, changes_rows}
+use Rattle.keyed_jobs.specs.Answers.{IsDiffText, TableChanges, TableRows, key_cmp, rows_eq, status_of}
+use Rattle.keyed_jobs.specs.ChangeRows.{changes_heading, changes_rows}
+use Rattle.keyed_jobs.specs.TablesRead.{AreNames, IsStatusBetween, ReadsTable, SaysTable, headers_differ}
 use Rattle.keyed_commands.specs.JoinAnswers.{header_of_join}
 use Rattle.keyed_commands.specs.PartAnswers.{SaysJoin}
-use Rattle.keyed_commands.specs.TablesRead.{AreNames, IsStatusBetween, ReadsTable, SaysTable, headers_differ}
 
 module _ {R : Type 0} (remaining : R → Option (List ℕ)) where
   -- the text of exactly the changes between the tables of two sources is put after what was written; the status is 0 exactly where there is no

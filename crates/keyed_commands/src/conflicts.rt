@@ -1,9 +1,9 @@
 //! Rows that both sides of a merge changed, as a report for a person or a program.
 
-use crate::job::Job;
 use crate::lost_cells::{put_lost, said_of_lost};
 use eob_joins::Versions;
 use keyed_columns::Columns;
+use keyed_jobs::Job;
 use keyed_reports::{Stopped, Version, write_stopped};
 use keyed_rows::{Group, Key};
 use std::alloc::AllocError;

@@ -7,7 +7,6 @@ ghost use Rattle.keyed_commands.specs.Requested.{IsStreamOf, JoinsNamed, LooksUp
 ghost use Rattle.keyed_commands.specs.Requested.{OverlaysNamed, PartlyNamed, RejectsNamed, WritesAnswer, WritesCommand};
 ghost use Rattle.keyed_commands.specs.Requested.{WritesWanted};
 
-use crate::answer::Answer;
 use crate::commands::apply::apply;
 use crate::commands::diff::diff;
 use crate::commands::join::join;
@@ -22,6 +21,7 @@ use crate::sorted::{diff_sorted, join_sorted};
 use either_or_both::Either;
 use keyed_faults::{Fault, Reason, at};
 use keyed_files::Stream;
+use keyed_jobs::Answer;
 use keyed_requests::{
     Applying, Command, Comparing, Delimiter, Direction, Joining, Layout, Lookup as LookupRequest,
     Merging, Misfits, NamedFile, Overlay as OverlayRequest, Request, RowComparing, Settings,

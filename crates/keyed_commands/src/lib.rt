@@ -2,38 +2,20 @@
 //!
 //! `write_command` answers a command of the files that it names, `diff`, `apply`, `merge`, `join` and `overlay` one of any readers
 //! (`Stream`), and `diff_sorted`, `join_sorted` and `lookup` write while they read. Each command has the file of its name, with its way
-//! from the streams to the answer. The core, over tables in memory, is `keyed_tables`; `keyed_files` reads and writes files.
+//! from the streams to the answer. What they share stands in `keyed_jobs`; the core, over tables in memory, is `keyed_tables`.
 #![tactic(auto)]
 
-mod answer;
-mod by_number;
-mod changes;
-mod come_out;
 mod commands;
-mod compared;
-mod conflict_cells;
 mod conflicts;
 mod draft;
 mod files;
 mod finished;
-mod job;
-mod laws;
 mod line_diff;
 mod lost_cells;
-mod made_changes;
 mod made_table;
-mod marks;
 mod output;
-mod parted;
-mod preferred;
-mod rejected;
-mod row_order;
 mod sorted;
-mod styles;
-mod turned;
-mod written;
 
-pub use answer::{Answer, Outcome};
 pub use commands::apply::apply;
 pub use commands::diff::diff;
 pub use commands::git::{
@@ -50,6 +32,7 @@ pub use files::{answer_request, stream_request, write_command, write_request, wr
 pub use finished::{Finished, SideCounts, StreamCounts};
 pub use keyed_faults::{Encoding, Fault, Reason, Shown, ShownCell, ShownName, at};
 pub use keyed_files::Stream;
+pub use keyed_jobs::{Answer, Outcome};
 pub use keyed_reports::Counts;
 pub use keyed_requests::{
     Applying, Asked, Colours, ColumnsShown, Command, Comment, Comparing, Conflicts, Delimiter,
@@ -60,9 +43,5 @@ pub use keyed_requests::{
     Wanted, Writing,
 };
 pub use keyed_text::{CellQuotes, LineEnd, Style};
-pub use laws::{
-    law_diff_apply_texts, law_diff_reads, law_diff_says, law_marks, law_one_side, law_taken_back,
-    law_text_once,
-};
 pub use output::write_into_file;
 pub use sorted::{diff_sorted, join_sorted};

@@ -2,11 +2,11 @@
 ghost use Rattle.std.specs.Prelude.{◌≡◌};
 ghost use Rattle.std.specs.List.{list_any};
 ghost use Rattle.keyed_columns.specs.Lost.{count_written, loses_cells};
-ghost use Rattle.keyed_commands.specs.Lost.{loses};
+ghost use Rattle.keyed_jobs.specs.Lost.{loses};
 
-use crate::job::Job;
 use keyed_columns::Columns;
 use keyed_faults::ShownName;
+use keyed_jobs::Job;
 use keyed_reports::{Stopped, Version, write_stopped};
 use keyed_rows::{Group, Key};
 use std::alloc::AllocError;

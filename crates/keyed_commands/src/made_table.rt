@@ -1,15 +1,14 @@
 //! A table that a command made, as its answer: the text of the rows, unless a cell would be lost.
 ghost use Rattle.std.specs.Prelude.{◌≡◌, IfOk, is_none};
 ghost use Rattle.keyed_tables.specs.Arranged.{noted};
-ghost use Rattle.keyed_commands.specs.Answers.{AnswersTable, IsTableFile, Stops};
-ghost use Rattle.keyed_commands.specs.declared.answer.Outcome.TheVariants.{Made};
+ghost use Rattle.keyed_jobs.specs.Answers.{AnswersTable, IsTableFile, Stops};
+ghost use Rattle.keyed_jobs.specs.declared.answer.Outcome.TheVariants.{Made};
 
-use crate::answer::{Answer, Outcome, stopped};
-use crate::job::Job;
 use crate::lost_cells::{lose_cells, render_lost};
 use keyed_columns::Columns;
 use keyed_faults::Reason;
 use keyed_files::write_spelled_table;
+use keyed_jobs::{Answer, Job, Outcome, stopped};
 use keyed_rows::{Group, Key};
 
 /// The rows as CSV, with status 0; or those that have cells in columns that go, with this word, and status 1.

@@ -1,10 +1,10 @@
 //! Answers that go into files: each is written into a file beside the one that is named, which takes its place once the answer is whole.
 
-use crate::answer::{Answer, Outcome};
 use crate::draft::{Draft, put_bytes};
 use crate::files::{answer_overlay, answer_request, write_command, write_whole};
 use crate::finished::Finished;
 use keyed_faults::{Fault, at};
+use keyed_jobs::{Answer, Outcome};
 use keyed_requests::{Command, Wanted};
 use std::io::Write;
 use std::rt::Files;

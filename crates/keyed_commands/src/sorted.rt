@@ -8,7 +8,9 @@ ghost use Rattle.keyed_requests.specs.declared.request.SortedChanges.TheVariants
 ghost use Rattle.keyed_files.specs.Parts.{TakesUpTo, key_cmp};
 ghost use Rattle.keyed_rows.specs.declared.row.ReadRow.{ReadRow};
 ghost use Rattle.keyed_tables.specs.Arranged.{noted};
-ghost use Rattle.keyed_commands.specs.Answers.{status_of};
+ghost use Rattle.keyed_jobs.specs.Answers.{status_of};
+ghost use Rattle.keyed_jobs.specs.TablesRead.{Gathers};
+ghost use Rattle.keyed_jobs.specs.Written.{PutsBeginning};
 ghost use Rattle.keyed_commands.specs.JoinAnswers.{IsJoinText};
 ghost use Rattle.keyed_commands.specs.Keys.{IsAtMost};
 ghost use Rattle.keyed_commands.specs.PartAnswers.{IsByKey, SaysChanges, SaysChangesIn, SaysOf};
@@ -19,16 +21,10 @@ ghost use Rattle.keyed_commands.specs.SortedParts.{SaysFirst, SaysNext, SaysTake
 ghost use Rattle.keyed_commands.specs.SortedParts.{WritesAll, WritesLater, WritesPart, WritesTables};
 ghost use Rattle.keyed_commands.specs.SortedParts.{bound_of};
 ghost use Rattle.keyed_commands.specs.SortedTexts.{DiffsInParts, DiffsStreamsInParts, JoinsStreamsInParts};
-ghost use Rattle.keyed_commands.specs.TablesRead.{Gathers};
-ghost use Rattle.keyed_commands.specs.Written.{PutsBeginning};
 
-use crate::by_number::changed_by_number;
-use crate::changes::write_changes;
 use crate::commands::join::JoinForm;
 use crate::commands::join_json::write_join;
 use crate::finished::{Finished, SideCounts, StreamCounts};
-use crate::job::{Job, Table};
-use crate::written::put_on_output;
 use eob_joins::Change;
 use keyed_columns::{
     ColumnChanges, Columns, Content, JoinColumns, LoneColumns, Tolerances, names_among,
@@ -36,6 +32,7 @@ use keyed_columns::{
 };
 use keyed_faults::{Fault, Reason, at};
 use keyed_files::{Parts, Stream, Two};
+use keyed_jobs::{Job, Table, changed_by_number, put_on_output, write_changes};
 use keyed_reports::{Counts, count, count_rows, json_columns, json_rows, row_changes};
 use keyed_requests::{Heading, Joining, Layout, Picked, Sameness, SortedChanges};
 use keyed_rows::{Cells, Group, Key, Release};

@@ -11,7 +11,7 @@ use Rattle.keyed_requests.specs.declared.merging.Unit.TheVariants as unit
 use Rattle.keyed_columns.specs.ColumnNames.{distinct}
 use Rattle.keyed_columns.specs.Names.{repeats}
 use Rattle.keyed_columns.specs.Placed.{placed}
-use Rattle.keyed_commands.specs.Answers.{rows_eq}
+use Rattle.keyed_jobs.specs.Answers.{rows_eq}
 use Rattle.command_callers.specs.Answered.{plainly}
 use Rattle.command_callers.proofs.KnownMerge.{merge_marked}
 use Rattle.command_callers.proofs.KnownStyles.{known_style}

@@ -2,23 +2,23 @@
 ghost use Rattle.std.specs.Prelude.{◌≡◌, ◌↔◌, IfOk, IsTrue, MatchBool, is_none, option_map};
 ghost use Rattle.either_or_both.specs.Prelude.{left_place, right_place};
 ghost use Rattle.keyed_tables.specs.Arranged.{noted};
+ghost use Rattle.keyed_jobs.specs.NotedStyles.{watched_left};
+ghost use Rattle.keyed_jobs.specs.Answers.{AllFit, AnswersPatched, Stops, fits_place, key_cmp, rows_eq};
+ghost use Rattle.keyed_jobs.specs.MadeChanges.{made_with};
+ghost use Rattle.keyed_jobs.specs.Turned.{changes_in};
 ghost use Rattle.keyed_commands.specs.AppliedTexts.{AnswersApplied, AppliesSources, AppliesStreams};
-ghost use Rattle.keyed_commands.specs.AppliedTexts.{watched_left};
-ghost use Rattle.keyed_commands.specs.Answers.{AllFit, AnswersPatched, Stops, fits_place, key_cmp, rows_eq};
-ghost use Rattle.keyed_commands.specs.MadeChanges.{made_with};
-ghost use Rattle.keyed_commands.specs.Turned.{changes_in};
 
-use crate::answer::{Answer, stopped};
-use crate::job::{Changes, Job, Table};
-use crate::made_changes::{made_changes, missing_columns};
 use crate::made_table::answer_of_rows;
-use crate::styles::{Watched, spelling_of, style_under, unwatched, watch};
 use either_or_both::EitherOrBoth;
 use either_or_both::join::{outer_join, outer_join_slices};
 use eob_joins::Change;
 use keyed_columns::{Columns, Content};
 use keyed_faults::{Fault, Reason, at};
 use keyed_files::{Stream, Two};
+use keyed_jobs::{
+    Answer, Changes, Job, Table, Watched, made_changes, missing_columns, spelling_of, stopped,
+    style_under, unwatched, watch,
+};
 use keyed_reports::{Stopped, Version, write_stopped};
 use keyed_requests::{Direction, Settings};
 use keyed_rows::{Group, Key};

@@ -9,27 +9,25 @@ ghost use Rattle.keyed_columns.specs.Keys.{AreChangeColumns, ArePickedColumns};
 ghost use Rattle.keyed_columns.specs.declared.columns.Columns.{Columns};
 ghost use Rattle.keyed_files.specs.Opening.{first_header, headers_of, next_header};
 ghost use Rattle.keyed_tables.specs.Arranged.{noted};
-ghost use Rattle.keyed_commands.specs.Answers.{ChangesComeOut, IsDiffStatus, IsDiffText, columns_differ};
-ghost use Rattle.keyed_commands.specs.Answers.{status_of};
-ghost use Rattle.keyed_commands.specs.Beside.{AnswersBeside, DiffsBesideSources};
+ghost use Rattle.keyed_jobs.specs.Answers.{ChangesComeOut, IsDiffStatus, IsDiffText, columns_differ};
+ghost use Rattle.keyed_jobs.specs.Answers.{status_of};
+ghost use Rattle.keyed_jobs.specs.Beside.{AnswersBeside, DiffsBesideSources};
+ghost use Rattle.keyed_jobs.specs.TablesRead.{DiffsSources};
+ghost use Rattle.keyed_jobs.specs.declared.answer.Outcome.TheVariants.{Made};
 ghost use Rattle.keyed_commands.specs.DiffOnly.{AreChangeColumnsBy, DiffsOnlySources, DiffsSourcesBy};
 ghost use Rattle.keyed_commands.specs.DiffOnly.{DiffsStreamsBy};
 ghost use Rattle.keyed_commands.specs.Reported.{AreComparedColumns, IsReport, ReportsSources, ReportsStreams};
 ghost use Rattle.keyed_commands.specs.Reported.{TellsChanges};
-ghost use Rattle.keyed_commands.specs.TablesRead.{DiffsSources};
-ghost use Rattle.keyed_commands.specs.declared.answer.Outcome.TheVariants.{Made};
 
-use crate::answer::{Answer, Outcome};
-use crate::by_number::changed_by_number;
-use crate::changes::write_changes;
-use crate::compared::{changed_beside, compared_columns};
-use crate::job::{Job, Table};
 use eob_joins::Change;
 use keyed_columns::{
     ColumnChanges, Columns, Content, Tolerances, marked_columns, names_among, picked_columns,
 };
 use keyed_faults::{Fault, Reason, at};
 use keyed_files::{Stream, Two};
+use keyed_jobs::{
+    Answer, Job, Outcome, Table, changed_beside, changed_by_number, compared_columns, write_changes,
+};
 use keyed_numbers::Alike;
 use keyed_reports::{Report, count_rows, row_changes, write_report};
 use keyed_requests::{Comparing, Format, Look, Picked, Settings};

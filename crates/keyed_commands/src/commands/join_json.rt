@@ -5,11 +5,11 @@ ghost use Rattle.keyed_tables.specs.Arranged.{noted};
 ghost use Rattle.keyed_commands.specs.JoinAnswers.{IsJoinText};
 
 use crate::commands::join::{JoinForm, JoinedRow, join_as_csv};
-use crate::job::{Job, Table};
 use either_or_both::EitherOrBoth;
 use either_or_both::join::outer_join;
 use keyed_columns::JoinColumns;
 use keyed_faults::Reason;
+use keyed_jobs::{Job, Table};
 use keyed_reports::{JsonSides, put_json_row};
 use keyed_requests::{Kind, RowFormat};
 use keyed_rows::{Cells, Group, Key};

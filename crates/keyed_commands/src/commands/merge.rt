@@ -6,31 +6,28 @@ ghost use Rattle.keyed_columns.specs.Spelled.{IsSpelledAs};
 ghost use Rattle.keyed_columns.specs.declared.content.Content.TheVariants.{Rows};
 ghost use Rattle.keyed_files.specs.Opening.{first_header, next_header};
 ghost use Rattle.keyed_tables.specs.Arranged.{noted};
-ghost use Rattle.keyed_commands.specs.AppliedTexts.{watched_left};
-ghost use Rattle.keyed_commands.specs.MarkedText.{AnswersMarks, IsMarkedBy, all_as_they_stand};
-ghost use Rattle.keyed_commands.specs.MarkedText.{has_all_columns};
+ghost use Rattle.keyed_jobs.specs.NotedStyles.{watched_left};
+ghost use Rattle.keyed_jobs.specs.MarkedText.{AnswersMarks, IsMarkedBy, all_as_they_stand};
+ghost use Rattle.keyed_jobs.specs.MarkedText.{has_all_columns};
+ghost use Rattle.keyed_jobs.specs.Preferred.{rows_by_side};
+ghost use Rattle.keyed_jobs.specs.FileOrder.{NotesBoth, placed_with};
+ghost use Rattle.keyed_jobs.specs.TablesRead.{IsUnordered, ReadsTable};
+ghost use Rattle.keyed_jobs.specs.Answers.{AnswersMerge, AnswersMerged, AnswersMergedByCell, HasConflict};
+ghost use Rattle.keyed_jobs.specs.Answers.{AnswersTable, HasNoConflict, HasNoneUnresolved};
+ghost use Rattle.keyed_jobs.specs.Answers.{HasUnresolved, Stops};
 ghost use Rattle.keyed_commands.specs.MergedTexts.{AnswersAs, AnswersBy, MergesSources, MergesStreams};
-ghost use Rattle.keyed_commands.specs.Preferred.{rows_by_side};
-ghost use Rattle.keyed_commands.specs.FileOrder.{NotesBoth, placed_with};
-ghost use Rattle.keyed_commands.specs.TablesRead.{IsUnordered, ReadsTable};
-ghost use Rattle.keyed_commands.specs.Answers.{AnswersMerge, AnswersMerged, AnswersMergedByCell, HasConflict};
-ghost use Rattle.keyed_commands.specs.Answers.{AnswersTable, HasNoConflict, HasNoneUnresolved};
-ghost use Rattle.keyed_commands.specs.Answers.{HasUnresolved, Stops};
 
-use crate::answer::{Answer, stopped};
-use crate::by_number::settled_by_number;
-use crate::conflict_cells::{Telling, told_conflicts};
 use crate::conflicts::render_conflicts;
-use crate::job::{Job, Table};
 use crate::lost_cells::lose_cells;
 use crate::made_table::answer_of_rows;
-use crate::marks::{answer_with_marks, has_conflict};
-use crate::preferred::rows_by_side;
-use crate::styles::{Watched, spelling_of, style_under, unwatched, watch};
 use eob_joins::{Marked, Parted, part_marked};
 use keyed_columns::{Columns, Content, Tolerances, columns_of, merged_columns};
 use keyed_faults::{Fault, Reason, at};
 use keyed_files::{Opened, Stream, Two};
+use keyed_jobs::{
+    Answer, Job, Table, Telling, Watched, answer_with_marks, has_conflict, rows_by_side,
+    settled_by_number, spelling_of, stopped, style_under, told_conflicts, unwatched, watch,
+};
 use keyed_reports::Report;
 use keyed_requests::{Conflicts, Merging, Settings, Side, Unit};
 use keyed_rows::{Group, Key};

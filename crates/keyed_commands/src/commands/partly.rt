@@ -3,23 +3,22 @@ ghost use Rattle.std.specs.Prelude.{◌≡◌, ◌==◌, IfOk, OnOk, is_none, le
 ghost use Rattle.keyed_tables.specs.Arranged.{noted};
 ghost use Rattle.keyed_files.specs.Gone.{IsTurned};
 ghost use Rattle.keyed_files.specs.Opening.{form_of};
-ghost use Rattle.keyed_commands.specs.AppliedTexts.{PartlySources, PartlyStreams, watched_left};
-ghost use Rattle.keyed_commands.specs.MadeChanges.{made_with};
-ghost use Rattle.keyed_commands.specs.Rejected.{AnswersPartly, beside, other_way, plain};
-ghost use Rattle.keyed_commands.specs.Turned.{changes_in};
+ghost use Rattle.keyed_jobs.specs.NotedStyles.{watched_left};
+ghost use Rattle.keyed_jobs.specs.MadeChanges.{made_with};
+ghost use Rattle.keyed_jobs.specs.Rejected.{other_way, plain};
+ghost use Rattle.keyed_jobs.specs.Turned.{changes_in};
+ghost use Rattle.keyed_commands.specs.AppliedTexts.{PartlySources, PartlyStreams};
+ghost use Rattle.keyed_commands.specs.PartlyAnswers.{AnswersPartly, beside};
 
-use crate::answer::Answer;
-use crate::job::{Changes, Job, Table};
-use crate::made_changes::{made_changes, missing_columns};
 use crate::made_table::answer_of_rows;
-use crate::parted::part_changes;
-use crate::rejected::{ChangesForm, changes_text};
-use crate::styles::{Watched, spelling_of, style_under, unwatched, watch};
-use crate::turned::pairs_in;
 use eob_joins::Change;
 use keyed_columns::{Columns, Content};
 use keyed_faults::{Fault, Reason, at};
 use keyed_files::{Opened, Stream, Two};
+use keyed_jobs::{
+    Answer, Changes, ChangesForm, Job, Table, Watched, changes_text, made_changes, missing_columns,
+    pairs_in, part_changes, spelling_of, style_under, unwatched, watch,
+};
 use keyed_requests::{Direction, Form, Settings, Writing};
 use keyed_rows::{Cells, Group, Key};
 use keyed_text::Style;

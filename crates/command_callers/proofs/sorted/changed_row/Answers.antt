@@ -8,8 +8,8 @@ use Rattle.keyed_requests.specs.declared.request.Look.TheVariants.{Table}
 use Rattle.keyed_columns.specs.ColumnNames.{distinct}
 use Rattle.keyed_columns.specs.Names.{repeats}
 use Rattle.keyed_columns.specs.Placed.{placed}
-use Rattle.keyed_commands.specs.declared.answer.Answer.{Answer}
-use Rattle.keyed_commands.specs.declared.answer.Outcome.TheVariants.{Made}
+use Rattle.keyed_jobs.specs.declared.answer.Answer.{Answer}
+use Rattle.keyed_jobs.specs.declared.answer.Outcome.TheVariants.{Made}
 use Rattle.command_callers.proofs.KnownDiff.{diff_bytes, diff_differs}
 use Rattle.command_callers.proofs.KnownSorted.{as_whole}
 use Rattle.command_callers.proofs.KnownTables.{known_text}

@@ -1,7 +1,7 @@
 use Rattle.std.proofs.Common.{inr, refl, subst}
 use Rattle.std.specs.Io.KnownBytes.{Appends}
 use Rattle.std.proofs.lemmas.Result.{err_from_is_err_and}
-use Rattle.keyed_commands.specs.Written.{PutsSome}
+use Rattle.keyed_jobs.specs.Written.{PutsSome}
 use Rattle.keyed_commands.proofs.sorted.write_part.Goals as goal
 
 pub returns-clause-whole : goal.returns-clause-whole

@@ -1,8 +1,8 @@
 use Rattle.std.proofs.Common.{◌≡◌, ◌∙◌, arith, rules, sym, tests, true, true≢false}
 use Rattle.std.proofs.lemmas.Grind.{common_steps}
 use Rattle.eob_joins.proofs.TableLemmas.{by_test}
-use Rattle.keyed_commands.specs.Answers.{key_cmp, rows_eq}
-use Rattle.keyed_commands.proofs.AnswerLemmas.{fits_shown, item_both, items_all, joined_fits, joined_misfits, rows_decides}
+use Rattle.keyed_jobs.specs.Answers.{key_cmp, rows_eq}
+use Rattle.keyed_jobs.proofs.AnswerLemmas.{fits_shown, item_both, items_all, joined_fits, joined_misfits, rows_decides}
 use Rattle.keyed_commands.proofs.commands.apply.all_fit.Goals as goal
 
 pub returns : goal.returns

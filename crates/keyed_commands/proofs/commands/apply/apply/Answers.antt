@@ -4,7 +4,8 @@ use Rattle.keyed_columns.specs.Keys.{AreChangedColumnsBy}
 use Rattle.keyed_columns.specs.Spelled.{IsSpelledAs}
 use Rattle.keyed_columns.specs.declared.columns.Columns.{Columns}
 use Rattle.keyed_files.specs.Opening.{form_of, text_of_stream}
-use Rattle.keyed_commands.specs.AppliedTexts.{AppliesTexts, watched_left}
+use Rattle.keyed_jobs.specs.NotedStyles.{watched_left}
+use Rattle.keyed_commands.specs.AppliedTexts.{AppliesTexts}
 use Rattle.keyed_commands.proofs.TextAnswerLemmas.{apply-streams, two-alike}
 use Rattle.keyed_commands.proofs.commands.apply.apply.Goals as goal
 

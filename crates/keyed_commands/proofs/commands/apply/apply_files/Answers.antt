@@ -3,10 +3,10 @@ use Rattle.std.specs.Prelude.{is_none}
 use Rattle.std.proofs.lemmas.Result.{IfOk-weaker}
 use Rattle.keyed_requests.specs.AnswerForm.{in_style}
 use Rattle.keyed_tables.specs.Arranged.{noted}
+use Rattle.keyed_jobs.specs.MadeChanges.{made_in, made_with, missing_by}
+use Rattle.keyed_jobs.specs.NotedStyles.{IsStyleBy}
+use Rattle.keyed_jobs.specs.Turned.{changes_in}
 use Rattle.keyed_commands.specs.AppliedTexts.{AnswersApplied}
-use Rattle.keyed_commands.specs.MadeChanges.{made_in, made_with, missing_by}
-use Rattle.keyed_commands.specs.NotedStyles.{IsStyleBy}
-use Rattle.keyed_commands.specs.Turned.{changes_in}
 use Rattle.keyed_commands.proofs.commands.apply.apply_files.Goals as goal
 
 pub returns : goal.returns

@@ -1,4 +1,4 @@
-use Rattle.keyed_commands.proofs.ComeLemmas.{told_false, told_true}
+use Rattle.keyed_jobs.proofs.ComeLemmas.{told_false, told_true}
 use Rattle.keyed_commands.proofs.commands.apply.apply_tables.Goals as goal
 
 pub returns-clause-fits : goal.returns-clause-fits

@@ -1,7 +1,7 @@
 use Rattle.std.proofs.Common.{◌∙◌, ap, length, sym}
-use Rattle.keyed_commands.specs.Answers.{key_cmp, rows_eq}
-use Rattle.keyed_commands.proofs.AnswerLemmas.{key_exact, key_total, none_same, rows_decides, same_none}
-use Rattle.keyed_commands.proofs.ComeLemmas.{comes_length, none_of}
+use Rattle.keyed_jobs.specs.Answers.{key_cmp, rows_eq}
+use Rattle.keyed_jobs.proofs.AnswerLemmas.{key_exact, key_total, none_same, rows_decides, same_none}
+use Rattle.keyed_jobs.proofs.ComeLemmas.{comes_length, none_of}
 use Rattle.keyed_commands.proofs.commands.diff.changes_shown.Goals as goal
 
 pub returns-clause-none : goal.returns-clause-none

@@ -1,7 +1,7 @@
 use Rattle.std.proofs.Common.{◌∙◌, ap, ap₂, length, map, subst, sym}
 use Rattle.std.proofs.lemmas.List.{length-map}
 use Rattle.std.specs.Prelude.{◌==◌, ◌&&◌, not}
-use Rattle.keyed_commands.specs.Answers.{columns_differ, status_of}
+use Rattle.keyed_jobs.specs.Answers.{columns_differ, status_of}
 use Rattle.keyed_reports.specs.RowChanges.{row_behind, row_changes, rows_eq}
 use Rattle.keyed_reports.specs.SaidAfter.{count_rows, counts_of}
 use Rattle.keyed_reports.specs.Shown.{count_more, shown_rows}

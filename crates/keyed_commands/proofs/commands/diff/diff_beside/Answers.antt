@@ -1,8 +1,8 @@
 use Rattle.std.proofs.Common.{◌∙◌, ◌++◌, ap, length}
 use Rattle.std.specs.Prelude.{◌==◌, ◌&&◌, not}
 use Rattle.keyed_files.specs.Writing.{text_of}
-use Rattle.keyed_commands.specs.Answers.{columns_differ, status_of}
-use Rattle.keyed_commands.specs.ChangeRows.{changes_heading, changes_rows}
+use Rattle.keyed_jobs.specs.Answers.{columns_differ, status_of}
+use Rattle.keyed_jobs.specs.ChangeRows.{changes_heading, changes_rows}
 use Rattle.keyed_commands.proofs.commands.diff.diff_beside.Goals as goal
 
 pub returns : goal.returns

@@ -4,8 +4,8 @@ use Rattle.std.proofs.lemmas.Result.{IfOk-weaker}
 use Rattle.keyed_columns.specs.ChangedColumns.{marked_names}
 use Rattle.keyed_columns.specs.Names.{compared}
 use Rattle.keyed_tables.specs.Arranged.{noted}
-use Rattle.keyed_commands.specs.Answers.{IsDiffText}
-use Rattle.keyed_commands.proofs.ReadLemmas.{status-between}
+use Rattle.keyed_jobs.specs.Answers.{IsDiffText}
+use Rattle.keyed_jobs.proofs.ReadLemmas.{status-between}
 use Rattle.keyed_commands.proofs.commands.diff.diff_files_as_csv.Goals as goal
 
 pub returns : goal.returns

@@ -3,9 +3,9 @@ use Rattle.std.specs.Prelude.{is_none}
 use Rattle.std.proofs.lemmas.Result.{IfOk-weaker}
 use Rattle.keyed_columns.specs.Names.{compared}
 use Rattle.keyed_tables.specs.Arranged.{noted}
+use Rattle.keyed_jobs.specs.TablesRead.{IsStatusBetween}
+use Rattle.keyed_jobs.proofs.ReadLemmas.{status-between}
 use Rattle.keyed_commands.specs.Reported.{IsTold, TellsChanges, names_among}
-use Rattle.keyed_commands.specs.TablesRead.{IsStatusBetween}
-use Rattle.keyed_commands.proofs.ReadLemmas.{status-between}
 use Rattle.keyed_commands.proofs.commands.diff.diff_files_as_report.Goals as goal
 
 pub returns : goal.returns

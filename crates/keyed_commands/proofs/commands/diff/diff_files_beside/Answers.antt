@@ -4,9 +4,9 @@ use Rattle.std.proofs.lemmas.Result.{IfOk-weaker}
 use Rattle.keyed_columns.specs.ChangedColumns.{marked_names}
 use Rattle.keyed_columns.specs.Names.{compared, has_lone}
 use Rattle.keyed_tables.specs.Arranged.{noted}
-use Rattle.keyed_commands.specs.Answers.{columns_differ}
-use Rattle.keyed_commands.specs.Beside.{AnswersBeside}
-use Rattle.keyed_commands.specs.TablesRead.{headers_differ}
+use Rattle.keyed_jobs.specs.Answers.{columns_differ}
+use Rattle.keyed_jobs.specs.Beside.{AnswersBeside}
+use Rattle.keyed_jobs.specs.TablesRead.{headers_differ}
 use Rattle.keyed_commands.proofs.commands.diff.diff_files_beside.Goals as goal
 
 pub returns : goal.returns

@@ -4,10 +4,10 @@ use Rattle.std.proofs.lemmas.Result.{IfOk-weaker}
 use Rattle.keyed_columns.specs.ChangedColumns.{marked_columns}
 use Rattle.keyed_columns.specs.Names.{compared}
 use Rattle.keyed_tables.specs.Arranged.{noted}
-use Rattle.keyed_commands.specs.Answers.{IsDiffText}
+use Rattle.keyed_jobs.specs.Answers.{IsDiffText}
+use Rattle.keyed_jobs.specs.TablesRead.{IsStatusBetween}
+use Rattle.keyed_jobs.proofs.ReadLemmas.{status-between}
 use Rattle.keyed_commands.specs.Reported.{names_among}
-use Rattle.keyed_commands.specs.TablesRead.{IsStatusBetween}
-use Rattle.keyed_commands.proofs.ReadLemmas.{status-between}
 use Rattle.keyed_commands.proofs.commands.diff.diff_files_only.Goals as goal
 
 pub returns : goal.returns

@@ -2,8 +2,8 @@ use Rattle.std.proofs.Common.{◌≡◌, [], ap, arith, map, rules}
 use Rattle.std.proofs.lemmas.Grind.{common_steps}
 use Rattle.eob_joins.specs.Lookup.{shown_lookup}
 use Rattle.keyed_files.proofs.WritingLemmas.{no-rows-left}
+use Rattle.keyed_jobs.proofs.ChangeLemmas.{change-then}
 use Rattle.keyed_commands.specs.LookupAnswers.{shown_row, shown_rows}
-use Rattle.keyed_commands.proofs.ChangeLemmas.{change-then}
 use Rattle.keyed_commands.proofs.commands.lookup.put_rows.Goals as goal
 
 pub loop-row-preserved : goal.loop-row-preserved

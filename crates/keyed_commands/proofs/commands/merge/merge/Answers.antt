@@ -4,7 +4,7 @@ use Rattle.keyed_columns.specs.Keys.{AreMergedColumnsBy}
 use Rattle.keyed_columns.specs.Spelled.{IsSpelledAs}
 use Rattle.keyed_columns.specs.declared.columns.Columns.{Columns}
 use Rattle.keyed_files.specs.Opening.{form_of, text_of_stream}
-use Rattle.keyed_commands.specs.AppliedTexts.{watched_left}
+use Rattle.keyed_jobs.specs.NotedStyles.{watched_left}
 use Rattle.keyed_commands.specs.MergedTexts.{MergesTexts}
 use Rattle.keyed_commands.proofs.TextAnswerLemmas.{merge-streams, three-alike}
 use Rattle.keyed_commands.proofs.commands.merge.merge.Goals as goal

@@ -1,7 +1,7 @@
 use Rattle.keyed_tables.specs.Arranged.{noted}
 use Rattle.eob_joins.specs.Marked.{merged_of}
 use Rattle.std.proofs.Common.{is_none}
-use Rattle.keyed_commands.proofs.AnswerLemmas.{settled_unresolved, settled_whole}
+use Rattle.keyed_jobs.proofs.AnswerLemmas.{settled_unresolved, settled_whole}
 use Rattle.keyed_commands.proofs.commands.merge.merge_by_cell.Goals as goal
 
 pub returns-clause-whole : goal.returns-clause-whole

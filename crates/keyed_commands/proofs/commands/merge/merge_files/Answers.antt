@@ -3,9 +3,9 @@ use Rattle.std.specs.Prelude.{is_none}
 use Rattle.std.proofs.lemmas.Result.{IfOk-weaker}
 use Rattle.keyed_requests.specs.AnswerForm.{in_style}
 use Rattle.keyed_tables.specs.Arranged.{noted}
+use Rattle.keyed_jobs.specs.MarkedText.{all_as_they_stand}
+use Rattle.keyed_jobs.specs.NotedStyles.{IsStyleBy}
 use Rattle.keyed_commands.specs.MergedTexts.{AnswersAs}
-use Rattle.keyed_commands.specs.MarkedText.{all_as_they_stand}
-use Rattle.keyed_commands.specs.NotedStyles.{IsStyleBy}
 use Rattle.keyed_commands.proofs.commands.merge.merge_files.Goals as goal
 
 pub returns : goal.returns

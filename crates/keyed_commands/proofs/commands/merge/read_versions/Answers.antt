@@ -1,5 +1,5 @@
 use Rattle.std.proofs.Common.{◌∙◌, ap, subst}
-use Rattle.keyed_commands.specs.TablesRead.{ReadsTable}
+use Rattle.keyed_jobs.specs.TablesRead.{ReadsTable}
 use Rattle.keyed_commands.proofs.commands.merge.read_versions.Goals as goal
 
 pub returns-clause-base : goal.returns-clause-base

@@ -1,7 +1,7 @@
 use Rattle.std.proofs.Common.{subst}
 use Rattle.std.specs.Prelude.{is_none}
 use Rattle.keyed_tables.specs.Arranged.{noted}
-use Rattle.keyed_commands.specs.Answers.{IsTableFile}
+use Rattle.keyed_jobs.specs.Answers.{IsTableFile}
 use Rattle.keyed_commands.proofs.commands.overlay.answer_laid.Goals as goal
 
 pub returns-clause-text : goal.returns-clause-text

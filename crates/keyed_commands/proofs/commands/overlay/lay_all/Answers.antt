@@ -3,9 +3,9 @@ use Rattle.std.proofs.lemmas.Grind.{common_steps}
 use Rattle.keyed_columns.specs.declared.columns.Columns.{Columns}
 use Rattle.keyed_columns.specs.declared.content.Content.TheVariants.{Rows}
 use Rattle.keyed_tables.specs.Arranged.{noted}
-use Rattle.keyed_commands.specs.AppliedTexts.{watched_left}
-use Rattle.keyed_commands.specs.FileOrder.{OfKeys, noted_with}
-use Rattle.keyed_commands.specs.declared.job.Job.{Job}
+use Rattle.keyed_jobs.specs.NotedStyles.{watched_left}
+use Rattle.keyed_jobs.specs.FileOrder.{OfKeys, noted_with}
+use Rattle.keyed_jobs.specs.declared.job.Job.{Job}
 use Rattle.keyed_commands.specs.OverlayAnswers.{LaysTables, rows_laid}
 use Rattle.keyed_commands.proofs.OverlayLemmas.{lays_none, lays_then, notes_none, notes_then}
 use Rattle.keyed_commands.proofs.commands.overlay.lay_all.Goals as goal

@@ -1,10 +1,10 @@
 use Rattle.std.proofs.Common.{◌≡◌, [], Option}
 use Rattle.either_or_both.specs.Join.{Rising}
-use Rattle.keyed_commands.specs.Answers.{TableRows, key_cmp}
+use Rattle.keyed_jobs.specs.Answers.{TableRows, key_cmp}
 use Rattle.keyed_tables.specs.Arranged.{noted}
-use Rattle.keyed_commands.specs.FileOrder.{Keys}
+use Rattle.keyed_jobs.specs.FileOrder.{Keys}
+use Rattle.keyed_jobs.specs.TablesRead.{IsUnordered}
 use Rattle.keyed_commands.specs.OverlayAnswers.{LaysTables, NotesAll, rows_laid}
-use Rattle.keyed_commands.specs.TablesRead.{IsUnordered}
 use Rattle.keyed_commands.proofs.commands.overlay.lay_all.Given as goal
 
 abbrev pub invariant-loop-table : goal.invariant-loop-table

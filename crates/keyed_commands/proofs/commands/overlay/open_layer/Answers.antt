@@ -1,6 +1,6 @@
 use Rattle.keyed_files.specs.Opening.{form_of, text_of_stream}
+use Rattle.keyed_jobs.proofs.ReadLemmas.{are-names}
 use Rattle.keyed_commands.proofs.OverlayLemmas.{layer_open, layer_style}
-use Rattle.keyed_commands.proofs.ReadLemmas.{are-names}
 use Rattle.keyed_commands.proofs.commands.overlay.open_layer.Goals as goal
 
 pub returns-clause-layer : goal.returns-clause-layer

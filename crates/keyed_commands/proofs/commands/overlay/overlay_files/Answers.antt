@@ -3,8 +3,8 @@ use Rattle.std.specs.Prelude.{is_none}
 use Rattle.std.proofs.lemmas.Result.{IfOk-weaker}
 use Rattle.keyed_requests.specs.AnswerForm.{in_style}
 use Rattle.keyed_tables.specs.Arranged.{noted}
-use Rattle.keyed_commands.specs.Answers.{IsTableFile}
-use Rattle.keyed_commands.specs.NotedStyles.{IsStyleBy}
+use Rattle.keyed_jobs.specs.Answers.{IsTableFile}
+use Rattle.keyed_jobs.specs.NotedStyles.{IsStyleBy}
 use Rattle.keyed_commands.specs.OverlayAnswers.{rows_laid}
 use Rattle.keyed_commands.proofs.commands.overlay.overlay_files.Goals as goal
 

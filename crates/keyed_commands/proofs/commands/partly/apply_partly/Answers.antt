@@ -4,8 +4,9 @@ use Rattle.keyed_columns.specs.Keys.{AreChangedColumnsBy}
 use Rattle.keyed_columns.specs.Spelled.{IsSpelledAs}
 use Rattle.keyed_columns.specs.declared.columns.Columns.{Columns}
 use Rattle.keyed_files.specs.Opening.{form_of, text_of_stream}
-use Rattle.keyed_commands.specs.AppliedTexts.{PartlyTexts, watched_left}
-use Rattle.keyed_commands.specs.Rejected.{plain}
+use Rattle.keyed_jobs.specs.NotedStyles.{watched_left}
+use Rattle.keyed_jobs.specs.Rejected.{plain}
+use Rattle.keyed_commands.specs.AppliedTexts.{PartlyTexts}
 use Rattle.keyed_commands.proofs.TextAnswerLemmas.{partly-streams, two-alike}
 use Rattle.keyed_commands.proofs.commands.partly.apply_partly.Goals as goal
 

@@ -1,6 +1,6 @@
 use Rattle.std.proofs.Common.{subst}
 use Rattle.keyed_files.specs.Gone.{IsTurned}
-use Rattle.keyed_commands.proofs.RejectedLemmas.{turned-on}
+use Rattle.keyed_jobs.proofs.RejectedLemmas.{turned-on}
 use Rattle.keyed_commands.proofs.commands.partly.how_marked.Goals as goal
 
 pub returns-clause-same : goal.returns-clause-same

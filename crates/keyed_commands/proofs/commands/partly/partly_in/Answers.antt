@@ -2,8 +2,9 @@ use Rattle.std.proofs.Common.{◌∙◌, ◌==◌, ap, length, subst, subst₂}
 use Rattle.std.specs.Prelude.{is_none}
 use Rattle.eob_joins.specs.Tables.{IsKeptOfJoin}
 use Rattle.keyed_tables.specs.Arranged.{noted}
-use Rattle.keyed_commands.specs.Answers.{key_cmp}
-use Rattle.keyed_commands.specs.Rejected.{IsChangesText, applied_where_fits, beside, rejected_at}
+use Rattle.keyed_jobs.specs.Answers.{key_cmp}
+use Rattle.keyed_jobs.specs.Rejected.{IsChangesText, applied_where_fits, rejected_at}
+use Rattle.keyed_commands.specs.PartlyAnswers.{beside}
 use Rattle.keyed_commands.proofs.commands.partly.partly_in.Goals as goal
 
 pub returns : goal.returns

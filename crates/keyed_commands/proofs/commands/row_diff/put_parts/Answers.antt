@@ -1,8 +1,8 @@
 use Rattle.std.proofs.Common.{◌≡◌, ◌∙◌, ◌+◌, ◌∷◌, ap, drop, sym}
 use Rattle.std.proofs.lemmas.List.{drop_all, drop_more}
 use Rattle.keyed_files.proofs.WritingLemmas.{no-rows-left}
+use Rattle.keyed_jobs.proofs.ChangeLemmas.{change-then}
 use Rattle.keyed_commands.specs.RowDiff.{signed_row, signed_rows}
-use Rattle.keyed_commands.proofs.ChangeLemmas.{change-then}
 use Rattle.keyed_commands.proofs.commands.row_diff.put_parts.Goals as goal
 
 pub loop-part-preserved : goal.loop-part-preserved

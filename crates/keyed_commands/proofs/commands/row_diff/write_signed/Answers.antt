@@ -1,5 +1,5 @@
 use Rattle.keyed_files.proofs.WritingLemmas.{wrote-more}
-use Rattle.keyed_commands.specs.ChangeRows.{changes_heading}
+use Rattle.keyed_jobs.specs.ChangeRows.{changes_heading}
 use Rattle.keyed_commands.specs.RowDiff.{signed_rows}
 use Rattle.keyed_commands.proofs.commands.row_diff.write_signed.Goals as goal
 

@@ -1,5 +1,0 @@
-use Rattle.keyed_commands.proofs.TurnedLemmas.{taken-back, taken-back-fits}
-use Rattle.keyed_commands.proofs.laws.law_taken_back.Goals as goal
-
-pub returns : goal.returns
-returns c = record { fits = taken-back-fits; back = taken-back }

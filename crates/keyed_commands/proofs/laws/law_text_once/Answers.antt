@@ -1,5 +1,0 @@
-use Rattle.keyed_commands.proofs.TextLawLemmas.{one-changes-law, one-table-law}
-use Rattle.keyed_commands.proofs.laws.law_text_once.Goals as goal
-
-pub returns : goal.returns
-returns c = record { table = one-table-law; changes = one-changes-law }

@@ -1,6 +1,0 @@
-use Rattle.std.proofs.Common.{◌≡◌}
-use Rattle.keyed_commands.specs.Preferred.{rows_by_side}
-use Rattle.keyed_commands.proofs.preferred.rows_by_side.Given as goal
-
-abbrev pub invariant-loop-key : goal.invariant-loop-key
-invariant-loop-key l = l.settled.items ≡ rows_by_side l.how.unit l.how.alikes.now l.side l.yielded

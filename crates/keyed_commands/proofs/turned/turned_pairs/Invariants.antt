@@ -1,6 +1,0 @@
-use Rattle.std.proofs.Common.{◌≡◌}
-use Rattle.keyed_commands.specs.Turned.{turned}
-use Rattle.keyed_commands.proofs.turned.turned_pairs.Given as goal
-
-abbrev pub invariant-loop-key : goal.invariant-loop-key
-invariant-loop-key l = l.made.items ≡ turned l.yielded

@@ -1,0 +1,11 @@
+pub mod AnswerLemmas
+pub mod ByNumberLemmas
+pub mod ChangeLemmas
+pub mod ComeLemmas
+pub mod MarkLemmas
+pub mod NotedLemmas
+pub mod ReadLemmas
+pub mod RejectedLemmas
+pub mod RowTextLemmas
+pub mod SignedLemmas
+pub mod TurnedLemmas

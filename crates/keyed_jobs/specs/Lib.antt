@@ -1,0 +1,17 @@
+pub mod Answers
+pub mod Beside
+pub mod ByNumber
+pub mod ChangeRows
+pub mod ChangesRead
+pub mod ComeOut
+pub mod ConflictCells
+pub mod FileOrder
+pub mod Lost
+pub mod MadeChanges
+pub mod MarkedText
+pub mod NotedStyles
+pub mod Preferred
+pub mod Rejected
+pub mod TablesRead
+pub mod Turned
+pub mod Written

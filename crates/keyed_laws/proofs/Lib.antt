@@ -1,0 +1,12 @@
+pub mod ChangesBackLemmas
+pub mod ColumnsBackLemmas
+pub mod DiffedTextLemmas
+pub mod LawLemmas
+pub mod LossLemmas
+pub mod MadeLemmas
+pub mod MarkLawLemmas
+pub mod OneSideLemmas
+pub mod SpelledLemmas
+pub mod TableBackLemmas
+pub mod TakenBackLemmas
+pub mod TextLawLemmas

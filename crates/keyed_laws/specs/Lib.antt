@@ -1,0 +1,4 @@
+pub mod Laws
+pub mod MarkLaws
+pub mod OneSide
+pub mod TextLaws
