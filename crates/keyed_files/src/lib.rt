@@ -1,7 +1,7 @@
 //! The rows of CSV files: read one by one or part by part, under the columns that are wanted, and written as a table, as changes, or as the
 //! rows of a join or a look-up.
 //!
-//! What columns are is said in `keyed_columns`. Tables by key stand above this crate, in `keyed_commands`.
+//! What columns are is said in `keyed_columns`. Tables by key stand above this crate, in `keyed_jobs`.
 #![tactic(auto)]
 
 mod ahead;

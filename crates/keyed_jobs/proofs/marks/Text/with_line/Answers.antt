@@ -1,4 +1,4 @@
-use Rattle.std.proofs.Common.{◌≡◌, ◌∙◌, ◌++◌, ap, ap₂, refl}
+use Rattle.std.proofs.Common.{◌∙◌, ◌++◌, ap, ap₂, refl}
 use Rattle.csv.specs.Writing.{end_text}
 use Rattle.keyed_text.specs.Texts.{terminator_of}
 use Rattle.keyed_jobs.proofs.MarkLemmas.{puts-line}
