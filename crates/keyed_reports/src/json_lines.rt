@@ -108,8 +108,7 @@ pub fn put_cells(
 ) -> Result<(), AllocError> {
     writer.begin_object()?;
     for (name, cell) in names.iter().zip(cells) {
-        let name = format!(in alloc; "{}", JsonText(name))?;
-        writer.key(&name)?;
+        put_name(alloc, writer, name)?;
         put_text(alloc, writer, cell)?;
     }
     writer.end_object()
@@ -178,8 +177,32 @@ pub fn put_count(writer: &mut Writer, name: &str, count: usize) -> Result<(), Al
 ///
 /// Returns `AllocError` if a request for memory was refused.
 pub fn put_text(alloc: Global, writer: &mut Writer, bytes: &[u8]) -> Result<(), AllocError> {
-    let text = format!(in alloc; "{}", JsonText(bytes))?;
-    writer.string(&text)
+    match as_text(bytes) {
+        Some(text) => writer.string(text),
+        None => writer.string(&format!(in alloc; "{}", JsonText(bytes))?),
+    }
+}
+
+// Puts the name of a member.
+fn put_name(alloc: Global, writer: &mut Writer, bytes: &[u8]) -> Result<(), AllocError> {
+    match as_text(bytes) {
+        Some(name) => writer.key(name),
+        None => writer.key(&format!(in alloc; "{}", JsonText(bytes))?),
+    }
+}
+
+// The first byte of each character from U+100000 on, among them those that stand for bytes.
+const HIGHEST: u8 = 0xf4;
+
+// Bytes that stand in JSON as they are, with no copy: UTF-8 in which no character stands for a byte.
+fn as_text(bytes: &[u8]) -> Option<&str> {
+    if bytes.contains(&HIGHEST) {
+        return None;
+    }
+    match str::from_utf8(bytes) {
+        Ok(text) => Some(text),
+        Err(_) => None,
+    }
 }
 
 // Puts names of columns as an array under a name.
