@@ -2,6 +2,7 @@ pub mod PlaceNameLemmas
 pub mod ColumnLemmas
 pub mod HeaderLemmas
 pub mod JoinedLemmas
+pub mod KeyColumnLemmas
 pub mod KeyLemmas
 pub mod LawLemmas
 pub mod NameLemmas

@@ -52,7 +52,7 @@ or_shift false b c d e = rw e refl
 
 -- a name is among the names that are inserted where it was there or is one of them
 module _ {K : Type 0} (eq : K → K → Bool) (laws : IsEquivalence eq) where
-  one_in : (k x : K) (ks : List K) (b t : Bool) → list_any (eq x) ks ≡ b → eq k x ≡ t → list_any (eq k) (cond b ks (ks ++ x ∷ [])) ≡ (list_any (eq k) ks || t)
+  pub one_in : (k x : K) (ks : List K) (b t : Bool) → list_any (eq x) ks ≡ b → eq k x ≡ t → list_any (eq k) (cond b ks (ks ++ x ∷ [])) ≡ (list_any (eq k) ks || t)
   one_in k x ks true true e f = list_any_congr laws k x ks f ∙ e ∙ sym (ap (λ b. b || true) (list_any_congr laws k x ks f ∙ e))
   one_in k x ks true false e f = sym (or_false (list_any (eq k) ks))
   one_in k x ks false t e f = list_any-append (eq k) ks (x ∷ []) ∙ ap (λ b. list_any (eq k) ks || b) (or_false (eq k x) ∙ f)

@@ -5,7 +5,7 @@ use Rattle.std.specs.List.{list_any, range_with_len}
 use Rattle.std.proofs.lemmas.Fmt.{decimal_injective}
 use Rattle.std.proofs.lemmas.List.FromFn.{map-range_with_len_more}
 use Rattle.indexmap.specs.IndexSet.{insert_key}
-use Rattle.keyed_columns.specs.Headers.{HeaderOf, cells_before, names_counted, numbered_names}
+use Rattle.keyed_columns.specs.Headers.{HeaderOf, cells_before, numbered_names}
 use Rattle.keyed_columns.specs.declared.content.Content.{Content}
 
 unless : (P : Type 0) (b : Bool) → (b ≡ true → P) → (P → ⊥) → b ≡ false

@@ -6,10 +6,12 @@ pub mod ColumnNames
 pub mod Going
 pub mod Headers
 pub mod JoinedNames
+pub mod KeyColumns
 pub mod KeyText
 pub mod Keys
 pub mod Lost
 pub mod Names
 pub mod NewColumns
 pub mod Placed
+pub mod Repeated
 pub mod Spelled

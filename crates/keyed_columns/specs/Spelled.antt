@@ -1,5 +1,5 @@
 -- How the header of a table spells the names of its columns, and how the heading of a table that is made of it does.
-use Rattle.std.specs.Prelude.{◌≡◌, ℕ, Bool, true, false, List, [], ◌∷◌, Option, Some, None, nat_eq, unwrap_or, ⊤, if◌then◌else◌}
+use Rattle.std.specs.Prelude.{◌≡◌, ℕ, Bool, true, false, List, [], ◌∷◌, Option, Some, None, nat_eq, ⊤, if◌then◌else◌}
 use Rattle.std.specs.Cmp.Lexicographic.{pointwise}
 use Rattle.keyed_text.specs.Texts.{AreRows}
 use Rattle.keyed_requests.specs.FormBytes.{comment_of, delimiter_of}

@@ -1,6 +1,7 @@
 //! The columns of tables: from headers to the columns of what is written.
-ghost use Rattle.std.specs.Prelude.{◌≡◌, ◌++◌, ◌∷◌, ◌||◌, [], IfOk, None, OnOk, filter, length, map, true};
+ghost use Rattle.std.specs.Prelude.{◌≡◌, ◌++◌, ◌∷◌, ◌||◌, [], IfErr, IfOk, None, OnOk, filter, length, map, true};
 ghost use Rattle.std.specs.List.{list_all};
+ghost use Rattle.keyed_faults.specs.Outside.{IsApart};
 ghost use Rattle.keyed_columns.specs.ColumnNames.{AreColumns, column_names, has_name, if_empty};
 ghost use Rattle.keyed_columns.specs.ColumnNames.{is_beside, key_first};
 ghost use Rattle.keyed_columns.specs.ColumnNames.{or_header, place_under_key};
@@ -160,7 +161,8 @@ pub fn picked_columns(
     picked: Picked<'_>,
     columns: Columns,
 ) -> Result<Columns, Reason>
-    ensures { IfOk result (λ kept. ArePickedColumns picked.entry columns kept) }
+    ensures kept { IfOk result (λ kept. ArePickedColumns picked.entry columns kept) }
+    ensures why { IfErr result IsApart }
 {
     match picked {
         Picked::All => Ok(columns),
@@ -176,7 +178,8 @@ fn columns_picked(
     keeps: bool,
     columns: Columns,
 ) -> Result<Columns, Reason>
-    ensures { IfOk result (λ kept. ArePicked text.now keeps columns kept) }
+    ensures kept { IfOk result (λ kept. ArePicked text.now keeps columns kept) }
+    ensures why { IfErr result IsApart }
 {
     let given = key_names(alloc, text)?;
     check_known(alloc, &columns, &given.first)?;
@@ -187,9 +190,10 @@ fn columns_picked(
 
 // Tells of the first of these names that is that of no column.
 fn check_known(alloc: Global, columns: &Columns, given: &Cells) -> Result<(), Reason>
-    ensures { OnOk result
+    ensures known { OnOk result
         (list_all (λ name. has_name columns.now.key name || has_name columns.now.rest name) given.now
         ≡ true) }
+    ensures why { IfErr result IsApart }
 {
     for name in given {
         if !columns.has(name) {
@@ -306,8 +310,9 @@ pub struct JoinColumns {
 ///
 /// Returns the errors of `key_names`, and `NoMemory` if a request for memory was refused.
 pub fn columns_of(alloc: Global, key: Option<&str>, headers: &[&Cells]) -> Result<Columns, Reason>
-    ensures { IfOk result (λ columns. AreColumnsBy key.entry
+    ensures columns { IfOk result (λ columns. AreColumnsBy key.entry
         (map (λ header. header.now) headers.now) (map (λ header. header.now) headers.now) columns) }
+    ensures why { IfErr result IsApart }
 {
     let names = key_of(alloc, key, headers)?;
     let columns = Columns::new(alloc, names.others, headers)?;
@@ -326,7 +331,8 @@ pub fn join_columns(
     left: &Cells,
     right: &Cells,
 ) -> Result<JoinColumns, Reason>
-    ensures { IfOk result (AreJoinColumns key.entry left.now right.now) }
+    ensures columns { IfOk result (AreJoinColumns key.entry left.now right.now) }
+    ensures why { IfErr result IsApart }
 {
     let names = key_of(alloc, key, &[left, right])?;
     let left_columns = columns_beside(alloc, &names.others, &names.first, left, right)?;
@@ -367,8 +373,9 @@ fn columns_beside(
 /// Returns the errors of `key_names`, `RepeatedName` if a column is given by its name and by its place, and `NoMemory` if a request for
 /// memory was refused.
 pub fn key_of(alloc: Global, key: Option<&str>, headers: &[&Cells]) -> Result<KeyNames, Reason>
-    ensures { IfOk result
+    ensures names { IfOk result
         (λ names. AreKeyNames key.entry (map (λ header. header.now) headers.now) names.first names.others) }
+    ensures why { IfErr result IsApart }
 {
     match key {
         Some(text) => {
@@ -384,8 +391,9 @@ pub fn key_of(alloc: Global, key: Option<&str>, headers: &[&Cells]) -> Result<Ke
 
 // The names that a text gives, or the names of the columns at the places that it gives.
 fn named_columns(alloc: Global, text: &str, headers: &[&Cells]) -> Result<KeyNames, Reason>
-    ensures { IfOk result (λ names. NameColumns text.now (map (λ header. header.now) headers.now)
+    ensures names { IfOk result (λ names. NameColumns text.now (map (λ header. header.now) headers.now)
         names.first names.others) }
+    ensures why { IfErr result IsApart }
 {
     let given = key_names(alloc, text)?;
     if given.first == given.others {
@@ -398,8 +406,9 @@ fn named_columns(alloc: Global, text: &str, headers: &[&Cells]) -> Result<KeyNam
 
 // The names of columns of all tables that are given by name or by number.
 fn columns_at(alloc: Global, given: &Cells, headers: &[&Cells]) -> Result<Cells, Reason>
-    ensures { IfOk result (λ names.
+    ensures names { IfOk result (λ names.
         names ≡ map (by_place (column_names (map (λ header. header.now) headers.now))) given.now) }
+    ensures why { IfErr result IsApart }
 {
     let columns = Columns::new(alloc, Cells::new(alloc), headers)?;
     let places = numbered(alloc, columns.rest)?;
@@ -421,8 +430,9 @@ fn numbered(alloc: Global, columns: Cells) -> Result<KeyNames, AllocError>
 
 // The names of the columns that are given by name or by number.
 fn names_at(alloc: Global, places: &KeyNames, given: &Cells) -> Result<Cells, Reason>
-    ensures { IfOk result
+    ensures names { IfOk result
         (λ names. names ≡ map (name_by places.now.first places.now.others) given.now) }
+    ensures why { IfErr result IsApart }
 {
     let mut names = NewNames::new(alloc);
     for name in given {

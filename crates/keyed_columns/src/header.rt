@@ -1,15 +1,19 @@
 //! The names of a table's columns, told apart where the header has one more than once.
-ghost use Rattle.std.specs.Prelude.{◌≡◌, ◌++◌, ◌∷◌, ◌^◌, ◌<◌, IfOk, IfSome, OnOk, [], false, map, nat_eq};
-ghost use Rattle.std.specs.Prelude.{unwrap_or};
+ghost use Rattle.std.specs.Prelude.{◌≡◌, ◌++◌, ◌∷◌, ◌^◌, ◌<◌, IfErr, IfOk, IfSome, OnOk, [], false, map};
+ghost use Rattle.std.specs.Prelude.{nat_eq, true, unwrap_or};
 ghost use Rattle.std.specs.Cmp.Lexicographic.{pointwise};
-ghost use Rattle.std.specs.List.{list_any};
+ghost use Rattle.std.specs.List.{list_all, list_any};
 ghost use Rattle.csv.specs.Records.{field_at, fields_of};
 ghost use Rattle.keyed_columns.specs.Going.{coming_behind, going_behind, name_if_comes, name_if_goes};
 ghost use Rattle.keyed_columns.specs.Going.{names_coming, names_going, with_coming, with_going};
 ghost use Rattle.keyed_columns.specs.Headers.{name_in, names_behind, numbered_names};
+ghost use Rattle.keyed_columns.specs.KeyColumns.{ExplainsKey, ExplainsName, ExplainsRenaming};
+ghost use Rattle.keyed_columns.specs.KeyColumns.{PutsName, TellsNames, is_one_column, lacks};
+ghost use Rattle.keyed_columns.specs.KeyColumns.{with_two_names};
 ghost use Rattle.keyed_columns.specs.Names.{names_in, place_in, renamed, repeats};
+ghost use Rattle.keyed_columns.specs.Repeated.{AreRepeated};
 
-use crate::columns::place_of;
+use crate::columns::has_name;
 use crate::fate::Fate;
 use crate::key_record::KeyNames;
 use crate::names::Names;
@@ -35,6 +39,7 @@ pub struct Header {
     // The line that it stands on.
     line: u64,
     ghost found_is_names: { names_in found ≡ names },
+    ghost repeated_twice: { AreRepeated spelling.spelled (names_in repeated) },
 }
 
 /// The names of the columns of a table as its header spells them, the same name as often as it stands there, and those by which they are
@@ -90,18 +95,18 @@ impl Header {
         ensures came { IfOk result (λ header. header.came ≡ names_coming before (fields_of row.now)) }
     {
         let spelled = spelled_names(alloc, row, before)?;
-        let there = names_there(alloc, row, before)?;
+        let there = There::of_record(alloc, row, before)?;
         let mut told = Told::new(alloc);
         // Of each name of the header the number that the last column of this name has, or 0 where none has come.
-        let mut numbers: Vec<usize> = Vec::from_elem(alloc, 0, there.len())?;
+        let mut numbers: Vec<usize> = Vec::from_elem(alloc, 0, there.each.len())?;
         for place in before..row.len() {
             let (fate, name) = fate_of(before, cell_of(row, place));
-            let last = last_number(&numbers, there.place_of(name));
-            let number = told.put(alloc, &there, name, last)?;
-            note_number(&mut numbers, there.place_of(name), number);
+            let last = last_number(&numbers, there.each.place_of(name));
+            let number = told.put(alloc, &there.each, name, last)?;
+            note_number(&mut numbers, there.each.place_of(name), number);
             told.note_fate(fate, name)?;
         }
-        told.into_header(alloc, spelled, line)
+        told.into_header(alloc, spelled, there.repeated, line)
     }
 
     /// The header of the same changes taken back: the columns that came go, and those that went come.
@@ -125,7 +130,7 @@ impl Header {
             let name = format!(in alloc; "{}", number.saturating_add(1))?;
             told.found.add(alloc, name.as_bytes())?;
         }
-        told.into_header(alloc, Cells::new(alloc), line)
+        told.into_header(alloc, Cells::new(alloc), Names::new(alloc), line)
     }
 
     /// Gives the columns of a key, which have the first of their names, the others. A header with no name, as of an empty file, stays so.
@@ -138,6 +143,8 @@ impl Header {
         ensures names { OnOk result
             (self.new.names ≡ map (renamed key.now.first key.now.others) self.old.names) }
         ensures spelling { self.new.spelling ≡ self.old.spelling }
+        ensures why { IfErr result
+            (ExplainsRenaming self.old.spelling.spelled self.old.names self.old.gone key.now) }
     {
         self.check_key(alloc, &renamed_of(alloc, key)?)?;
         let mut found = Names::new(alloc);
@@ -163,28 +170,91 @@ impl Header {
         self.found.place_of(name)
     }
 
-    /// Tells that each name of a key is that of one column. A header with no name, as of an empty file, needs none.
+    /// Tells that each name of a key is that of one column, and of one that does not go. A header with no name, as of an empty file, needs
+    /// none.
     ///
     /// # Errors
     ///
-    /// Returns `NoColumn` if the header lacks a name, `RepeatedColumn` if it has one more than once, and `NoMemory` if a request for
-    /// memory was refused.
-    pub fn check_key(&self, alloc: Global, key: &Cells) -> Result<(), Reason> {
+    /// Returns `NoColumn` if the header lacks a name, or its column goes, `RepeatedColumn` if it has one more than once, and `NoMemory` if
+    /// a request for memory was refused.
+    pub fn check_key(&self, alloc: Global, key: &Cells) -> Result<(), Reason>
+        ensures known { OnOk result (list_all
+            (is_one_column self.now.spelling.spelled self.now.names self.now.gone) key.now ≡ true) }
+        ensures why { IfErr result
+            (ExplainsKey self.now.spelling.spelled self.now.names self.now.gone key.now) }
+    {
         for name in key {
-            if self.repeated.has(name) {
-                return Err(Reason::RepeatedColumn {
-                    line: self.line,
-                    name: Vec::from_slice(alloc, name)?,
-                });
-            }
-            let goes = place_of(&self.gone, name).is_some();
-            if !self.names.is_empty() && (goes || !self.found.has(name)) {
-                return Err(Reason::NoColumn {
-                    line: self.line,
-                    name: Vec::from_slice(alloc, name)?,
-                    header: self.names.clone()?,
-                });
-            }
+            self.check_name(alloc, name)?;
+        }
+        Ok(())
+    }
+
+    // Tells the same of one name.
+    fn check_name(&self, alloc: Global, name: &[u8]) -> Result<(), Reason>
+        ensures known { OnOk result
+            (is_one_column self.now.spelling.spelled self.now.names self.now.gone name.now ≡ true) }
+        ensures why { IfErr result
+            (ExplainsName self.now.spelling.spelled self.now.names self.now.gone name.now) }
+    {
+        if self.repeated.has(name) {
+            return Err(Reason::RepeatedColumn {
+                line: self.line,
+                name: Vec::from_slice(alloc, name)?,
+            });
+        }
+        if self.lacks(name) {
+            return Err(Reason::NoColumn {
+                line: self.line,
+                name: Vec::from_slice(alloc, name)?,
+                header: self.names.clone()?,
+            });
+        }
+        Ok(())
+    }
+
+    // Whether there are columns, and none of this name that stays.
+    fn lacks(&self, name: &[u8]) -> bool
+        ensures { result ≡ lacks self.now.names self.now.gone name.now }
+    {
+        !self.names.is_empty() && (has_name(&self.gone, name) || !self.found.has(name))
+    }
+}
+
+// The names that the header has, each once, to be found, and those that stand there more than once.
+#[derive(Drop)]
+struct There {
+    each: Names,
+    repeated: Names,
+}
+
+impl There {
+    // No name.
+    fn new(alloc: Global) -> Self
+        ensures { TellsNames [] result }
+    {
+        There {
+            each: Names::new(alloc),
+            repeated: Names::new(alloc),
+        }
+    }
+
+    // The names that a record has after the cells that stand before them.
+    fn of_record(alloc: Global, row: &ByteRecord, before: usize) -> Result<Self, AllocError>
+        ensures { IfOk result (TellsNames (names_behind before (fields_of row.now))) }
+    {
+        let mut there = There::new(alloc);
+        for place in before..row.len() {
+            there.put(alloc, fate_of(before, cell_of(row, place)).1)?;
+        }
+        Ok(there)
+    }
+
+    // Puts the name that stands next.
+    fn put(&mut self, alloc: Global, name: &[u8]) -> Result<(), AllocError>
+        ensures { OnOk result (PutsName self.old self.new name.now) }
+    {
+        if !self.each.add(alloc, name)? {
+            self.repeated.add(alloc, name)?;
         }
         Ok(())
     }
@@ -194,8 +264,6 @@ impl Header {
 #[derive(Drop)]
 struct Told {
     found: Names,
-    // Those that stand there more than once.
-    repeated: Names,
     // Those of columns that go, and of those that come.
     gone: Cells,
     came: Cells,
@@ -210,7 +278,6 @@ impl Told {
     {
         Told {
             found: Names::new(alloc),
-            repeated: Names::new(alloc),
             gone: Cells::new(alloc),
             came: Cells::new(alloc),
         }
@@ -232,7 +299,6 @@ impl Told {
         if self.found.add(alloc, name)? {
             return Ok(1);
         }
-        self.repeated.add(alloc, name)?;
         let mut number = last.saturating_add(1);
         let mut told = numbered(alloc, name, number)?;
         // As many names as there are may be taken.
@@ -261,8 +327,15 @@ impl Told {
         Ok(())
     }
 
-    // The header on a line with these names, which it spells so.
-    fn into_header(self, alloc: Global, spelled: Cells, line: u64) -> Result<Header, AllocError>
+    // The header on a line with these names, which it spells so, some of them more than once.
+    fn into_header(
+        self,
+        alloc: Global,
+        spelled: Cells,
+        repeated: Names,
+        line: u64,
+    ) -> Result<Header, AllocError>
+        requires { AreRepeated spelled (names_in repeated) }
         ensures names { IfOk result (λ header. header.names ≡ names_in self.found) }
         ensures spelled_names { IfOk result (λ header. header.spelling.names ≡ header.names) }
         ensures spelled { IfOk result (λ header. header.spelling.spelled ≡ spelled) }
@@ -278,7 +351,7 @@ impl Told {
             found: self.found,
             gone: self.gone,
             came: self.came,
-            repeated: self.repeated,
+            repeated,
             line,
         })
     }
@@ -293,15 +366,6 @@ fn spelled_names(alloc: Global, record: &ByteRecord, before: usize) -> Result<Ce
         names.push(fate_of(before, cell_of(record, place)).1)?;
     }
     Ok(names)
-}
-
-// The same, each once, to be found.
-fn names_there(alloc: Global, record: &ByteRecord, before: usize) -> Result<Names, AllocError> {
-    let mut there = Names::new(alloc);
-    for cell in record.iter().skip(before) {
-        there.add(alloc, fate_of(before, cell).1)?;
-    }
-    Ok(there)
 }
 
 // The cell of a row at a place, or an empty one after the last.
@@ -329,7 +393,9 @@ fn note_number(numbers: &mut [usize], place: Option<usize>, number: usize) {
 }
 
 // The first of the names of those columns of a key that have two.
-fn renamed_of(alloc: Global, key: &KeyNames) -> Result<Cells, AllocError> {
+fn renamed_of(alloc: Global, key: &KeyNames) -> Result<Cells, AllocError>
+    ensures { IfOk result (λ names. names ≡ with_two_names key.now.first key.now.others) }
+{
     let mut names = Cells::new(alloc);
     for (first, other) in key.first.iter().zip(key.others.iter()) {
         if first != other {

@@ -1,9 +1,10 @@
 //! The names of the columns that are the key, as they are given.
-ghost use Rattle.std.specs.Prelude.{◌≡◌, ◌==◌, ◌++◌, ◌∷◌, [], IfOk, OnOk, false, option_and_then};
+ghost use Rattle.std.specs.Prelude.{◌≡◌, ◌==◌, ◌++◌, ◌∷◌, [], IfErr, IfOk, OnOk, false, option_and_then};
 ghost use Rattle.std.specs.Prelude.{option_map, slice_get};
 ghost use Rattle.std.specs.Prelude.{true};
 ghost use Rattle.csv.specs.Records.{fields_of};
 ghost use Rattle.keyed_text.specs.Streams.{GivesRow};
+ghost use Rattle.keyed_faults.specs.Outside.{IsApart};
 ghost use Rattle.keyed_columns.specs.KeyText.{AreNamesIn, AreNamesOf, EndsNames, GivesNames, HasNames};
 ghost use Rattle.keyed_columns.specs.KeyText.{ReadsByte};
 ghost use Rattle.keyed_columns.specs.KeyText.{begins_well, doubled, other_in, read_of, text_left};
@@ -82,7 +83,8 @@ impl KeyNames {
 /// assert!(rt; names.first.get(1) == Some(b"year") && names.others.get(1) == Some(b"year"));
 /// ```
 pub fn key_names(alloc: Global, text: &str) -> Result<KeyNames, Reason>
-    ensures { IfOk result (λ names. AreNamesIn text.now names.first names.others) }
+    ensures names { IfOk result (λ names. AreNamesIn text.now names.first names.others) }
+    ensures why { IfErr result IsApart }
 {
     if text.is_empty() {
         let names = no_name(alloc)?;
@@ -114,19 +116,23 @@ pub(crate) fn read_key(
     rows: &mut RowReader<Strict<&[u8]>>,
     row: &mut ByteRecord,
 ) -> Result<bool, Reason>
-    ensures { IfOk result (λ found. GivesRow text_left rows.old rows.new found (fields_of row.new)) }
+    ensures found { IfOk result (λ found. GivesRow text_left rows.old rows.new found (fields_of row.new)) }
+    ensures why { IfErr result IsApart }
 {
     let outcome = rows.read_row(row);
     if rows.get_ref().quote_fault().is_some() {
         return Err(Reason::KeyNoRecord);
     }
-    let found = outcome?;
-    Ok(found)
+    match outcome {
+        Ok(found) => Ok(found),
+        Err(error) => Err(Reason::of_reading(error)),
+    }
 }
 
 // The names that the cells of a record give, no two of which are the same in one table.
 fn names_of(alloc: Global, row: &ByteRecord) -> Result<KeyNames, Reason>
-    ensures { IfOk result (λ names. AreNamesOf (fields_of row.now) names.first names.others) }
+    ensures names { IfOk result (λ names. AreNamesOf (fields_of row.now) names.first names.others) }
+    ensures why { IfErr result IsApart }
 {
     let mut first = NewNames::new(alloc);
     let mut others = NewNames::new(alloc);
@@ -162,6 +168,7 @@ impl NewNames {
     pub(crate) fn put(&mut self, alloc: Global, name: &[u8]) -> Result<(), Reason>
         ensures once { OnOk result (HasOnce self.old → HasOnce self.new) }
         ensures names { OnOk result (self.new.names ≡ self.old.names ++ name.now ∷ []) }
+        ensures why { IfErr result IsApart }
     {
         if !self.seen.add(alloc, name)? {
             return Err(Reason::RepeatedName(Vec::from_slice(alloc, name)?));
@@ -266,7 +273,8 @@ impl TwoNames {
 
 // The names that a cell gives, with one `=` between them. Two are one of a name.
 pub(crate) fn names_of_cell(alloc: Global, cell: &[u8]) -> Result<TwoNames, Reason>
-    ensures { IfOk result (λ names. GivesNames cell.now (names.first.items, other_in names)) }
+    ensures names { IfOk result (λ names. GivesNames cell.now (names.first.items, other_in names)) }
+    ensures why { IfErr result IsApart }
 {
     let mut names = TwoNames::new(alloc);
     for byte in cell {

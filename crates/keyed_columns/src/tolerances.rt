@@ -1,5 +1,6 @@
 //! How far apart numbers may be that count as the same, as it is given: for all columns, and for some by their names.
-ghost use Rattle.std.specs.Prelude.{◌≡◌, IfOk, None, length, replicate};
+ghost use Rattle.std.specs.Prelude.{◌≡◌, IfErr, IfOk, None, length, replicate};
+ghost use Rattle.keyed_faults.specs.Outside.{IsApart};
 ghost use Rattle.keyed_columns.specs.Alikes.{ComparesAsTheyStand, alike_with, as_they_stand};
 
 use crate::columns::{Columns, has_name, place_of};
@@ -37,7 +38,8 @@ impl<'a> Tolerances<'a> {
     /// twice, `NoTolerance` if what is given is no number of 0 or more, a second one for all columns, or has more than one `=`, and
     /// `NoMemory` if a request for memory was refused.
     pub fn new(alloc: Global, sameness: Option<Sameness<'a>>) -> Result<Self, Reason>
-        ensures { IfOk result (λ tolerances. sameness.entry ≡ None → ComparesAsTheyStand tolerances) }
+        ensures plain { IfOk result (λ tolerances. sameness.entry ≡ None → ComparesAsTheyStand tolerances) }
+        ensures why { IfErr result IsApart }
     {
         match sameness {
             Some(sameness) => Tolerances::given(alloc, sameness),
@@ -46,7 +48,9 @@ impl<'a> Tolerances<'a> {
     }
 
     // Those of cells that are compared so.
-    fn given(alloc: Global, sameness: Sameness<'a>) -> Result<Self, Reason> {
+    fn given(alloc: Global, sameness: Sameness<'a>) -> Result<Self, Reason>
+        ensures why { IfErr result IsApart }
+    {
         let mut tolerances = Tolerances::unread(alloc, sameness);
         if let Some(text) = sameness.tolerance {
             tolerances.read(alloc, text)?;
@@ -67,7 +71,9 @@ impl<'a> Tolerances<'a> {
     }
 
     // Reads them from a text.
-    fn read(&mut self, alloc: Global, text: &str) -> Result<(), Reason> {
+    fn read(&mut self, alloc: Global, text: &str) -> Result<(), Reason>
+        ensures why { IfErr result IsApart }
+    {
         if text.is_empty() {
             return Err(wrong(alloc, b"", NO_NUMBER)?);
         }
@@ -87,7 +93,9 @@ impl<'a> Tolerances<'a> {
     }
 
     // Puts what a cell gives after the others.
-    fn put(&mut self, alloc: Global, cell: &[u8]) -> Result<(), Reason> {
+    fn put(&mut self, alloc: Global, cell: &[u8]) -> Result<(), Reason>
+        ensures why { IfErr result IsApart }
+    {
         let given = match names_of_cell(alloc, cell) {
             Ok(given) => given,
             Err(reason) => return Err(told(alloc, cell, reason)?),
@@ -106,7 +114,9 @@ impl<'a> Tolerances<'a> {
         cell: &[u8],
         name: &[u8],
         number: &[u8],
-    ) -> Result<(), Reason> {
+    ) -> Result<(), Reason>
+        ensures why { IfErr result IsApart }
+    {
         if let Some(why) = wrong_with(number) {
             return Err(wrong(alloc, cell, why)?);
         }
@@ -119,7 +129,9 @@ impl<'a> Tolerances<'a> {
     }
 
     // Puts the number of all columns that are not named.
-    fn put_all(&mut self, alloc: Global, number: &[u8]) -> Result<(), Reason> {
+    fn put_all(&mut self, alloc: Global, number: &[u8]) -> Result<(), Reason>
+        ensures why { IfErr result IsApart }
+    {
         if let Some(why) = wrong_with(number) {
             return Err(wrong(alloc, number, why)?);
         }
@@ -136,7 +148,9 @@ impl<'a> Tolerances<'a> {
     ///
     /// Returns `NeitherHas` if it is none of the columns, `ToleranceOfKey` if it is one of the key, and `NoMemory` if a request for memory
     /// was refused.
-    pub fn check_known(&self, alloc: Global, columns: &Columns) -> Result<(), Reason> {
+    pub fn check_known(&self, alloc: Global, columns: &Columns) -> Result<(), Reason>
+        ensures why { IfErr result IsApart }
+    {
         for name in &self.names {
             if has_name(&columns.key, name) {
                 return Err(Reason::ToleranceOfKey(Vec::from_slice(alloc, name)?));
@@ -232,7 +246,10 @@ fn has_long_power(number: &[u8]) -> bool {
 }
 
 // What is told where a cell is no name with a number: more than one `=` is told with the remedy.
-fn told(alloc: Global, cell: &[u8], reason: Reason) -> Result<Reason, AllocError> {
+fn told(alloc: Global, cell: &[u8], reason: Reason) -> Result<Reason, AllocError>
+    requires { IsApart reason }
+    ensures { IfOk result IsApart }
+{
     if is_of_names(&reason) {
         wrong(alloc, cell, MORE)
     } else {
@@ -247,7 +264,9 @@ fn is_of_names(reason: &Reason) -> bool {
     }
 }
 
-fn wrong(alloc: Global, given: &[u8], why: &'static str) -> Result<Reason, AllocError> {
+fn wrong(alloc: Global, given: &[u8], why: &'static str) -> Result<Reason, AllocError>
+    ensures { IfOk result IsApart }
+{
     Ok(Reason::NoTolerance {
         given: Vec::from_slice(alloc, given)?,
         wrong: why,

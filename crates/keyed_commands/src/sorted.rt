@@ -406,8 +406,9 @@ fn write_tables<'a, R: Read + Drop, W: Write>(
 ) -> Result<Finished, Fault<'a>>
     ensures whole { IfOk result (λ finished. IsByKey work.old → WritesTables R.remaining work.old tables.entry
         (W.contents output.old) (W.contents output.new) finished.status) }
-    ensures begun { IfErr result (λ fault. IsByKey work.old → PutsBeginning (SaysFirst R.remaining work.old tables.entry)
-        fault.file.now (W.contents output.old) (W.contents output.new)) }
+    ensures begun { IfErr result (λ fault. IsByKey work.old
+        → PutsBeginning (SaysFirst R.remaining work.old tables.entry) fault.file.now (W.contents output.old)
+        (W.contents output.new)) }
 {
     let (left_columns, right_columns) = work.columns();
     let left = Parts::new(alloc, tables.first, left_columns)?;
@@ -423,11 +424,11 @@ fn write_parts<'a, R: Read + Drop, W: Write>(
     tables: &mut TwoParts<'a, R>,
     output: &mut W,
 ) -> Result<Finished, Fault<'a>>
-    ensures whole { IfOk result (λ finished. IsByKey work.old → IsFresh tables.old.left → IsFresh tables.old.right
-        → WritesAll R.remaining work.old tables.old
+    ensures whole { IfOk result (λ finished. IsByKey work.old → IsFresh tables.old.left
+        → IsFresh tables.old.right → WritesAll R.remaining work.old tables.old
         (W.contents output.old) (W.contents output.new) finished.status) }
-    ensures begun { IfErr result (λ fault. IsByKey work.old → IsFresh tables.old.left → IsFresh tables.old.right
-        → PutsBeginning (SaysTaken R.remaining work.old tables.old) fault.file.now
+    ensures begun { IfErr result (λ fault. IsByKey work.old → IsFresh tables.old.left
+        → IsFresh tables.old.right → PutsBeginning (SaysTaken R.remaining work.old tables.old) fault.file.now
         (W.contents output.old) (W.contents output.new)) }
 {
     let first = write_part(alloc, work, tables, output)?;

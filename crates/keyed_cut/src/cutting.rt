@@ -152,8 +152,9 @@ fn partition_rows<'a, F: Read + Drop, W: Write + Drop>(
 ) -> Result<(), CutFault<'a>>
     requires many { length bounds.now.keys.items < length sinks.old.writers.items }
     requires counts { AreCounted key_cmp bounds.now.keys.items [] sinks.old.counts }
-    ensures partitioned { OnOk result (PartitionsRest F.remaining W.contents bounds.now.keys.items table.old.places
-        sinks.old.columns table.old.opened.source.value sinks.old.writers.items sinks.new.writers.items) }
+    ensures partitioned { OnOk result (PartitionsRest F.remaining W.contents bounds.now.keys.items
+        table.old.places sinks.old.columns table.old.opened.source.value sinks.old.writers.items
+        sinks.new.writers.items) }
     ensures counted { OnOk result (CountsRest F.remaining bounds.now.keys.items table.old sinks.new.counts) }
 {
     for _ in 0..u64::MAX {

@@ -1,7 +1,8 @@
 //! What can be wrong with an input, and the line that says so.
-ghost use Rattle.std.specs.Prelude.{◌≡◌, IfOk, Ok};
-ghost use Rattle.keyed_faults.specs.Outside.{IsOutside};
-ghost use Rattle.keyed_faults.specs.declared.fault.Reason.TheVariants.{NoMemory};
+ghost use Rattle.std.specs.Prelude.{◌≡◌, Err, IfErr, IfOk, Ok};
+ghost use Rattle.keyed_faults.specs.Outside.{IsApart, IsOutside};
+ghost use Rattle.keyed_faults.specs.Outside.{reason_of};
+ghost use Rattle.keyed_faults.specs.declared.fault.Reason.TheVariants.{Io, NoMemory};
 
 use crate::encoding::Encoding;
 use crate::shown::{Shown, ShownInList, ShownName};
@@ -103,6 +104,8 @@ impl<T: Drop> From<AllocFailed<T>> for Reason {
 }
 
 impl From<UniqueError> for Reason {
+    ghost from_gives = { λ error reason. reason ≡ reason_of error };
+
     fn from(error: UniqueError) -> Self {
         match error {
             UniqueError::NoMemory => Reason::NoMemory,
@@ -112,6 +115,8 @@ impl From<UniqueError> for Reason {
 }
 
 impl From<io::Error> for Reason {
+    ghost from_gives = { λ error reason. reason ≡ Io error };
+
     fn from(error: io::Error) -> Self {
         Reason::Io(error)
     }
@@ -141,7 +146,8 @@ impl From<csv::Error> for Reason {
 impl Reason {
     /// Why a row is not read, by the error of the reader of CSV: an error of the file, or else want of memory. A row of any length is read.
     pub fn of_reading(error: csv::Error) -> Self
-        ensures { IsOutside result }
+        ensures outside { IsOutside result }
+        ensures apart { IsApart result }
     {
         match error.into_kind() {
             csv::ErrorKind::Io(error) => Reason::Io(error),
@@ -168,7 +174,10 @@ impl Fault<'_> {
 pub fn at<'a, T: Drop, E: Drop>(file: &'a str, outcome: Result<T, E>) -> Result<T, Fault<'a>>
 where
     Reason: From<E>,
-    ensures { IfOk result (λ value. outcome ≡ Ok value) }
+    ensures value { IfOk result (λ value. outcome ≡ Ok value) }
+    ensures file { IfErr result (λ fault. fault.file ≡ file.entry) }
+    ensures why { IfErr result (λ fault.
+        (error : E) × (outcome ≡ Err error) × ⟦<Reason as From<E>>⟧.from_gives error fault.reason) }
 {
     match outcome {
         Ok(value) => Ok(value),

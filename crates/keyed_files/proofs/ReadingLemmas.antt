@@ -1,6 +1,6 @@
 -- What a source has given of a text, from its lines to its records.
 use Rattle.std.proofs.Common.{◌≡◌, ◌∙◌, ◌==◌, ℕ, List, [], ◌∷◌, ◌++◌, Option, Some, None, Bool, true, false, refl, sym, ap, subst, inl, inr, if◌then◌else◌}
-use Rattle.std.specs.Prelude.{◌&&◌, IfSome, is_none, option_map}
+use Rattle.std.specs.Prelude.{◌&&◌, Err, IfErr, IfSome, IsErrAnd, Ok, Result, is_none, option_map}
 use Rattle.std.specs.Io.KnownBytes.{Keeps}
 use Rattle.std.proofs.KnownBytes.{prepend_known-nil}
 use Rattle.std.proofs.lemmas.Bool.{cases_Bool, eqb-true}
@@ -21,12 +21,12 @@ use Rattle.keyed_requests.specs.declared.request.Quotes.{Quotes}
 use Rattle.keyed_requests.specs.declared.request.Quotes.TheVariants as quotes
 use Rattle.keyed_requests.specs.declared.request.Reading.{Reading}
 use Rattle.keyed_columns.specs.Going.{GoneSaid}
-use Rattle.keyed_columns.specs.Headers.{HeaderOf, NamesOf}
-use Rattle.keyed_columns.specs.Spelled.{SpelledBy, SpelledFirst}
+use Rattle.keyed_columns.specs.Headers.{HeaderOf}
+use Rattle.keyed_columns.specs.Spelled.{SpelledFirst}
 use Rattle.keyed_columns.specs.declared.content.Content.{Content}
 use Rattle.keyed_files.specs.Gone.{KnowsGone}
 use Rattle.keyed_files.specs.Lines.{Begins, checked_left, lines_left, where_strict}
-use Rattle.keyed_files.specs.Reading.{GivesRecord, HasGiven, HasGivenIn, HeadedBy, IsHeader, IsOpen, next_of, text_lined, text_read}
+use Rattle.keyed_files.specs.Reading.{GivesRecord, HasGivenIn, HeadedBy, IsOpen, next_of, text_lined, text_read}
 use Rattle.keyed_files.specs.declared.by_line.ByLine.{ByLine}
 use Rattle.keyed_files.specs.declared.checked.Checked.{Checked}
 use Rattle.keyed_files.specs.declared.source.Next.TheVariants as next
@@ -170,3 +170,13 @@ pub gone-known : {R : Type 0} (rem : R → Option (List ℕ)) (form : Form) (kno
 gone-known rem form None old source made same begun has_first reads is said = tt
 gone-known rem form (Some text) old source made same begun has_first reads is said =
     rw same (gone-if rem form text old made begun form.has_header has_first refl reads is said)
+
+-- what holds of each error holds of one that is there
+pub if-err : {T E : Type 0} (result : Result T E) (P : E → Type 0) → ((error : E) → P error) → IfErr result P
+if-err (Ok value) P holds = tt
+if-err (Err error) P holds = holds error
+
+-- what holds of an error holds of the same one where it is returned
+pub same-err : {T E : Type 0} (result : Result T E) (error : E) (P : E → Type 0) → IsErrAnd result (λ told. told ≡ error) → P error → IfErr result P
+same-err (Ok value) error P same holds = tt
+same-err (Err told) error P same holds = subst P (sym same) holds

@@ -4,11 +4,10 @@ use Rattle.std.specs.Prelude.{Bool, None}
 use Rattle.std.specs.List.{flat_map}
 use Rattle.std.proofs.lemmas.Grind.{flat_map-append}
 use Rattle.std.proofs.lemmas.List.{append-nil, map-append}
-use Rattle.keyed_text.specs.Spelling.{blank_lines, body_as, cell_as, cells_as, first_quoted, row_as, row_end, rows_spelled, shown_body}
+use Rattle.keyed_text.specs.Spelling.{blank_lines, body_as, cell_as, cells_as, first_quoted, row_as, row_end, shown_body}
 use Rattle.keyed_text.specs.Texts.{terminator_of}
 use Rattle.csv.specs.Writing.{end_text}
 use Rattle.keyed_text.specs.declared.spelling.RowSpelling.{RowSpelling}
-use Rattle.keyed_text.specs.declared.style.LineEnd.{LineEnd}
 use Rattle.keyed_columns.specs.Placed.{cell_placed, placed, rest_behind}
 use Rattle.keyed_columns.proofs.PlacedLemmas.{placed-next, placed-none}
 use Rattle.keyed_columns.specs.declared.columns.Place.{Place}

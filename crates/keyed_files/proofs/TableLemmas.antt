@@ -8,14 +8,14 @@ use Rattle.keyed_text.proofs.TextLemmas.{rows-once}
 use Rattle.keyed_requests.specs.FormBytes.{comment_of, delimiter_of}
 use Rattle.keyed_requests.specs.declared.request.Form.{Form}
 use Rattle.keyed_requests.specs.declared.request.Settings.{Settings}
-use Rattle.keyed_columns.specs.Headers.{NamesOf, place_under}
+use Rattle.keyed_columns.specs.Headers.{place_under}
 use Rattle.keyed_columns.specs.CellsUnder.{cell_at, row_under}
 use Rattle.keyed_columns.specs.Spelled.{SpelledBy}
 use Rattle.keyed_columns.specs.declared.columns.Columns.{Columns}
 use Rattle.keyed_columns.specs.declared.content.Content.{Content}
 use Rattle.keyed_files.specs.Opening.{IsNamedAnew, IsRenamed}
 use Rattle.keyed_files.specs.CellPlaces.{ArePlaces}
-use Rattle.keyed_files.specs.Reading.{GivesRecord, HasGiven, IsHeader, IsOpen, IsPicked, IsTable, PlacesOf, ReadBehind, ReadsOn, ReadsRest, ReadsRows, behind_header, last_record, parts_of, picked}
+use Rattle.keyed_files.specs.Reading.{GivesRecord, HasGiven, IsHeader, IsOpen, IsPicked, IsTable, PlacesOf, ReadBehind, ReadsOn, ReadsRest, ReadsRows, last_record, parts_of, picked}
 use Rattle.keyed_files.specs.declared.source.Places.{Places}
 use Rattle.keyed_files.specs.declared.source.Source.{Source}
 

@@ -1,6 +1,9 @@
 //! Files whose headers are read.
-ghost use Rattle.std.specs.Prelude.{◌≡◌, IfOk, Ok, OnOk};
+ghost use Rattle.std.specs.Prelude.{◌≡◌, IfErr, IfOk, Ok, OnOk};
+ghost use Rattle.keyed_faults.specs.Outside.{IsApart};
 ghost use Rattle.keyed_columns.specs.ChangedColumns.{marked_names};
+ghost use Rattle.keyed_files.specs.Explained.{ExplainsBoth, ExplainsNamingAnew, ExplainsNewNames};
+ghost use Rattle.keyed_files.specs.Explained.{ExplainsOpening};
 ghost use Rattle.keyed_files.specs.Gone.{IsGoneRead, IsTurned};
 ghost use Rattle.keyed_columns.specs.Keys.{AreChangeColumns, AreChangedColumnsBy, AreColumnsBy, AreJoinColumns};
 ghost use Rattle.keyed_columns.specs.Names.{compared};
@@ -51,7 +54,10 @@ impl<'a, R> Opened<'a, R> {
     ///
     /// Returns as a fault of the file the errors of `rename_key`.
     pub fn rename(&mut self, alloc: Global, settings: Settings<'_>) -> Result<(), Fault<'a>>
-        ensures { OnOk result (IsNamedAnew settings.entry self.old.source.value self.new.source.value) }
+        ensures named { OnOk result (IsNamedAnew settings.entry self.old.source.value self.new.source.value) }
+        ensures file { IfErr result (λ fault. fault.file ≡ self.old.file) }
+        ensures why { IfErr result
+            (λ fault. ExplainsNamingAnew settings.entry self.old.source.value fault.reason) }
     {
         self.rename_key(alloc, settings.key)?;
         self.rename_key(alloc, settings.renames)?;
@@ -65,7 +71,11 @@ impl<'a, R> Opened<'a, R> {
     /// Returns as a fault of the file the errors of `key_names`; `NoColumn` if the header lacks a column that gets another name,
     /// `RepeatedColumn` if it has one more than once, and `NamedTwice` if another column has the name.
     pub fn rename_key(&mut self, alloc: Global, key: Option<&str>) -> Result<(), Fault<'a>>
-        ensures { OnOk result (IsRenamed key.entry self.old.source.value self.new.source.value) }
+        ensures renamed { OnOk result (IsRenamed key.entry self.old.source.value self.new.source.value) }
+        ensures same { self.new ≡ record self.old { source = self.new.source } }
+        ensures file { IfErr result (λ fault. fault.file ≡ self.old.file) }
+        ensures why { IfErr result
+            (λ fault. ExplainsNewNames key.entry self.old.source.value fault.reason) }
     {
         match key {
             Some(text) => {
@@ -104,6 +114,8 @@ impl<'a, R: Read + Drop> Opened<'a, R> {
     ) -> Result<Self, Fault<'a>>
         ensures opened { IfOk result (IsOpened R.remaining form content stream.entry) }
         ensures gone { IfOk result (IsGoneRead R.remaining form content stream.entry) }
+        ensures file { IfErr result (λ fault. fault.file ≡ stream.entry.file) }
+        ensures why { IfErr result (λ fault. ExplainsOpening stream.entry.reader fault.reason) }
     {
         let file = stream.file;
         let form = Form {
@@ -130,7 +142,9 @@ impl<'a, R> Two<'a, R> {
     ///
     /// Returns the errors of `columns_of`, as a fault of the first file.
     pub fn columns(&self, alloc: Global, key: Option<&str>) -> Result<Columns, Fault<'a>>
-        ensures { IfOk result (AreColumnsBy key.entry (headers_of self.now) (headers_of self.now)) }
+        ensures columns { IfOk result (AreColumnsBy key.entry (headers_of self.now) (headers_of self.now)) }
+        ensures file { IfErr result (λ fault. fault.file ≡ self.now.first.file) }
+        ensures why { IfErr result (λ fault. IsApart fault.reason) }
     {
         let headers = [self.first.header(), self.next.header()];
         at(self.first.file, columns_of(alloc, key, &headers))
@@ -142,7 +156,10 @@ impl<'a, R> Two<'a, R> {
     ///
     /// Returns the errors of `columns_of`, as a fault of the first file.
     pub fn change_columns(&self, alloc: Global, key: Option<&str>) -> Result<Columns, Fault<'a>>
-        ensures { IfOk result (AreChangeColumns key.entry (first_header self.now) (next_header self.now)) }
+        ensures columns { IfOk result
+            (AreChangeColumns key.entry (first_header self.now) (next_header self.now)) }
+        ensures file { IfErr result (λ fault. fault.file ≡ self.now.first.file) }
+        ensures why { IfErr result (λ fault. IsApart fault.reason) }
     {
         let key = self.columns(alloc, key)?.key;
         let headers = [self.next.header(), self.first.header()];
@@ -155,8 +172,10 @@ impl<'a, R> Two<'a, R> {
     ///
     /// Returns want of memory, as a fault of the next file.
     pub fn marked_names(&self, alloc: Global) -> Result<Cells, Fault<'a>>
-        ensures { IfOk result
+        ensures marked { IfOk result
             (λ marked. marked ≡ marked_names (first_header self.now) (next_header self.now)) }
+        ensures file { IfErr result (λ fault. fault.file ≡ self.now.next.file) }
+        ensures why { IfErr result (λ fault. IsApart fault.reason) }
     {
         let marked = marked_names(alloc, self.first.header(), self.next.header());
         at(self.next.file, marked)
@@ -173,6 +192,8 @@ impl<'a, R> Two<'a, R> {
             (next_header self.now) self.now.next.source.value.header.gone) }
         ensures spelled { IfOk result (IsSpelledAs self.now.first.source.value.header.spelling.names
             self.now.first.source.value.header.spelling.spelled) }
+        ensures file { IfErr result (λ fault. fault.file ≡ self.now.first.file) }
+        ensures why { IfErr result (λ fault. IsApart fault.reason) }
     {
         let key = self.columns(alloc, key)?.key;
         let (old, changes) = (self.first.header(), self.next.header());
@@ -188,7 +209,10 @@ impl<'a, R> Two<'a, R> {
     ///
     /// Returns the errors of `join_columns`, as a fault of the first file.
     pub fn join_columns(&self, alloc: Global, key: Option<&str>) -> Result<JoinColumns, Fault<'a>>
-        ensures { IfOk result (AreJoinColumns key.entry (first_header self.now) (next_header self.now)) }
+        ensures columns { IfOk result
+            (AreJoinColumns key.entry (first_header self.now) (next_header self.now)) }
+        ensures file { IfErr result (λ fault. fault.file ≡ self.now.first.file) }
+        ensures why { IfErr result (λ fault. IsApart fault.reason) }
     {
         let columns = join_columns(alloc, key, self.first.header(), self.next.header());
         at(self.first.file, columns)
@@ -219,6 +243,7 @@ impl<'a, R: Read + Drop> Two<'a, R> {
         ensures first { IfOk result (λ two. IsOpened R.remaining form Rows first.entry two.first) }
         ensures next { IfOk result (λ two. IsOpened R.remaining form content next.entry two.next) }
         ensures gone { IfOk result (λ two. IsGoneRead R.remaining form content next.entry two.next) }
+        ensures why { IfErr result (ExplainsBoth first.entry next.entry) }
     {
         let first = Opened::new(alloc, form, Content::Rows, first)?;
         let next = Opened::new(alloc, form, content, next)?;

@@ -1,20 +1,20 @@
 //! A file read row by row: the header first, and then the rows under the columns that are wanted.
-ghost use Rattle.std.specs.Prelude.{◌≡◌, ◌≢◌, ◌≤◌, ◌∷◌, [], ℕ, IfErr, IfOk, IfSome, IsNone, MatchBool};
-ghost use Rattle.std.specs.Prelude.{OnOk, Some, is_some, map};
+ghost use Rattle.std.specs.Prelude.{◌≡◌, ◌≢◌, ◌≤◌, [], ℕ, IfErr, IfOk, IfSome, IsNone, MatchBool};
+ghost use Rattle.std.specs.Prelude.{OnOk, Some, is_some, map, true};
 ghost use Rattle.std.specs.Io.KnownBytes.{Keeps};
 ghost use Rattle.csv.specs.Records.{field_at, fields_of};
 ghost use Rattle.keyed_text.specs.Streams.{GivesRow, HasRead};
-ghost use Rattle.keyed_faults.specs.Outside.{IsOutside};
-ghost use Rattle.keyed_faults.specs.declared.fault.Reason.TheVariants.{NoSign};
+ghost use Rattle.keyed_faults.specs.Outside.{IsApart, IsOutside};
 ghost use Rattle.keyed_requests.specs.FormBytes.{comment_of, delimiter_of};
 ghost use Rattle.keyed_columns.specs.Going.{GoneSaid};
 ghost use Rattle.keyed_columns.specs.Headers.{HeaderOf, cells_before, place_under};
+ghost use Rattle.keyed_columns.specs.KeyColumns.{ExplainsKey, ExplainsRenaming};
 ghost use Rattle.keyed_columns.specs.Names.{renamed};
 ghost use Rattle.keyed_columns.specs.CellsUnder.{cell_at};
 ghost use Rattle.keyed_columns.specs.Spelled.{SpelledFirst};
 ghost use Rattle.keyed_columns.specs.declared.content.Content.TheVariants.{Changes};
-ghost use Rattle.keyed_files.specs.Explained.{BreaksCount, ExplainsRow, ExplainsSigned, FitsCount};
-ghost use Rattle.keyed_files.specs.Explained.{IsWrongCount};
+ghost use Rattle.keyed_files.specs.Explained.{BreaksCount, ExplainsPlaces, ExplainsRow, ExplainsSigned, FitsCount};
+ghost use Rattle.keyed_files.specs.Explained.{CountsBy, IsNoSign, IsOfRow, IsWrongCount, SameCount};
 ghost use Rattle.keyed_files.specs.Gone.{KnowsGone};
 ghost use Rattle.keyed_files.specs.CellPlaces.{ArePlaces};
 ghost use Rattle.keyed_files.specs.Lines.{checked_left, lines_left};
@@ -104,6 +104,8 @@ impl<R> Source<R> {
         ensures names { OnOk result
             (self.new.header.names ≡ map (renamed key.now.first key.now.others) self.old.header.names) }
         ensures spelling { self.new.header.spelling ≡ self.old.header.spelling }
+        ensures why { IfErr result (ExplainsRenaming self.old.header.spelling.spelled self.old.header.names
+            self.old.header.gone key.now) }
     {
         self.header.rename(self.alloc, key)
     }
@@ -122,6 +124,8 @@ impl<R: Read + Drop> Source<R> {
             (λ text. IsOpen form content R.remaining text source.value.header.names source.value)) }
         ensures gone { content ≡ Changes → IfOk result (λ source. IfSome (text_read form (R.remaining reader))
             (λ text. KnowsGone form R.remaining text source.value)) }
+        ensures count { IfOk result (λ source. CountsBy form.reading.lengths source.value) }
+        ensures why { IfErr result IsApart }
     {
         let mut reader = begin_rows(alloc, reader, form)?;
         let mut record = ByteRecord::new(alloc);
@@ -150,7 +154,8 @@ impl<R: Read + Drop> Source<R> {
     /// Returns `NoColumn` if the header lacks a column of the key, `RepeatedColumn` if it has one more than once, and `NoMemory` if a
     /// request for memory was refused.
     pub fn places(&self, columns: &Columns) -> Result<Places, Reason>
-        ensures { IfOk result (PlacesOf self.now columns.now) }
+        ensures places { IfOk result (PlacesOf self.now columns.now) }
+        ensures why { IfErr result (ExplainsPlaces self.now columns.now) }
     {
         Places::new(self.alloc, &self.header, self.content, columns)
     }
@@ -164,8 +169,11 @@ impl<R: Read + Drop> Source<R> {
     pub fn read_row(&mut self, places: &Places) -> Result<Option<ReadRow>, Reason>
         ensures gives { IfOk result (λ row. GivesRecord R.remaining self.old self.new (is_some row)) }
         ensures header { self.new.header ≡ self.old.header }
+        ensures rule { SameCount self.old self.new }
         ensures picked { IfOk result (λ row. IfSome row (IsPicked places.now (last_record self.new))) }
         ensures why { IfErr result (ExplainsRow self.new) }
+        ensures gave { IfErr result
+            (λ reason. IsOfRow reason → GivesRecord R.remaining self.old self.new true) }
     {
         if self.read_record()? {
             let line = self.row_line();
@@ -185,10 +193,14 @@ impl<R: Read + Drop> Source<R> {
     pub fn read_key(&mut self, places: &Places) -> Result<Option<Key>, Reason>
         ensures gives { IfOk result (λ key. GivesRecord R.remaining self.old self.new (is_some key)) }
         ensures header { self.new.header ≡ self.old.header }
+        ensures rule { SameCount self.old self.new }
         ensures key { IfOk result (λ key. IfSome key
             (λ key. key ≡ key_in places.now (last_record self.new))) }
         ensures signed { IfOk result (λ key. IfSome key
             (λ _. HasSign self.new.content (last_record self.new))) }
+        ensures why { IfErr result (ExplainsSigned self.new) }
+        ensures gave { IfErr result
+            (λ reason. IsOfRow reason → GivesRecord R.remaining self.old self.new true) }
     {
         if self.read_record()? {
             let line = self.row_line();
@@ -215,8 +227,11 @@ impl<R: Read + Drop> Source<R> {
     pub fn read_signed(&mut self, places: &Places) -> Result<Option<SignedRow>, Reason>
         ensures gives { IfOk result (λ row. GivesRecord R.remaining self.old self.new (is_some row)) }
         ensures header { self.new.header ≡ self.old.header }
+        ensures rule { SameCount self.old self.new }
         ensures picked { IfOk result (λ row. IfSome row (IsSigned places.now (last_record self.new))) }
         ensures why { IfErr result (ExplainsSigned self.new) }
+        ensures gave { IfErr result
+            (λ reason. IsOfRow reason → GivesRecord R.remaining self.old self.new true) }
     {
         if self.read_record()? {
             let line = self.row_line();
@@ -242,7 +257,10 @@ impl<R: Read + Drop> Source<R> {
     fn read_record(&mut self) -> Result<bool, Reason>
         ensures gives { IfOk result (GivesRecord R.remaining self.old self.new) }
         ensures header { self.new.header ≡ self.old.header }
+        ensures rule { SameCount self.old self.new }
         ensures why { IfErr result (ExplainsRow self.new) }
+        ensures gave { IfErr result
+            (λ reason. IsOfRow reason → GivesRecord R.remaining self.old self.new true) }
     {
         match self.next {
             Next::Kept => {
@@ -259,7 +277,10 @@ impl<R: Read + Drop> Source<R> {
         ensures gives { IfOk result (λ found. self.old.next ≡ Read
             → GivesRecord R.remaining self.old self.new found) }
         ensures header { self.new.header ≡ self.old.header }
+        ensures rule { SameCount self.old self.new }
         ensures why { IfErr result (ExplainsRow self.new) }
+        ensures gave { IfErr result (λ reason. self.old.next ≡ Read → IsOfRow reason
+            → GivesRecord R.remaining self.old self.new true) }
     {
         self.reader.get_ref().lines().begin_row();
         let found = read_record(&mut self.reader, &mut self.last)?;
@@ -359,8 +380,9 @@ fn begin_rows<R: Read + Drop>(
     reader: R,
     form: Form,
 ) -> Result<RowReader<Checked<R>>, Reason>
-    ensures { IfOk result (λ rows. IfSome (text_read form (R.remaining reader))
+    ensures begun { IfOk result (λ rows. IfSome (text_read form (R.remaining reader))
         (λ text. HasRead (delimiter_of form) (comment_of form) (checked_left R.remaining) text [] rows)) }
+    ensures why { IfErr result IsApart }
 {
     let file = begin_lines(alloc, reader, form)?;
     let lines = Checked::new(alloc, file, form)?;
@@ -371,8 +393,9 @@ fn begin_rows<R: Read + Drop>(
 
 // The lines of a file that is text, or is to be read as it is.
 fn begin_lines<R: Read + Drop>(alloc: Global, reader: R, form: Form) -> Result<ByLine<R>, Reason>
-    ensures { IfOk result (λ lines. Keeps (text_lined form (R.remaining reader))
+    ensures keeps { IfOk result (λ lines. Keeps (text_lined form (R.remaining reader))
         (lines_left R.remaining lines)) }
+    ensures why { IfErr result IsApart }
 {
     let mut lines = ByLine::new(alloc, reader, form.reading)?;
     let encoding = lines.begin()?;
@@ -381,7 +404,9 @@ fn begin_lines<R: Read + Drop>(alloc: Global, reader: R, form: Form) -> Result<B
 }
 
 // Tells that a file is no encoding of a text, unless it is to be read as it is.
-fn check_encoding(quotes: Quotes, encoding: Option<Encoding>) -> Result<(), Reason> {
+fn check_encoding(quotes: Quotes, encoding: Option<Encoding>) -> Result<(), Reason>
+    ensures { IfErr result IsApart }
+{
     match quotes {
         Quotes::Strict => match encoding {
             Some(encoding) => Err(Reason::NoText(encoding)),
@@ -412,6 +437,7 @@ fn read_record<R: Read>(
     ensures gives { IfOk result (λ found. GivesRow (checked_left R.remaining) reader.old reader.new
         found (fields_of row.new)) }
     ensures why { IfErr result IsOutside }
+    ensures apart { IfErr result IsApart }
 {
     let outcome = reader.read_row(row);
     let checked = reader.get_ref();
@@ -428,9 +454,7 @@ fn read_record<R: Read>(
 // The sign that the first cell of a record on this line is.
 fn sign_of(line: u64, row: &ByteRecord) -> Result<Sign, Reason>
     ensures sign { IfOk result (λ sign. field_at (fields_of row.now) 0 ≡ Some (shown_sign sign)) }
-    ensures why { IfErr result (λ reason. (reason ≡ NoSign line)
-        × (field_at (fields_of row.now) 0 ≢ Some (45 ∷ []))
-        × (field_at (fields_of row.now) 0 ≢ Some (43 ∷ []))) }
+    ensures why { IfErr result (IsNoSign line (fields_of row.now)) }
 {
     match row.get(0) {
         Some(cell) => match Sign::of_cell(cell) {
@@ -443,7 +467,8 @@ fn sign_of(line: u64, row: &ByteRecord) -> Result<Sign, Reason>
 
 // Tells that the first cell of a record on this line is a sign, where the file has changes.
 fn check_sign(content: Content, line: u64, row: &ByteRecord) -> Result<(), Reason>
-    ensures { OnOk result (HasSign content (fields_of row.now)) }
+    ensures sign { OnOk result (HasSign content (fields_of row.now)) }
+    ensures why { IfErr result (IsNoSign line (fields_of row.now)) }
 {
     match content {
         Content::Rows => Ok(()),
@@ -469,7 +494,9 @@ impl Places {
         content: Content,
         columns: &Columns,
     ) -> Result<Self, Reason>
-        ensures { IfOk result (ArePlaces content header.now.names columns.now) }
+        ensures places { IfOk result (ArePlaces content header.now.names columns.now) }
+        ensures why { IfErr result (ExplainsKey header.now.spelling.spelled header.now.names header.now.gone
+            columns.now.key) }
     {
         header.check_key(alloc, &columns.key)?;
         Ok(Places {

@@ -9,3 +9,4 @@ pub mod RejectedLemmas
 pub mod RowTextLemmas
 pub mod SignedLemmas
 pub mod TurnedLemmas
+pub mod UnreadLemmas

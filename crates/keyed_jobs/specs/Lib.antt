@@ -14,4 +14,5 @@ pub mod Preferred
 pub mod Rejected
 pub mod TablesRead
 pub mod Turned
+pub mod Unread
 pub mod Written

@@ -1,5 +1,5 @@
 //! What the steps of a command share, and how they read tables.
-ghost use Rattle.std.specs.Prelude.{◌≡◌, ◌++◌, ◌∷◌, [], IfOk, None, OnOk, false, is_none, true};
+ghost use Rattle.std.specs.Prelude.{◌≡◌, ◌++◌, ◌∷◌, ◌⊎◌, [], IfErr, IfOk, None, OnOk, false, is_none, true};
 ghost use Rattle.keyed_requests.specs.AnswerForm.{in_style};
 ghost use Rattle.keyed_columns.specs.declared.content.Content.TheVariants as content;
 ghost use Rattle.keyed_files.specs.Reading.{ReadsRest, ReadsRows};
@@ -8,6 +8,9 @@ ghost use Rattle.keyed_jobs.specs.ChangesRead.{PairsRows, PartsChanges, PartsRes
 ghost use Rattle.keyed_jobs.specs.ChangesRead.{come_by, gone_by};
 ghost use Rattle.keyed_jobs.specs.FileOrder.{NotesBoth, NotesRows, OfKeys, begun_keys, noted_with};
 ghost use Rattle.keyed_jobs.specs.FileOrder.{placed_with};
+ghost use Rattle.keyed_files.specs.Explained.{ExplainsRows};
+ghost use Rattle.keyed_jobs.specs.Unread.{ExplainsChanges, ExplainsGathering, ExplainsInputs, ExplainsTable};
+ghost use Rattle.keyed_jobs.specs.Unread.{ExplainsTables, ExplainsUnread};
 ghost use Rattle.keyed_jobs.specs.TablesRead.{Gathers, IsUnordered, ReadsTable};
 
 use crate::row_order::RowOrder;
@@ -145,6 +148,10 @@ impl<'c, C> Job<'c, C> {
         ensures same { self.new ≡ record self.old { order = self.new.order; row_order = self.new.row_order } }
         ensures unordered { OnOk result (IsUnordered self.old → IsUnordered self.new) }
         ensures header { table.new.source.value.header ≡ table.old.source.value.header }
+        ensures named { table.new.file ≡ table.old.file }
+        ensures file { IfErr result (λ fault. fault.file ≡ table.old.file) }
+        ensures why { IfErr result (λ fault. ExplainsTable R.remaining self.old.groups columns.now
+            table.old.source.value fault.reason) }
     {
         let mut rows = Vec::new(self.alloc);
         at(
@@ -166,6 +173,9 @@ impl<'c, C> Job<'c, C> {
             (λ keys. noted self.new.order ≡ placed_with (noted self.old.order) keys)) }
         ensures same { self.new ≡ record self.old { order = self.new.order; row_order = self.new.row_order } }
         ensures unordered { OnOk result (IsUnordered self.old → IsUnordered self.new) }
+        ensures file { IfErr result (λ fault. fault.file ≡ table.old.file) }
+        ensures why { IfErr result (λ fault. ExplainsTable R.remaining self.old.groups columns.now
+            table.old.source.value fault.reason) }
     {
         let mut order = self.order.begun(self.alloc);
         let mut rows = Vec::new(self.alloc);
@@ -179,6 +189,8 @@ impl<'c, C> Job<'c, C> {
         ensures table { IfOk result (λ table. Gathers self.old.groups rows.items table.pairs.items) }
         ensures same { self.new ≡ record self.old { row_order = self.new.row_order } }
         ensures by_cells { is_none self.old.row_order.files ≡ true → is_none self.new.row_order.files ≡ true }
+        ensures file { IfErr result (λ fault. fault.file ≡ file.entry) }
+        ensures why { IfErr result (λ fault. ExplainsGathering self.old.groups rows.items fault.reason) }
     {
         at(file, self.row_order.note_file(self.alloc, &rows))?;
         at(file, self.gather(rows))
@@ -187,7 +199,8 @@ impl<'c, C> Job<'c, C> {
     // The rows by key, of which no two have the same unless they are groups. A key that repeats and may not is an error. Rows last, since a
     // run ends with its answer.
     fn gather(&self, rows: Vec<ReadRow>) -> Result<Table, Reason>
-        ensures { IfOk result (λ table. Gathers self.now.groups rows.items table.pairs.items) }
+        ensures table { IfOk result (λ table. Gathers self.now.groups rows.items table.pairs.items) }
+        ensures why { IfErr result (ExplainsGathering self.now.groups rows.items) }
     {
         if self.groups {
             Ok(grouped_rows(self.alloc, rows, Release::AtExit)?)
@@ -207,6 +220,9 @@ impl<'c, C> Job<'c, C> {
             (λ changes. PairsRows self.old.groups gone.items come.items changes.pairs.items) }
         ensures same { self.new ≡ record self.old { row_order = self.new.row_order } }
         ensures by_cells { is_none self.old.row_order.files ≡ true → is_none self.new.row_order.files ≡ true }
+        ensures file { IfErr result (λ fault. fault.file ≡ file.entry) }
+        ensures why { IfErr result (λ fault. ExplainsGathering self.old.groups gone.items fault.reason
+            ⊎ ExplainsGathering self.old.groups come.items fault.reason) }
     {
         at(file, self.row_order.note_file(self.alloc, &gone))?;
         at(file, self.row_order.note_file(self.alloc, &come))?;
@@ -215,8 +231,10 @@ impl<'c, C> Job<'c, C> {
 
     // Rows that go and rows that come, by key.
     fn pair(&self, gone: Vec<ReadRow>, come: Vec<ReadRow>) -> Result<Changes, Reason>
-        ensures { IfOk result
+        ensures changes { IfOk result
             (λ changes. PairsRows self.now.groups gone.items come.items changes.pairs.items) }
+        ensures why { IfErr result (λ told. ExplainsGathering self.now.groups gone.items told
+            ⊎ ExplainsGathering self.now.groups come.items told) }
     {
         let gone_by_key = self.gather(gone)?;
         let come_by_key = self.gather(come)?;
@@ -244,6 +262,8 @@ impl Job<'_, JoinColumns> {
             noted_with (noted self.old.order) (noted self.new.order)) }
         ensures same { self.new ≡ record self.old { order = self.new.order; row_order = self.new.row_order } }
         ensures unordered { OnOk result (IsUnordered self.old → IsUnordered self.new) }
+        ensures why { IfErr result (ExplainsTables R.remaining self.old.groups self.old.columns.now.left
+            self.old.columns.now.right sides.old) }
     {
         let columns = self.columns;
         let left = self.read_table(&columns.left, &mut sides.first)?;
@@ -274,6 +294,8 @@ impl Job<'_, Columns> {
         ensures unordered { OnOk result (IsUnordered self.old → IsUnordered self.new) }
         ensures first_header { tables.new.first.source.value.header ≡ tables.old.first.source.value.header }
         ensures next_header { tables.new.next.source.value.header ≡ tables.old.next.source.value.header }
+        ensures why { IfErr result (ExplainsTables R.remaining self.old.groups self.old.columns.now
+            self.old.columns.now tables.old) }
     {
         let first = self.read_table(self.columns, &mut tables.first)?;
         let next = self.read_table(self.columns, &mut tables.next)?;
@@ -300,6 +322,8 @@ impl Job<'_, Columns> {
             placed_with (noted self.old.order) (noted self.new.order)) }
         ensures same { self.new ≡ record self.old { order = self.new.order; row_order = self.new.row_order } }
         ensures unordered { OnOk result (IsUnordered self.old → IsUnordered self.new) }
+        ensures why { IfErr result (ExplainsTables R.remaining self.old.groups self.old.columns.now
+            self.old.columns.now sides.old) }
     {
         let ours = self.read_table(self.columns, &mut sides.first)?;
         let theirs = self.read_beside(self.columns, &mut sides.next)?;
@@ -325,6 +349,8 @@ impl Job<'_, Columns> {
             noted_with (noted self.old.order) (noted self.new.order)) }
         ensures same { self.new ≡ record self.old { order = self.new.order; row_order = self.new.row_order } }
         ensures unordered { OnOk result (IsUnordered self.old → IsUnordered self.new) }
+        ensures why { IfErr result
+            (ExplainsInputs R.remaining self.old.groups self.old.columns.now inputs.old) }
     {
         let rows = self.read_table(self.columns, &mut inputs.first)?;
         let changes = self.read_changes(&mut inputs.next)?;
@@ -343,6 +369,9 @@ impl Job<'_, Columns> {
             (λ keys. noted self.new.order ≡ noted_with (noted self.old.order) keys)) }
         ensures same { self.new ≡ record self.old { order = self.new.order; row_order = self.new.row_order } }
         ensures unordered { OnOk result (IsUnordered self.old → IsUnordered self.new) }
+        ensures file { IfErr result (λ fault. fault.file ≡ changes.old.file) }
+        ensures why { IfErr result (λ fault. ExplainsChanges R.remaining self.old.groups self.old.columns.now
+            changes.old.source.value fault.reason) }
     {
         let mut gone = Vec::new(self.alloc);
         let mut come = Vec::new(self.alloc);
@@ -390,6 +419,8 @@ pub fn read_rows<R: Read + Drop>(
         (NotesRows rows.old.items rows.new.items (noted order.old) (noted order.new)) }
     ensures unordered { OnOk result (noted order.old ≡ None → noted order.new ≡ None) }
     ensures header { table.new.source.value.header ≡ table.old.source.value.header }
+    ensures named { table.new.file ≡ table.old.file }
+    ensures why { IfErr result (ExplainsUnread R.remaining columns.now table.old.source.value) }
 {
     let places = table.source.places(columns)?;
     read_rest(&mut table.source, &places, order, rows)?;
@@ -408,6 +439,7 @@ fn read_rest<R: Read + Drop>(
         (NotesRows rows.old.items rows.new.items (noted order.old) (noted order.new)) }
     ensures unordered { OnOk result (noted order.old ≡ None → noted order.new ≡ None) }
     ensures header { source.new.header ≡ source.old.header }
+    ensures why { IfErr result (ExplainsRows R.remaining source.old) }
 {
     for _ in 0..u64::MAX {
         match source.read_row(places)? {
@@ -430,6 +462,8 @@ fn read_signed<R: Read + Drop>(
         gone.old.items gone.new.items come.old.items come.new.items
         (noted order.old) (noted order.new)) }
     ensures unordered { OnOk result (noted order.old ≡ None → noted order.new ≡ None) }
+    ensures named { changes.new.file ≡ changes.old.file }
+    ensures why { IfErr result (ExplainsUnread R.remaining columns.now changes.old.source.value) }
 {
     let places = changes.source.places(columns)?;
     read_signed_rest(&mut changes.source, &places, order, gone, come)?;
@@ -449,6 +483,7 @@ fn read_signed_rest<R: Read + Drop>(
         (noted order.old) (noted order.new)) }
     ensures unordered { OnOk result (noted order.old ≡ None → noted order.new ≡ None) }
     ensures header { source.new.header ≡ source.old.header }
+    ensures why { IfErr result (ExplainsRows R.remaining source.old) }
 {
     for _ in 0..u64::MAX {
         match source.read_signed(places)? {

@@ -67,8 +67,9 @@ fn columns_of_diff<'a, R>(
     how: Comparing<'_>,
     versions: &Two<'a, R>,
 ) -> Result<Columns, Fault<'a>>
-    ensures csv { IfOk result (λ columns. how.entry.format ≡ format.Csv → AreChangeColumnsBy how.entry.view.columns
-        settings.entry.key (first_header versions.now) (next_header versions.now) columns) }
+    ensures csv { IfOk result (λ columns. how.entry.format ≡ format.Csv
+        → AreChangeColumnsBy how.entry.view.columns settings.entry.key (first_header versions.now)
+        (next_header versions.now) columns) }
     ensures report { IfOk result (λ columns. IsReport how.entry.format →
         AreComparedColumns how.entry.view.columns settings.entry.key (headers_of versions.now) columns) }
 {

@@ -1,4 +1,4 @@
-use Rattle.std.proofs.Common.{◌≡◌, ◌∙◌, ◌+◌, ◌-◌, ◌<◌, ◌≤◌, ap, arith, drop, length, length-drop}
+use Rattle.std.proofs.Common.{◌≡◌, ◌∙◌, ◌+◌, ◌-◌, ◌<◌, ◌≤◌, arith, drop, length, length-drop}
 use Rattle.std.proofs.lemmas.List.{length-map, take_all}
 use Rattle.csv.specs.Records.{fields_of}
 use Rattle.keyed_columns.specs.Headers.{name_in, names_behind}

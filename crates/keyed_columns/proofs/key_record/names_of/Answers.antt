@@ -11,7 +11,7 @@ loop-place-preserved c =
     record {
       first = c.in_ok-put-2.ensures.once so_far.first;
       others = c.in_ok-put.ensures.once so_far.others;
-      given = give-more cells c.loop-place.place _ _ _ _ c.cell_of.result.now _ _ lt c.cell_of.ensures so_far.given c.in_ok-column.ensures
+      given = give-more cells c.loop-place.place _ _ _ _ c.cell_of.result.now _ _ lt c.cell_of.ensures so_far.given c.in_ok-column.ensures.names
           (c.in_ok-put-2.ensures.names ∙ ap (λ name. c.loop-place.first.names ++ (name ∷ [])) c.deref.ensures.value)
           (c.in_ok-put.ensures.names ∙ ap (λ name. c.loop-place.others.names ++ (name ∷ [])) c.other.ensures);
     }

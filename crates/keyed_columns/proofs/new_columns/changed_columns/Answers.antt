@@ -1,4 +1,4 @@
-use Rattle.std.proofs.Common.{◌∷◌, ℕ, List, [], subst}
+use Rattle.std.proofs.Common.{◌∷◌, [], subst}
 use Rattle.keyed_columns.specs.ColumnNames.{WriteNames}
 use Rattle.keyed_columns.proofs.new_columns.changed_columns.Goals as goal
 

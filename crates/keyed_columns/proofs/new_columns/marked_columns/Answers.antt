@@ -1,4 +1,4 @@
-use Rattle.std.proofs.Common.{◌≡◌, ◌∙◌, [], ap, map, nat_eq}
+use Rattle.std.proofs.Common.{◌∙◌, [], ap, map, nat_eq}
 use Rattle.std.specs.Cmp.Lexicographic.{pointwise}
 use Rattle.indexmap.specs.IndexSet.{insert_all}
 use Rattle.keyed_columns.specs.ChangedColumns.{marked_between}

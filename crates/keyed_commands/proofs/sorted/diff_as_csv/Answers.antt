@@ -10,8 +10,8 @@ pub returns-clause-whole : goal.returns-clause-whole
 returns-clause-whole g c =
     diffs-written g.R.Read.remaining c.args.layout c.sorted.result c.in_ok-marked.marked c.in_ok-columns.columns c.args.versions (g.W.Write.contents c.args.output.now)
     (g.W.Write.contents c.write_tables.new.output) c.in_ok-differ.differ c.in_ok-finished.finished.status c.status_with.result
-    c.sorted.ensures.form c.sorted.ensures.columns c.in_ok-columns.ensures c.in_ok-marked.ensures
-    ((rw c.in_ok-differ.ensures at c.has_lone.ensures) ∙ ap (λ p. has_lone p.0 p.1 || has_lone p.1 p.0) c.column_changes.ensures) c.status_with.ensures
+    c.sorted.ensures.form c.sorted.ensures.columns c.in_ok-columns.ensures.columns c.in_ok-marked.ensures.marked
+    ((rw c.in_ok-differ.ensures.value at c.has_lone.ensures) ∙ ap (λ p. has_lone p.0 p.1 || has_lone p.1 p.0) c.column_changes.ensures) c.status_with.ensures
     (c.in_ok-finished.ensures.whole tt)
 
 pub returns-in_err-finished-clause-begun : goal.returns-in_err-finished-clause-begun
@@ -19,5 +19,5 @@ returns-in_err-finished-clause-begun g c =
     let p = err_from_is_err_and c.from_residual-in_err-finished.result c.from_residual-in_err-finished.ensures.1 in
     rw (p.1, p.2)
     (diffs-first g.R.Read.remaining c.args.layout _ (g.W.Write.contents c.args.output.now) (g.W.Write.contents c.write_tables.new.output) c.sorted.result
-    c.in_ok-marked.marked c.in_ok-columns.columns c.args.versions c.sorted.ensures.form c.sorted.ensures.columns c.in_ok-columns.ensures c.in_ok-marked.ensures
+    c.in_ok-marked.marked c.in_ok-columns.columns c.args.versions c.sorted.ensures.form c.sorted.ensures.columns c.in_ok-columns.ensures.columns c.in_ok-marked.ensures.marked
     (c.in_err-finished.ensures.begun tt))

@@ -9,14 +9,14 @@ returns-in-Csv-clause-whole g c =
     IfOk-weaker c.diff_as_csv.result _ _
     (λ finished h is. diffs-in-parts g.R.Read.remaining c.args.layout c.args.old c.args.new c.in_ok-versions.versions
     (record c.in_ok-versions.versions { first = c.rename_key.new.self }) (g.W.Write.contents c.args.output.now) (g.W.Write.contents c.diff_as_csv.new.output)
-    finished.status c.in_ok-versions.ensures.first c.in_ok-versions.ensures.next c.in_ok-rename_key.ensures refl h) c.diff_as_csv.ensures.whole
+    finished.status c.in_ok-versions.ensures.first c.in_ok-versions.ensures.next c.in_ok-rename_key.ensures.renamed refl h) c.diff_as_csv.ensures.whole
 
 pub returns-in-Csv-clause-begun : goal.returns-in-Csv-clause-begun
 returns-in-Csv-clause-begun g c =
     IfErr-weaker c.diff_as_csv.result _ _
     (λ fault h is. diffs-begun g.R.Read.remaining c.args.layout fault.file.now (g.W.Write.contents c.args.output.now) (g.W.Write.contents c.diff_as_csv.new.output)
     c.args.old c.args.new c.in_ok-versions.versions (record c.in_ok-versions.versions { first = c.rename_key.new.self })
-    c.in_ok-versions.ensures.first c.in_ok-versions.ensures.next c.in_ok-rename_key.ensures refl h) c.diff_as_csv.ensures.begun
+    c.in_ok-versions.ensures.first c.in_ok-versions.ensures.next c.in_ok-rename_key.ensures.renamed refl h) c.diff_as_csv.ensures.begun
 
 pub returns-in_err-versions-clause-begun : goal.returns-in_err-versions-clause-begun
 returns-in_err-versions-clause-begun g c =

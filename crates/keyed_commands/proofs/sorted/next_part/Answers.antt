@@ -8,6 +8,6 @@ returns g c = record {
   full_left = c.in_ok-fill.ensures.full;
   full_right = c.in_ok-fill-2.ensures.full;
   bound = c.in_ok-bound.bound;
-  lesser = rw c.in_ok-bound.ensures at c.next_bound.ensures;
+  lesser = rw c.in_ok-bound.ensures.value at c.next_bound.ensures;
   takes = c.in_ok-part.ensures;
 }

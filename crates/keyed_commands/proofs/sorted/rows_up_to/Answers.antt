@@ -4,5 +4,5 @@ pub returns : goal.returns
 returns g c = (
   c.in_ok-rows.rows.items,
   c.in_ok-rows.ensures,
-  (rw c.in_ok-table.ensures at c.unique_rows.ensures.rows, rw c.in_ok-table.ensures at c.unique_rows.ensures.unique),
+  (rw c.in_ok-table.ensures.value at c.unique_rows.ensures.rows, rw c.in_ok-table.ensures.value at c.unique_rows.ensures.unique),
 )

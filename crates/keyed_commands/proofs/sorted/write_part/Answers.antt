@@ -9,7 +9,7 @@ returns-clause-whole g c by_key = record {
   part = c.in_ok-part.part;
   reads = c.in_ok-part.ensures;
   text = c.in_ok-answer.answer.bytes.items;
-  says = (rw c.in_ok-answer.ensures at c.answer.ensures) by_key;
+  says = (rw c.in_ok-answer.ensures.value at c.answer.ensures) by_key;
   puts = subst (Appends (g.W.Write.contents c.args.output.now) (g.W.Write.contents c.put_on_output.new.output)) c.deref.ensures.value c.in_ok-put_on_output.ensures.put;
   last = refl;
 }
@@ -25,7 +25,7 @@ returns-in_err-put_on_output-clause-begun g c =
         part = c.in_ok-part.part;
         reads = c.in_ok-part.ensures;
         status = c.in_ok-answer.answer.status;
-        says = (rw c.in_ok-answer.ensures at c.answer.ensures) by_key;
+        says = (rw c.in_ok-answer.ensures.value at c.answer.ensures) by_key;
       },
       subst (PutsSome (g.W.Write.contents c.args.output.now) (g.W.Write.contents c.put_on_output.new.output)) c.deref.ensures.value failed.1,
       λ other. absurd (other failed.0),

@@ -16,7 +16,7 @@ returns-in-Some g c =
     let are : AreColumns (from_names source.header.names) (source.header.names ∷ []) columns =
     subst (λ key. AreColumns key (source.header.names ∷ []) columns) names
     (subst (λ header. AreColumns c.in_ok-names.names (header ∷ []) columns) c.header-3.ensures c.in_ok-columns.ensures) in
-    let placed : PlacesOf source columns places = subst (λ s. PlacesOf s columns places) c.deref.ensures (rw c.in_ok-places.ensures at c.places.ensures) in
+    let placed : PlacesOf source columns places = subst (λ s. PlacesOf s columns places) c.deref.ensures (rw c.in_ok-places.ensures.value at c.places.ensures.places) in
     let reads : ReadsLaterKeys rem places source found =
-    subst (λ s. ReadsLaterKeys rem places s found) c.deref_mut.ensures.value (rw (c.in_ok-keys.ensures, c.in-Some.is) at c.read_keys.ensures) in
+    subst (λ s. ReadsLaterKeys rem places s found) c.deref_mut.ensures.value (rw (c.in_ok-keys.ensures.value, c.in-Some.is) at c.read_keys.ensures) in
     bounds-read rem source columns places found c.new.result.keys.items are placed reads c.new.ensures c.new.result.sorted (rem c.args.reader) c.in_ok-opened.ensures

@@ -1,4 +1,4 @@
-use Rattle.std.proofs.Common.{◌≡◌, ◌∙◌, ◌++◌, [], List, None, ℕ, ap, subst}
+use Rattle.std.proofs.Common.{◌∙◌, ◌++◌, [], List, None, ℕ, ap, subst}
 use Rattle.std.specs.Prelude.{if◌then◌else◌}
 use Rattle.keyed_text.specs.Spelling.{blank_lines}
 use Rattle.keyed_text.specs.Texts.{finished}

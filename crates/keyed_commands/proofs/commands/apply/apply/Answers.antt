@@ -24,7 +24,7 @@ returns g c =
     (apply-streams (watched_left g.R.Read.remaining) settings direction c.in_ok-watched.watched.0 c.unwatched-changes.result c.in_ok-inputs.inputs
     named c.new-2.result c.in_ok-watched.watched.1 answer c.in_ok-watched.ensures.style c.in_ok-inputs.ensures.first c.in_ok-inputs.ensures.next
     c.in_ok-inputs.ensures.gone
-    c.in_ok-rename.ensures c.turn.ensures.same c.new-2.ensures.form c.new-2.ensures.groups c.new-2.ensures.unordered c.new-2.ensures.order
+    c.in_ok-rename.ensures.named c.turn.ensures.same c.new-2.ensures.form c.new-2.ensures.groups c.new-2.ensures.unordered c.new-2.ensures.order
     (subst P (sym c.new-2.ensures.columns) c.in_ok-columns.ensures.columns)
     (subst (IsSpelledAs named.first.source.value.header.spelling.names named.first.source.value.header.spelling.spelled) (sym c.new-2.ensures.columns) c.in_ok-columns.ensures.spelled)
     read)) c.apply_files.ensures

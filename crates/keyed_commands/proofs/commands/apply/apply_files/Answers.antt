@@ -19,7 +19,7 @@ returns g c =
     let old = tables.0.pairs.items in
     let made = made_in source.first.source.value.header.names source.next.source.value.header.names c.args.job.columns.now c.args.direction old tables.1.pairs.items in
     let styled = c.in_style-job.result in
-    let missing = rw c.in_ok-missing.ensures at c.missing_columns-missing.ensures
+    let missing = rw c.in_ok-missing.ensures.value at c.missing_columns-missing.ensures
     ∙ ap₂ (λ before after. missing_by before after c.args.job.columns.now.rest) c.header-before.ensures c.header-after.ensures in
     IfOk-weaker c.at-2.result _ _
     (λ answer is. record {
@@ -41,4 +41,4 @@ returns g c =
             missing (rw is at c.apply_in.ensures)));
         order = λ unordered. let after = read.unordered unordered in (after.keys, after.rows);
       };
-    }) c.at-2.ensures
+    }) c.at-2.ensures.value

@@ -14,7 +14,7 @@ returns-clause-csv g c =
     IfOk-weaker c.diff_files.result _ _
     (λ answer read csv. picked-streams g.R.Read.remaining c.args.settings c.args.old c.args.new c.in_ok-versions.versions
     (record c.in_ok-versions.versions { first = c.rename.new.self }) c.new-2.result answer c.args.how.view.columns c.in_ok-versions.ensures.first c.in_ok-versions.ensures.next
-    c.in_ok-rename.ensures refl c.new-2.ensures.form c.new-2.ensures.groups c.new-2.ensures.unordered c.new-2.ensures.order
+    c.in_ok-rename.ensures.named refl c.new-2.ensures.form c.new-2.ensures.groups c.new-2.ensures.unordered c.new-2.ensures.order
     (subst P (sym c.new-2.ensures.columns) (c.in_ok-columns.ensures.csv csv)) (read csv)) c.diff_files.ensures.csv
 
 pub returns-clause-report : goal.returns-clause-report
@@ -24,5 +24,5 @@ returns-clause-report g c =
     IfOk-weaker c.diff_files.result _ _
     (λ answer read report whole. report-streams g.R.Read.remaining c.args.settings c.args.how c.args.old c.args.new c.in_ok-versions.versions
     (record c.in_ok-versions.versions { first = c.rename.new.self }) c.new-2.result answer c.in_ok-versions.ensures.first c.in_ok-versions.ensures.next
-    c.in_ok-rename.ensures refl c.new-2.ensures.groups c.new-2.ensures.unordered c.new-2.ensures.order
+    c.in_ok-rename.ensures.named refl c.new-2.ensures.groups c.new-2.ensures.unordered c.new-2.ensures.order
     (subst P (sym c.new-2.ensures.columns) (c.in_ok-columns.ensures.report report)) (read report whole)) c.diff_files.ensures.report

@@ -30,6 +30,6 @@ returns g c =
             read.same (rw is at c.diff_as_csv-answer.ensures.text);
         order = λ unordered. let after = read.unordered unordered in (after.keys, after.rows);
       };
-      marks = c.in_ok-marked.ensures ∙ ap₂ marked_names (ap (λ header. header.names) read.first_header) (ap (λ header. header.names) read.next_header);
+      marks = c.in_ok-marked.ensures.marked ∙ ap₂ marked_names (ap (λ header. header.names) read.first_header) (ap (λ header. header.names) read.next_header);
       status = status-between c.column_changes.result _ _ _ _ answer.status headers (rw is at c.diff_as_csv-answer.ensures.status);
-    }) c.at.ensures
+    }) c.at.ensures.value

@@ -15,8 +15,8 @@ returns g c =
     let read = c.in_ok-tables.ensures in
     let before = c.args.versions.now.first.source.value.header.names in
     let after = c.args.versions.now.next.source.value.header.names in
-    let first = rw c.in_ok-before.ensures at c.names_among-before.ensures in
-    let next = rw c.in_ok-after.ensures at c.names_among-after.ensures in
+    let first = rw c.in_ok-before.ensures.value at c.names_among-before.ensures in
+    let next = rw c.in_ok-after.ensures.value at c.names_among-after.ensures in
     let headers = c.new-columns.ensures ∙ ap₂ (λ p q. compared p q)
     (first ∙ ap (names_among job.columns.now) (c.header.ensures ∙ ap (λ header. header.names) read.first_header))
     (next ∙ ap (names_among job.columns.now) (c.header-2.ensures ∙ ap (λ header. header.names) read.next_header)) in
@@ -37,4 +37,4 @@ returns g c =
             (let tells = rw is at c.diff_as_report-answer.ensures.table in tells whole (subst (λ format. IsTold format c.args.how.view) looks is_told));
         order = λ unordered. let after = read.unordered unordered in (after.keys, after.rows);
       };
-    }) c.at-3.ensures
+    }) c.at-3.ensures.value

@@ -18,7 +18,7 @@ returns g c =
     let before = c.args.versions.now.first.source.value.header.names in
     let after = c.args.versions.now.next.source.value.header.names in
     let headers = c.column_changes.ensures ∙ ap₂ (λ before after. compared before after) (ap (λ header. header.names) read.first_header) (ap (λ header. header.names) read.next_header) in
-    let marks = c.in_ok-marked.ensures ∙ ap₂ marked_names (ap (λ header. header.names) read.first_header) (ap (λ header. header.names) read.next_header) in
+    let marks = c.in_ok-marked.ensures.marked ∙ ap₂ marked_names (ap (λ header. header.names) read.first_header) (ap (λ header. header.names) read.next_header) in
     let differ : columns_differ c.column_changes.result ≡ headers_differ before after = ap (λ p. has_lone p.0 p.1 || has_lone p.1 p.0) headers in
     IfOk-weaker c.at-2.result _ _
     (λ answer is. record {
@@ -29,7 +29,7 @@ returns g c =
       notes = read.notes;
       beside = record {
         compared = c.in_ok-compared.compared.items;
-        are = rw (c.header-before.ensures, c.header-after.ensures) at (rw c.in_ok-compared.ensures at c.compared_columns-compared.ensures);
+        are = rw (c.header-before.ensures, c.header-after.ensures) at (rw c.in_ok-compared.ensures.value at c.compared_columns-compared.ensures);
         keys = noted job.order;
         by_cells = is_none job.row_order.files;
         changes = subst (λ j. AnswersBeside j.form j.columns.now (noted job.order) (is_none job.row_order.files) c.in_ok-compared.compared.items (marked_names before after) (headers_differ before after)
@@ -42,4 +42,4 @@ returns g c =
             tables.0.pairs.items tables.1.pairs.items answer) c.deref.ensures.value (rw is at c.diff_beside-answer.ensures))));
         order = λ unordered. let after = read.unordered unordered in (after.keys, after.rows);
       };
-    }) c.at-2.ensures
+    }) c.at-2.ensures.value

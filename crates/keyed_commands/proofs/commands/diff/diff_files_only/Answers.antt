@@ -18,8 +18,8 @@ returns g c =
     let read = c.in_ok-tables.ensures in
     let before = c.args.versions.now.first.source.value.header.names in
     let after = c.args.versions.now.next.source.value.header.names in
-    let first = rw c.in_ok-earlier.ensures at c.names_among-earlier.ensures in
-    let next = rw c.in_ok-later.ensures at c.names_among-later.ensures in
+    let first = rw c.in_ok-earlier.ensures.value at c.names_among-earlier.ensures in
+    let next = rw c.in_ok-later.ensures.value at c.names_among-later.ensures in
     let headers = c.new-columns.ensures ∙ ap₂ (λ p q. compared p q)
     (first ∙ ap (names_among job.columns.now) (c.header.ensures ∙ ap (λ header. header.names) read.first_header))
     (next ∙ ap (names_among job.columns.now) (c.header-2.ensures ∙ ap (λ header. header.names) read.next_header)) in
@@ -42,4 +42,4 @@ returns g c =
           (c.in_ok-marked.ensures ∙ ap₂ (marked_columns job.columns.now) (ap (λ header. header.names) read.first_header) (ap (λ header. header.names) read.next_header));
       status = subst (λ j. IsStatusBetween (names_among j.columns.now before) (names_among j.columns.now after) tables.0.pairs.items tables.1.pairs.items answer.status) read.same
           (status-between c.new-columns.result _ _ _ _ answer.status headers (rw is at c.diff_as_csv-answer.ensures.status));
-    }) c.at-3.ensures
+    }) c.at-3.ensures.value

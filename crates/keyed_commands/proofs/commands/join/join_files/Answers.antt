@@ -20,7 +20,7 @@ returns g c =
         keys = noted job.order;
         by_cells = is_none job.row_order.files;
         join = subst (λ j. IsJoinText j.form j.columns.now form.header (noted job.order) (is_none job.row_order.files) form.kind tables.0.pairs.items tables.1.pairs.items c.in_ok-bytes.bytes.items)
-            read.same ((rw c.in_ok-bytes.ensures at c.write_join.ensures) csv);
+            read.same ((rw c.in_ok-bytes.ensures.value at c.write_join.ensures) csv);
         order = λ unordered. let after = read.unordered unordered in (after.keys, after.rows);
       };
       status = refl;

@@ -9,5 +9,5 @@ returns-clause-rows g c =
     let source = c.args.right.now.source.value in
     let rest = subst (λ s. ReadsRest g.R.Read.remaining c.in_ok-places.places s (held_rows c.new-found.result.entries) (held_rows c.read_rest.new.found.entries)) c.deref_mut.ensures.value c.in_ok-read_rest.ensures.read in
     table-read g.R.Read.remaining c.args.columns.now c.in_ok-places.places source [] (held_rows c.read_rest.new.found.entries)
-    (rw c.deref.ensures at c.in_ok-places.ensures)
+    (rw c.deref.ensures at c.in_ok-places.ensures.places)
     (subst (λ l. ReadsRest g.R.Read.remaining c.in_ok-places.places source (held_rows l) (held_rows c.read_rest.new.found.entries)) c.new-found.ensures.empty rest)

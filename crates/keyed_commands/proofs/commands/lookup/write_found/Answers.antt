@@ -12,7 +12,7 @@ returns-clause-text g c =
     let old = g.W.Write.contents c.args.output.now in
     let new = g.W.Write.contents c.write_parts.new.output in
     let source = c.args.left.now.source.value in
-    let wrote = rw c.in_ok-written.ensures at c.begin_lookup.ensures in
+    let wrote = rw c.in_ok-written.ensures.value at c.begin_lookup.ensures in
     let Rest : Type 0 = WritesRest g.R.Read.remaining work.form work.kind columns find c.args.places.now source c.in_ok-written.written old new in
     let Behind : Type 0 = WritesBehind g.R.Read.remaining work.form work.kind columns find c.args.places.now heading source old new in
     on_ok_weaker {P = Rest} {Q = Behind} c.write_parts.result (λ rest. rest heading wrote) c.write_parts.ensures.text

@@ -25,7 +25,7 @@ returns g c =
     (merge-streams (watched_left g.R.Read.remaining) c.args.how.conflicts c.args.how.unit settings c.unwatched-base.result c.in_ok-watched.watched.0 c.unwatched-theirs.result
     c.in_ok-base.base c.rename.new.self c.in_ok-sides.sides c.new-job.result c.in_ok-watched.watched.1 answer c.in_ok-watched.ensures.style
     c.in_ok-base.ensures.opened c.in_ok-sides.ensures.first c.in_ok-sides.ensures.next
-    c.in_ok-rename.ensures c.new-job.ensures.form c.new-job.ensures.groups c.new-job.ensures.unordered c.new-job.ensures.order
+    c.in_ok-rename.ensures.named c.new-job.ensures.form c.new-job.ensures.groups c.new-job.ensures.unordered c.new-job.ensures.order
     (subst P (sym c.new-job.ensures.columns) c.in_ok-columns.ensures.columns)
     (subst (IsSpelledAs sides.first.source.value.header.spelling.names sides.first.source.value.header.spelling.spelled) (sym c.new-job.ensures.columns) c.in_ok-columns.ensures.spelled)
     (read as_written))) c.merge_files.ensures

@@ -36,4 +36,4 @@ returns g c =
             c.in_style-job.ensures ((rw is at c.merge_tables.ensures) as_written));
         order = λ unordered. let after = read.unordered unordered in (after.keys, after.rows);
       };
-    }) c.at.ensures
+    }) c.at.ensures.value

@@ -10,6 +10,6 @@ returns g c =
     record {
       columns = columns_spelled key _ _ columns _ _ c.in_ok-spelled.ensures.same
           (subst (λ names. AreColumnsBy key names names columns) c.in_ok-headers.ensures
-          (subst (λ headers. AreColumnsBy key (map (λ header. header.now) headers) (map (λ header. header.now) headers) columns) c.deref.ensures.value c.in_ok-columns.ensures));
+          (subst (λ headers. AreColumnsBy key (map (λ header. header.now) headers) (map (λ header. header.now) headers) columns) c.deref.ensures.value c.in_ok-columns.ensures.columns));
       spelled = c.in_ok-spelled.ensures.spelled;
     }

@@ -11,7 +11,7 @@ loop-stream-preserved g c =
     let opened = c.loop-stream.opened.items in
     record {
       layers = λ more h.
-          subst (λ l. AreLayers g.R.Read.remaining settings.form settings.key c.args.tables.items (l ++ more)) (sym (rw c.in_ok-at.ensures at c.put.ensures))
+          subst (λ l. AreLayers g.R.Read.remaining settings.form settings.key c.args.tables.items (l ++ more)) (sym (rw c.in_ok-at.ensures.value at c.put.ensures))
           (subst (AreLayers g.R.Read.remaining settings.form settings.key c.args.tables.items) (sym (append_assoc opened (table ∷ []) more))
           (c.loop-stream.invariant.layers (table ∷ more) (layers_then g.R.Read.remaining settings.form c.loop-stream.key c.in-Some.stream _ _ table more c.in-Some.ensures.steps.0 c.in_ok-layer.ensures.layer h)));
       noted = noted_then g.R.Read.remaining settings.form c.args.tables.items _ _ c.in-Some.stream c.loop-stream.first_style c.in_ok-layer.layer.1 c.in-Some.ensures.steps.0

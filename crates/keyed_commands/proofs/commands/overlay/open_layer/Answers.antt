@@ -7,7 +7,7 @@ pub returns-clause-layer : goal.returns-clause-layer
 returns-clause-layer g c =
     let old = c.in_ok-table.table.source.value in
     let new = c.rename_key.new.self.source.value in
-    let renamed = c.in_ok-rename_key.ensures in (
+    let renamed = c.in_ok-rename_key.ensures.renamed in (
       old.header.names,
       are-names c.args.key old new renamed,
       layer_open g.R.Read.remaining c.args.key (form_of c.args.form c.args.stream) _ old.header.names old new (text_of_stream g.R.Read.remaining c.args.form c.args.stream) _

@@ -15,5 +15,5 @@ returns g c =
     IfOk-weaker c.overlay_files.result _ _
     (λ answer read. overlay_streams g.R.Read.remaining settings c.args.layer c.args.tables.items opened c.in_ok-layers.layers.1 c.new.result answer
     c.in_ok-layers.ensures.style c.in_ok-layers.ensures.layers c.new.ensures.form c.new.ensures.groups c.new.ensures.unordered c.new.ensures.order
-    (subst P (sym c.new.ensures.columns) (columns_alike settings.key opened _ c.in_ok-columns.columns c.deref-2.ensures.value (rw c.in_ok-columns.ensures at c.columns_of_all.ensures.columns)))
-    (subst (IsSpelledAsFirst opened) (sym c.new.ensures.columns) (subst (λ all. IsSpelledAsFirst all c.in_ok-columns.columns) c.deref-2.ensures.value (rw c.in_ok-columns.ensures at c.columns_of_all.ensures.spelled))) read) c.overlay_files.ensures
+    (subst P (sym c.new.ensures.columns) (columns_alike settings.key opened _ c.in_ok-columns.columns c.deref-2.ensures.value (rw c.in_ok-columns.ensures.value at c.columns_of_all.ensures.columns)))
+    (subst (IsSpelledAsFirst opened) (sym c.new.ensures.columns) (subst (λ all. IsSpelledAsFirst all c.in_ok-columns.columns) c.deref-2.ensures.value (rw c.in_ok-columns.ensures.value at c.columns_of_all.ensures.spelled))) read) c.overlay_files.ensures

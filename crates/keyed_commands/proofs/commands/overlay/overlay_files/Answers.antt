@@ -36,4 +36,4 @@ returns g c =
         };
         order = λ unordered. let after = read.unordered unordered in (after.keys, after.rows);
       };
-    }) c.at.ensures
+    }) c.at.ensures.value

@@ -28,7 +28,7 @@ returns g c =
     (c.in_ok-how.ensures.form ∙ c.changes_form-form.ensures ∙ ap plain (sym (c.unwatched-changes.ensures.form settings.form)))
     c.in_ok-how.ensures.going c.in_ok-how.ensures.coming c.in_ok-watched.ensures.style c.in_ok-inputs.ensures.first c.in_ok-inputs.ensures.next
     c.in_ok-inputs.ensures.gone
-    c.in_ok-rename.ensures c.in_ok-how.ensures.same c.new-2.ensures.form c.new-2.ensures.groups c.new-2.ensures.unordered c.new-2.ensures.order
+    c.in_ok-rename.ensures.named c.in_ok-how.ensures.same c.new-2.ensures.form c.new-2.ensures.groups c.new-2.ensures.unordered c.new-2.ensures.order
     (subst P (sym c.new-2.ensures.columns) c.in_ok-columns.ensures.columns)
     (subst (IsSpelledAs named.first.source.value.header.spelling.names named.first.source.value.header.spelling.spelled) (sym c.new-2.ensures.columns) c.in_ok-columns.ensures.spelled)
     read)) c.partly_files.ensures

@@ -10,4 +10,4 @@ returns g c =
       old_read = c.in_ok-before.ensures;
       new_read = c.in_ok-after.ensures;
       answers = rw is at c.answer_rows-answer.ensures;
-    }) c.at.ensures
+    }) c.at.ensures.value

@@ -1,5 +1,4 @@
-use Rattle.std.proofs.Common.{◌∙◌, sym, ap, drop}
-use Rattle.keyed_files.proofs.BufferLemmas.{grown-keeps, prepended-keeps, range-grown}
+use Rattle.keyed_files.proofs.BufferLemmas.{grown-keeps, range-grown}
 use Rattle.keyed_files.proofs.buffer.Buffer.read_behind.Goals as goal
 
 pub returns-clause-kept : goal.returns-clause-kept

@@ -1,4 +1,4 @@
-use Rattle.std.proofs.Common.{◌≡◌, ◌∙◌, ◌<◌, ap, arith, length, rules, take, sym}
+use Rattle.std.proofs.Common.{◌≡◌, ◌∙◌, ◌<◌, ap, arith, length, rules, take}
 use Rattle.std.specs.Prelude.{None}
 use Rattle.keyed_files.specs.Lines.{ahead_of}
 use Rattle.keyed_files.proofs.LineLemmas.{line-given}

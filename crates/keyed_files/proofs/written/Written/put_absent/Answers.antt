@@ -1,4 +1,4 @@
-use Rattle.std.proofs.Common.{List, ℕ, [], ap, map}
+use Rattle.std.proofs.Common.{[], ap, map}
 use Rattle.keyed_files.proofs.WritingLemmas.{cell-then, none-left}
 use Rattle.keyed_files.proofs.written.Written.put_absent.Goals as goal
 

@@ -1,4 +1,4 @@
-use Rattle.std.proofs.Common.{List, ℕ, [], map}
+use Rattle.std.proofs.Common.{[], map}
 use Rattle.keyed_files.specs.declared.written.Written.{Written}
 use Rattle.keyed_files.specs.Writing.{PutsCells}
 use Rattle.keyed_files.proofs.written.Written.put_absent.Given as goal
