@@ -18,6 +18,7 @@ pub mod KnownLookup
 pub mod KnownOrder
 pub mod LiteralTexts
 pub mod KnownText
+pub mod KnownKeys
 pub mod KnownLaws
 pub mod KnownSides
 pub mod KnownOnly

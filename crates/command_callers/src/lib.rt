@@ -1,6 +1,6 @@
 //! Callers of the commands: what a program knows of the answers to `diff`, `apply`, `merge`, `join`, `overlay` and `lookup` of texts that it
-//! knows when it is written; and callers of the reader and the writer of rows (`texts`), of the rows that a report shows (`reports`), and of
-//! the laws of columns and of cells that are shown (`columns`).
+//! knows when it is written; and callers of the reader and the writer of rows (`texts`), of the rows that a report shows (`reports`), of
+//! keys that are refused (`keys`), and of the laws of columns and of cells that are shown (`columns`).
 #![tactic(auto)]
 
 ghost use Rattle.std.specs.Prelude.{◌≡◌, ◌∷◌, [], IfOk, codes, true};
@@ -35,6 +35,7 @@ macro_rules! joining {
 }
 
 pub mod columns;
+pub mod keys;
 pub mod laws;
 pub mod layers;
 pub mod lookups;
