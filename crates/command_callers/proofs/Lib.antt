@@ -19,6 +19,7 @@ pub mod KnownOrder
 pub mod LiteralTexts
 pub mod KnownText
 pub mod KnownKeys
+pub mod KnownRepeats
 pub mod KnownLaws
 pub mod KnownSides
 pub mod KnownOnly

@@ -73,6 +73,10 @@ pub with_y_and_z : AreRows 44 None (codes "id,a\n1,y\n2,z\n") (id_a ∷ one_y �
 unfolding csv_on_literals Reached
 with_y_and_z = (st.StartRecord, [], (_, refl, refl, (_, refl, refl, (_, refl, refl, (refl, refl)))), refl)
 
+pub with_x_twice : AreRows 44 None (codes "id,a\n1,x\n1,y\n") (id_a ∷ one_x ∷ one_y ∷ [])
+unfolding csv_on_literals Reached
+with_x_twice = (st.StartRecord, [], (_, refl, refl, (_, refl, refl, (_, refl, refl, (refl, refl)))), refl)
+
 pub with_y_then_x : AreRows 44 None (codes "id,a\n2,y\n1,x\n") (id_a ∷ two_y ∷ one_x ∷ [])
 unfolding csv_on_literals Reached
 with_y_then_x = (st.StartRecord, [], (_, refl, refl, (_, refl, refl, (_, refl, refl, (refl, refl)))), refl)

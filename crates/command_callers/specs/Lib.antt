@@ -1,3 +1,4 @@
 pub mod Answered
 pub mod Keys
+pub mod Repeats
 pub mod Shown

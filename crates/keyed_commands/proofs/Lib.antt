@@ -20,3 +20,6 @@ pub mod SortedTextLemmas
 pub mod StyleLemmas
 pub mod TableOnceLemmas
 pub mod TextAnswerLemmas
+pub mod UnansweredLemmas
+pub mod UnansweredLookupLemmas
+pub mod UnansweredOverlayLemmas

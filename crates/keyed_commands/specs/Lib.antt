@@ -14,3 +14,6 @@ pub mod RowDiff
 pub mod SortedBegun
 pub mod SortedParts
 pub mod SortedTexts
+pub mod Unanswered
+pub mod UnansweredLookup
+pub mod UnansweredOverlay

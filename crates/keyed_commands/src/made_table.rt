@@ -6,10 +6,10 @@ ghost use Rattle.keyed_jobs.specs.declared.answer.Outcome.TheVariants.{Made};
 
 use crate::lost_cells::{lose_cells, render_lost};
 use keyed_columns::Columns;
-use keyed_faults::Reason;
 use keyed_files::write_spelled_table;
 use keyed_jobs::{Answer, Job, Outcome, stopped};
 use keyed_rows::{Group, Key};
+use std::alloc::AllocError;
 
 /// The rows as CSV, with status 0; or those that have cells in columns that go, with this word, and status 1.
 ///
@@ -20,7 +20,7 @@ pub fn answer_of_rows(
     job: &Job<'_, Columns>,
     word: &str,
     rows: Vec<(Key, Group)>,
-) -> Result<Answer, Reason>
+) -> Result<Answer, AllocError>
     ensures { IfOk result (AnswersTable job.now.form job.now.columns.now (noted job.now.order)
         (is_none job.now.row_order.files) rows.items) }
 {
@@ -38,7 +38,7 @@ fn report_lost(
     job: &Job<'_, Columns>,
     word: &str,
     rows: Vec<(Key, Group)>,
-) -> Result<Answer, Reason>
+) -> Result<Answer, AllocError>
     ensures { IfOk result Stops }
 {
     let rows = job.arrange(rows)?;
@@ -51,7 +51,7 @@ fn report_lost(
 /// # Errors
 ///
 /// Returns the errors of `write_spelled_table`.
-pub fn table_as_csv(job: &Job<'_, Columns>, rows: Vec<(Key, Group)>) -> Result<Answer, Reason>
+pub fn table_as_csv(job: &Job<'_, Columns>, rows: Vec<(Key, Group)>) -> Result<Answer, AllocError>
     ensures text { IfOk result (λ answer. IsTableFile job.now.form job.now.columns.now (noted job.now.order)
         (is_none job.now.row_order.files) rows.items answer.bytes.items) }
     ensures status { IfOk result (λ answer. answer.status ≡ 0) }

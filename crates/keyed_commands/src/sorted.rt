@@ -131,7 +131,7 @@ fn changes_of_part(
 }
 
 // The same as CSV, with the names of the columns as they are marked.
-fn csv_of_part(job: &Job<'_, Columns>, marked: &Cells, part: Part) -> Result<PartAnswer, Reason>
+fn csv_of_part(job: &Job<'_, Columns>, marked: &Cells, part: Part) -> Result<PartAnswer, AllocError>
     ensures { IfOk result (λ answer. SaysChanges job.now.form job.now.columns.now marked.now
         part.left.pairs.items part.right.pairs.items answer.bytes.items answer.status) }
 {
@@ -181,7 +181,7 @@ fn join_of_part(
     job: &Job<'_, JoinColumns>,
     form: &JoinForm,
     part: Part,
-) -> Result<PartAnswer, Reason>
+) -> Result<PartAnswer, AllocError>
     ensures text { IfOk result (λ answer. form.now.format ≡ Csv → IsJoinText job.now.form job.now.columns.now
         form.now.header (noted job.now.order) (is_none job.now.row_order.files) form.now.kind
         part.left.pairs.items part.right.pairs.items answer.bytes.items) }

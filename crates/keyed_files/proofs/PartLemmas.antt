@@ -9,7 +9,10 @@ use Rattle.std.specs.declared.cmp.Ordering.{Ordering}
 use Rattle.std.specs.declared.cmp.Ordering.TheVariants.{Less, Equal, Greater}
 use Rattle.std.proofs.lemmas.List.{append-nil, length_push, map-append}
 use Rattle.keyed_rows.specs.declared.row.ReadRow.{ReadRow}
-use Rattle.keyed_files.specs.Parts.{AreRead, Fills, HasParts, IsFull, IsStep, RisesTo, Takes, TakesUpTo, first_within, is_within, key_cmp, keys_in, rises_behind}
+use Rattle.keyed_faults.specs.declared.fault.Reason.{Reason}
+use Rattle.keyed_faults.specs.declared.fault.Reason.TheVariants.{NoMemory}
+use Rattle.keyed_files.specs.Explained.{SameCount}
+use Rattle.keyed_files.specs.Parts.{AreRead, ExplainsNext, Fills, HasParts, IsFull, IsNotRising, IsStep, RisesTo, Takes, TakesUpTo, first_within, is_within, key_cmp, keys_in, rises_behind}
 use Rattle.keyed_files.specs.Reading.{GivesRecord, HasGiven, IsPicked, last_record, parts_of, picked}
 use Rattle.keyed_files.specs.declared.parts.Parts.{Parts}
 use Rattle.keyed_files.specs.declared.source.Source.{Source}
@@ -140,6 +143,12 @@ module _ {R : Type 0} (rem : R → Option (List ℕ)) where
       fills_and old new (ap (λ (p : Parts R). p.places) same ∙ places) was mid.source.value row (ap (λ (p : Parts R). p.is_ended) same ∙ unended)
       (ap (λ (p : Parts R). p.source.value) same) gives picks (subst (λ l. rises_behind l row.key ≡ true) last rises) is
       (put ∙ ap (λ l. l ++ (row ∷ [])) waits)
+
+  -- a row that is read does not wait: its key is not greater than the last one, or memory was refused
+  pub next_fallen : (parts : Parts R) (now : Source R) (row : ReadRow) (told : Reason) → GivesRecord rem parts.source.value now true
+      → IsPicked parts.places (last_record now) row → SameCount parts.source.value now → ((told ≡ NoMemory) ⊎ IsNotRising parts.last row told) → ExplainsNext rem parts told
+  next_fallen parts now row told gives are same (inl memory) = subst (ExplainsNext rem parts) (sym memory) (inl (now, same, tt, λ of. absurd of))
+  next_fallen parts now row told gives are same (inr fallen) = inr (now, row, gives, are, fallen)
 
 -- as many rows wait as are counted, or all are read
 abbrev pub IsCounted : {R : Type 0} → Parts R → ℕ → Type 0

@@ -7,7 +7,10 @@ use Rattle.std.specs.Ordering.{is_le, is_lt, nat_cmp}
 use Rattle.std.specs.declared.cmp.Ordering.{Ordering}
 use Rattle.keyed_rows.specs.declared.row.ReadRow.{ReadRow}
 use Rattle.keyed_text.specs.Texts.{AreRows}
-use Rattle.keyed_files.specs.Reading.{HasGiven, parts_of, picked}
+use Rattle.keyed_faults.specs.declared.fault.Reason.{Reason}
+use Rattle.keyed_faults.specs.declared.fault.Reason.TheVariants as reason
+use Rattle.keyed_files.specs.Explained.{ExplainsRow, IsOfRow, SameCount}
+use Rattle.keyed_files.specs.Reading.{GivesRecord, HasGiven, IsPicked, last_record, parts_of, picked}
 use Rattle.keyed_files.specs.declared.parts.Parts.{Parts}
 use Rattle.keyed_files.specs.declared.source.Source.{Source}
 
@@ -38,6 +41,11 @@ keys_in rows = map (λ row. row.key) rows
 abbrev pub RisesTo : List (List (List ℕ)) → Option (List (List ℕ)) → Type 0
 RisesTo keys None = keys ≡ []
 RisesTo keys (Some last) = (before : List (List (List ℕ))) × (keys ≡ before ++ last ∷ []) × IsStrictlySortedBy key_cmp keys
+
+-- the key of a row is not greater than the last one, and its line is told
+abbrev pub IsNotRising : Option (List (List ℕ)) → ReadRow → Reason → Type 0
+IsNotRising last row (reason.NotRising line) = (line ≡ row.line) × (rises_behind last row.key ≡ false)
+IsNotRising last row _ = ⊥
 
 module _ {R : Type 0} where
   -- as many rows wait as may, or all are read
@@ -83,3 +91,14 @@ module _ {R : Type 0} (remaining : R → Option (List ℕ)) where
         → RisesTo (keys_in (taken ++ new.waiting.items)) new.last
     pub has : (d : ℕ) (c : Option ℕ) (text : List ℕ) (given : List (List (List ℕ))) (taken : List ReadRow)
         → HasParts d c text given taken old → HasParts d c text given taken new
+
+  -- why the next row does not wait after others: it is not read, or its key is not greater than the last one
+  abbrev pub ExplainsNext : Parts R → Reason → Type 0
+  ExplainsNext parts told = ((now : Source R) × SameCount parts.source.value now × ExplainsRow now told
+      × (IsOfRow told → GivesRecord remaining parts.source.value now true))
+      ⊎ ((now : Source R) × (row : ReadRow) × GivesRecord remaining parts.source.value now true × IsPicked parts.places (last_record now) row
+      × IsNotRising parts.last row told)
+
+  -- why no more rows are read: after some the next one does not wait
+  abbrev pub ExplainsPart : Parts R → Reason → Type 0
+  ExplainsPart parts told = (mid : Parts R) × Fills parts mid × (mid.is_ended ≡ false) × ExplainsNext mid told

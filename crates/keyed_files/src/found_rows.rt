@@ -6,23 +6,22 @@ ghost use Rattle.keyed_files.specs.Writing.{PutsCells, PutsRows};
 
 use crate::written::Written;
 use keyed_columns::{Columns, JoinColumns};
-use keyed_faults::Reason;
 use keyed_rows::{Cells, Key};
+use std::alloc::AllocError;
 
 impl Written {
     /// Puts a row of the left table, and after it the cells that were found, or as many empty ones.
     ///
     /// # Errors
     ///
-    /// Returns `CellCount` if a row has more or fewer cells than the first one, and `NoMemory`, or `Io` with the error that the
-    /// writer makes of it, if a request for memory was refused.
+    /// Returns `AllocError` if a request for memory was refused.
     pub fn put_found(
         &mut self,
         columns: &JoinColumns,
         key: &Key,
         rest: &Cells,
         found: Option<&Cells>,
-    ) -> Result<(), Reason>
+    ) -> Result<(), AllocError>
         ensures { OnOk result (PutsRows self.old self.new
             (found_row columns.now key.now rest.now (option_map (λ cells. cells.now) found.entry) ∷ [])) }
     {
@@ -37,7 +36,7 @@ impl Written {
         &mut self,
         columns: &JoinColumns,
         found: Option<&Cells>,
-    ) -> Result<(), Reason>
+    ) -> Result<(), AllocError>
         ensures { OnOk result (PutsCells self.old self.new
             (found_cells columns.now (option_map (λ cells. cells.now) found.entry))) }
     {
@@ -52,7 +51,7 @@ impl Written {
     /// # Errors
     ///
     /// Returns the errors of `put_found`.
-    pub fn put_lone(&mut self, columns: &Columns, key: &Key, rest: &Cells) -> Result<(), Reason>
+    pub fn put_lone(&mut self, columns: &Columns, key: &Key, rest: &Cells) -> Result<(), AllocError>
         ensures { OnOk result (PutsRows self.old self.new
             (placed columns.now.order.items key.now rest.now ∷ [])) }
     {

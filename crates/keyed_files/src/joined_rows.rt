@@ -6,8 +6,8 @@ ghost use Rattle.keyed_files.specs.Writing.{PutsCells, PutsRows};
 
 use crate::written::Written;
 use keyed_columns::JoinColumns;
-use keyed_faults::Reason;
 use keyed_rows::{Cells, Group, Key};
+use std::alloc::AllocError;
 
 /// What a row of a join has: the rows of each side, and a cell that stands before its key, if there is one.
 #[derive(Clone, Copy)]
@@ -22,9 +22,8 @@ impl Written {
     ///
     /// # Errors
     ///
-    /// Returns `CellCount` if a row has more or fewer cells than the first one, and `NoMemory`, or `Io` with the error that the
-    /// writer makes of it, if a request for memory was refused.
-    pub fn put_join_heading(&mut self, header: &Cells) -> Result<(), Reason>
+    /// Returns `AllocError` if a request for memory was refused.
+    pub fn put_join_heading(&mut self, header: &Cells) -> Result<(), AllocError>
         ensures { OnOk result (PutsRows self.old self.new (join_heading header.now)) }
     {
         if header.is_empty() {
@@ -39,14 +38,13 @@ impl Written {
     ///
     /// # Errors
     ///
-    /// Returns `CellCount` if a row has more or fewer cells than the first one, and `NoMemory`, or `Io` with the error that the
-    /// writer makes of it, if a request for memory was refused.
+    /// Returns `AllocError` if a request for memory was refused.
     pub fn put_joined(
         &mut self,
         columns: &JoinColumns,
         key: &Key,
         sides: Sides<'_>,
-    ) -> Result<(), Reason>
+    ) -> Result<(), AllocError>
         ensures { OnOk result (PutsRows self.old self.new (joined_rows columns.now key.now sides.entry)) }
     {
         for place in 0..count_of(sides.left) {
@@ -62,7 +60,7 @@ impl Written {
         key: &Key,
         sides: Sides<'_>,
         left: usize,
-    ) -> Result<(), Reason>
+    ) -> Result<(), AllocError>
         ensures { OnOk result (PutsRows self.old self.new
             (rows_beside columns.now key.now sides.entry left)) }
     {
@@ -80,7 +78,7 @@ impl Written {
         sides: Sides<'_>,
         left: usize,
         right: usize,
-    ) -> Result<(), Reason>
+    ) -> Result<(), AllocError>
         ensures { OnOk result (PutsRows self.old self.new
             (joined_row columns.now key.now sides.entry left right ∷ [])) }
     {
@@ -93,7 +91,7 @@ impl Written {
     }
 
     // Puts the cells of a key.
-    fn put_key(&mut self, key: &Key) -> Result<(), Reason>
+    fn put_key(&mut self, key: &Key) -> Result<(), AllocError>
         ensures { OnOk result (PutsCells self.old self.new key.now) }
     {
         for cell in key.iter() {
@@ -103,7 +101,12 @@ impl Written {
     }
 
     // Puts a row of a side, or an empty cell for each name of its columns.
-    fn put_side(&mut self, side: Option<&Group>, place: usize, names: &Cells) -> Result<(), Reason>
+    fn put_side(
+        &mut self,
+        side: Option<&Group>,
+        place: usize,
+        names: &Cells,
+    ) -> Result<(), AllocError>
         ensures { OnOk result (PutsCells self.old self.new
             (side_row (option_map (λ group. group.now) side.entry) place names.now)) }
     {
@@ -114,7 +117,7 @@ impl Written {
     }
 
     // Puts an empty cell for each of these names.
-    pub(crate) fn put_absent(&mut self, names: &Cells) -> Result<(), Reason>
+    pub(crate) fn put_absent(&mut self, names: &Cells) -> Result<(), AllocError>
         ensures { OnOk result (PutsCells self.old self.new (map (λ name. []) names.now)) }
     {
         for _name in names {

@@ -55,6 +55,7 @@ impl<'a, R> Opened<'a, R> {
     /// Returns as a fault of the file the errors of `rename_key`.
     pub fn rename(&mut self, alloc: Global, settings: Settings<'_>) -> Result<(), Fault<'a>>
         ensures named { OnOk result (IsNamedAnew settings.entry self.old.source.value self.new.source.value) }
+        ensures same { self.new ≡ record self.old { source = self.new.source } }
         ensures file { IfErr result (λ fault. fault.file ≡ self.old.file) }
         ensures why { IfErr result
             (λ fault. ExplainsNamingAnew settings.entry self.old.source.value fault.reason) }
@@ -113,6 +114,7 @@ impl<'a, R: Read + Drop> Opened<'a, R> {
         stream: Stream<'a, R>,
     ) -> Result<Self, Fault<'a>>
         ensures opened { IfOk result (IsOpened R.remaining form content stream.entry) }
+        ensures named { IfOk result (λ opened. opened.file ≡ stream.entry.file) }
         ensures gone { IfOk result (IsGoneRead R.remaining form content stream.entry) }
         ensures file { IfErr result (λ fault. fault.file ≡ stream.entry.file) }
         ensures why { IfErr result (λ fault. ExplainsOpening stream.entry.reader fault.reason) }
@@ -242,6 +244,8 @@ impl<'a, R: Read + Drop> Two<'a, R> {
     ) -> Result<Self, Fault<'a>>
         ensures first { IfOk result (λ two. IsOpened R.remaining form Rows first.entry two.first) }
         ensures next { IfOk result (λ two. IsOpened R.remaining form content next.entry two.next) }
+        ensures first_named { IfOk result (λ two. two.first.file ≡ first.entry.file) }
+        ensures next_named { IfOk result (λ two. two.next.file ≡ next.entry.file) }
         ensures gone { IfOk result (λ two. IsGoneRead R.remaining form content next.entry two.next) }
         ensures why { IfErr result (ExplainsBoth first.entry next.entry) }
     {

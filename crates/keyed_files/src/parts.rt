@@ -1,7 +1,11 @@
 //! A table whose keys are strictly increasing, read part by part.
-ghost use Rattle.std.specs.Prelude.{◌≡◌, ◌++◌, ◌∷◌, [], ℕ, IfOk, List, MatchOption, None, OnOk, Option, Some};
-ghost use Rattle.std.specs.Prelude.{cond, false, is_some, option_map, true};
-ghost use Rattle.keyed_files.specs.Parts.{Fills, HasParts, IsFull, IsStep, RisesTo, TakesUpTo};
+ghost use Rattle.std.specs.Prelude.{◌≡◌, ◌++◌, ◌∷◌, ◌⊎◌, [], ℕ, IfErr, IfOk, List, MatchOption};
+ghost use Rattle.std.specs.Prelude.{None, OnOk, Option, Some, cond, false, is_some, option_map, true};
+ghost use Rattle.keyed_faults.specs.Outside.{IsApart};
+ghost use Rattle.keyed_faults.specs.declared.fault.Reason.TheVariants.{NoMemory};
+ghost use Rattle.keyed_files.specs.Explained.{ExplainsPlaces};
+ghost use Rattle.keyed_files.specs.Parts.{ExplainsNext, ExplainsPart, Fills, HasParts, IsFull, IsNotRising};
+ghost use Rattle.keyed_files.specs.Parts.{IsStep, RisesTo, TakesUpTo};
 ghost use Rattle.keyed_files.specs.Parts.{first_within, keys_in, rises_behind};
 ghost use Rattle.keyed_files.specs.Reading.{HasGiven, PlacesOf};
 
@@ -42,6 +46,9 @@ impl<'a, R: Read + Drop> Parts<'a, R> {
             (given : List (List (List ℕ)))
             → HasGiven d c R.remaining text given table.entry.source.value
             → HasParts R.remaining d c text given [] parts) }
+        ensures file { IfErr result (λ fault. fault.file ≡ table.entry.file) }
+        ensures why { IfErr result
+            (λ fault. ExplainsPlaces table.entry.source.value columns.now fault.reason) }
     {
         let places = at(table.file, table.source.places(columns))?;
         Ok(Parts {
@@ -63,6 +70,8 @@ impl<'a, R: Read + Drop> Parts<'a, R> {
     pub fn fill(&mut self) -> Result<(), Fault<'a>>
         ensures fills { OnOk result (Fills R.remaining self.old self.new) }
         ensures full { OnOk result (IsFull self.new) }
+        ensures file { IfErr result (λ fault. fault.file ≡ self.old.file) }
+        ensures why { IfErr result (λ fault. ExplainsPart R.remaining self.old fault.reason) }
     {
         at(self.file, self.read_part())
     }
@@ -71,6 +80,7 @@ impl<'a, R: Read + Drop> Parts<'a, R> {
     fn read_part(&mut self) -> Result<(), Reason>
         ensures fills { OnOk result (Fills R.remaining self.old self.new) }
         ensures full { OnOk result (IsFull self.new) }
+        ensures why { IfErr result (ExplainsPart R.remaining self.old) }
     {
         for _ in self.waiting.len()..PART {
             if self.is_ended {
@@ -86,6 +96,7 @@ impl<'a, R: Read + Drop> Parts<'a, R> {
         requires { self.now.is_ended ≡ false }
         ensures fills { OnOk result (Fills R.remaining self.old self.new) }
         ensures step { OnOk result (IsStep self.old self.new) }
+        ensures why { IfErr result (ExplainsNext R.remaining self.old) }
     {
         match self.source.read_row(&self.places)? {
             Some(row) => {
@@ -105,6 +116,7 @@ impl<'a, R: Read + Drop> Parts<'a, R> {
         ensures last { OnOk result (self.new.last ≡ Some row.key) }
         ensures puts { OnOk result (self.new.waiting.items ≡ self.old.waiting.items ++ row ∷ []) }
         ensures same { self.new ≡ record self.old { last = self.new.last; waiting = self.new.waiting } }
+        ensures why { IfErr result (λ told. (told ≡ NoMemory) ⊎ IsNotRising self.old.last row told) }
     {
         if !self.rises(&row.key) {
             return Err(Reason::NotRising(row.line));
@@ -145,14 +157,17 @@ impl<'a, R: Read + Drop> Parts<'a, R> {
         alloc: Global,
         bound: &Option<Key>,
     ) -> Result<Vec<ReadRow>, Fault<'a>>
-        ensures { IfOk result (λ rows. TakesUpTo bound.now self.old self.new rows.items) }
+        ensures rows { IfOk result (λ rows. TakesUpTo bound.now self.old self.new rows.items) }
+        ensures file { IfErr result (λ fault. fault.file ≡ self.old.file) }
+        ensures why { IfErr result (λ fault. IsApart fault.reason) }
     {
         at(self.file, self.take_rows(alloc, bound))
     }
 
     // The same, with no file.
     fn take_rows(&mut self, alloc: Global, bound: &Option<Key>) -> Result<Vec<ReadRow>, Reason>
-        ensures { IfOk result (λ rows. TakesUpTo bound.now self.old self.new rows.items) }
+        ensures rows { IfOk result (λ rows. TakesUpTo bound.now self.old self.new rows.items) }
+        ensures why { IfErr result IsApart }
     {
         let mut rows = Vec::new(alloc);
         for _ in 0..u64::MAX {

@@ -12,7 +12,6 @@ use crate::first_cell::quote_first;
 use crate::table_spelling::TableSpelling;
 use crate::written::{has_heading, write_table};
 use keyed_columns::{Columns, Place, PlacedCells};
-use keyed_faults::Reason;
 use keyed_requests::Form;
 use keyed_rows::{Cells, Group, Iter, Key};
 use keyed_text::{CellQuotes, LineEnd, Marks, RowSpelling, Style};
@@ -40,15 +39,14 @@ struct Room {
 ///
 /// # Errors
 ///
-/// Returns `CellCount` if a row has more or fewer cells than the first one, and `NoMemory`, or `Io` with the error that the
-/// writer makes of it, if a request for memory was refused.
+/// Returns `AllocError` if a request for memory was refused.
 pub fn write_spelled_table(
     alloc: Global,
     form: Form,
     columns: &Columns,
     rows: Vec<(Key, Group)>,
     table: &TableSpelling,
-) -> Result<Vec<u8>, Reason>
+) -> Result<Vec<u8>, AllocError>
     ensures { IfOk result (λ text. IsFileIn form
         (heading form None columns.now ++ table_rows columns.now.order.items rows.items) text.items) }
 {
@@ -68,7 +66,7 @@ fn write_each(
     columns: &Columns,
     rows: Vec<(Key, Group)>,
     table: &TableSpelling,
-) -> Result<Vec<u8>, Reason>
+) -> Result<Vec<u8>, AllocError>
     ensures { IfOk result (λ text. IsSpelledEachIn form
         (heading form None columns.now ++ table_rows columns.now.order.items rows.items) text.items) }
 {

@@ -9,11 +9,10 @@ use crate::checked::marks_of;
 use crate::first_cell::quote_first;
 use crate::sign::Sign;
 use keyed_columns::{Columns, Place, PlacedCells};
-use keyed_faults::Reason;
 use keyed_requests::Form;
 use keyed_rows::{Cells, Group, Key};
 use keyed_text::RowWriter;
-use std::alloc::Global;
+use std::alloc::{AllocError, Global};
 
 /// A table in the making.
 #[derive(Drop)]
@@ -35,8 +34,8 @@ impl Written {
     ///
     /// # Errors
     ///
-    /// Returns `NoMemory`, or `Io` with the error that the writer makes of it, if a request for memory was refused.
-    pub fn put(&mut self, cells: &Cells) -> Result<(), Reason>
+    /// Returns `AllocError` if a request for memory was refused.
+    pub fn put(&mut self, cells: &Cells) -> Result<(), AllocError>
         ensures { OnOk result (PutsCells self.old self.new cells.now) }
     {
         for cell in cells {
@@ -49,11 +48,11 @@ impl Written {
     ///
     /// # Errors
     ///
-    /// Returns `NoMemory`, or `Io` with the error that the writer makes of it, if a request for memory was refused.
-    pub fn put_cell(&mut self, cell: &[u8]) -> Result<(), Reason>
+    /// Returns `AllocError` if a request for memory was refused.
+    pub fn put_cell(&mut self, cell: &[u8]) -> Result<(), AllocError>
         ensures { OnOk result (PutsCells self.old self.new (cell.now ∷ [])) }
     {
-        self.rows.put_cell(cell)?;
+        self.rows.put_cell(cell).map_err(refused)?;
         Ok(())
     }
 
@@ -61,12 +60,11 @@ impl Written {
     ///
     /// # Errors
     ///
-    /// Returns `CellCount` if a row has more or fewer cells than the first one, and `NoMemory`, or `Io` with the error that the
-    /// writer makes of it, if a request for memory was refused.
-    pub fn end_row(&mut self) -> Result<(), Reason>
+    /// Returns `AllocError` if a request for memory was refused.
+    pub fn end_row(&mut self) -> Result<(), AllocError>
         ensures { OnOk result (EndsRow self.old self.new) }
     {
-        self.rows.end_row()?;
+        self.rows.end_row().map_err(refused)?;
         Ok(())
     }
 
@@ -74,21 +72,22 @@ impl Written {
     ///
     /// # Errors
     ///
-    /// Returns `NoMemory`, or `Io` with the error that the writer makes of it, if a request for memory was refused.
-    pub fn finish(self) -> Result<Vec<u8>, Reason>
+    /// Returns `AllocError` if a request for memory was refused.
+    pub fn finish(self) -> Result<Vec<u8>, AllocError>
         ensures { IfOk result (λ text. IsTextOf self text.items) }
     {
-        let text = self.rows.finish()?;
-        Ok(text)
+        match self.rows.finish() {
+            Ok(text) => Ok(text),
+            Err(error) => Err(refused(error)),
+        }
     }
 
     /// Puts the header of changes: the name of the column of signs, and the names of the columns as they are marked.
     ///
     /// # Errors
     ///
-    /// Returns `CellCount` if a row has more or fewer cells than the first one, and `NoMemory`, or `Io` with the error that the
-    /// writer makes of it, if a request for memory was refused.
-    pub fn put_change_heading(&mut self, marked: &Cells) -> Result<(), Reason>
+    /// Returns `AllocError` if a request for memory was refused.
+    pub fn put_change_heading(&mut self, marked: &Cells) -> Result<(), AllocError>
         ensures { OnOk result (PutsRows self.old self.new ((change_name ∷ marked.now) ∷ [])) }
     {
         self.put_cell(b"change")?;
@@ -98,7 +97,7 @@ impl Written {
     }
 
     // Puts a cell that stands before those of a row, if there is one.
-    pub(crate) fn put_first(&mut self, first: Option<&[u8]>) -> Result<(), Reason>
+    pub(crate) fn put_first(&mut self, first: Option<&[u8]>) -> Result<(), AllocError>
         ensures { OnOk result (PutsCells self.old self.new
             (first_cells (option_map (λ cell. cell.now) first.entry))) }
     {
@@ -114,7 +113,7 @@ impl Written {
         order: &[Place],
         key: &Key,
         rest: &Cells,
-    ) -> Result<(), Reason>
+    ) -> Result<(), AllocError>
         ensures { OnOk result (PutsCells self.old self.new (placed order.now key.now rest.now)) }
     {
         let mut cells = PlacedCells::new(key, rest);
@@ -131,7 +130,7 @@ impl Written {
         order: &[Place],
         key: &Key,
         rest: &Cells,
-    ) -> Result<(), Reason>
+    ) -> Result<(), AllocError>
         ensures { OnOk result (PutsRows self.old self.new
             ((first_cells (option_map (λ cell. cell.now) first.entry)
             ++ placed order.now key.now rest.now) ∷ [])) }
@@ -143,7 +142,7 @@ impl Written {
     }
 
     // Puts the names of columns, after a first cell if there is one, and ends the row.
-    fn put_heading(&mut self, first: Option<&[u8]>, columns: &Columns) -> Result<(), Reason>
+    fn put_heading(&mut self, first: Option<&[u8]>, columns: &Columns) -> Result<(), AllocError>
         ensures { OnOk result (PutsRows self.old self.new
             (names_row (option_map (λ cell. cell.now) first.entry) columns.now ∷ [])) }
     {
@@ -157,7 +156,7 @@ impl Written {
     }
 
     // Puts names, after a first cell if there is one, and ends the row.
-    fn put_names(&mut self, first: Option<&[u8]>, names: &Cells) -> Result<(), Reason>
+    fn put_names(&mut self, first: Option<&[u8]>, names: &Cells) -> Result<(), AllocError>
         ensures { OnOk result (PutsRows self.old self.new
             ((first_cells (option_map (λ cell. cell.now) first.entry) ++ names.now) ∷ [])) }
     {
@@ -171,15 +170,14 @@ impl Written {
     ///
     /// # Errors
     ///
-    /// Returns `CellCount` if a row has more or fewer cells than the first one, and `NoMemory`, or `Io` with the error that the
-    /// writer makes of it, if a request for memory was refused.
+    /// Returns `AllocError` if a request for memory was refused.
     pub fn put_rows(
         &mut self,
         sign: Option<Sign>,
         columns: &Columns,
         key: &Key,
         rows: &Group,
-    ) -> Result<(), Reason>
+    ) -> Result<(), AllocError>
         ensures { OnOk result (PutsRows self.old self.new
             (rows_under (option_map shown_sign sign) columns.now.order.items key.now rows.now)) }
     {
@@ -189,6 +187,11 @@ impl Written {
         }
         Ok(())
     }
+}
+
+// What it means that rows can't be written: they go into memory, and all have as many cells.
+fn refused(_error: csv::Error) -> AllocError {
+    AllocError
 }
 
 // The cell that a sign is, if there is one.
@@ -205,13 +208,13 @@ fn cell_of(sign: Option<Sign>) -> Option<&'static [u8]>
 ///
 /// # Errors
 ///
-/// Returns `NoMemory`, or `Io` with the error that the writer makes of it, if a request for memory was refused.
+/// Returns `AllocError` if a request for memory was refused.
 pub fn begin_table(
     alloc: Global,
     form: Form,
     first: Option<&[u8]>,
     columns: &Columns,
-) -> Result<Written, Reason>
+) -> Result<Written, AllocError>
     ensures { IfOk result (λ written. Wrote form
         (heading form (option_map (λ cell. cell.now) first.entry) columns.now) written) }
 {
@@ -236,14 +239,13 @@ pub(crate) fn has_heading(form: Form, first: Option<&[u8]>, columns: &Columns) -
 ///
 /// # Errors
 ///
-/// Returns `CellCount` if a row has more or fewer cells than the first one, and `NoMemory`, or `Io` with the error that the
-/// writer makes of it, if a request for memory was refused.
+/// Returns `AllocError` if a request for memory was refused.
 pub fn write_table(
     alloc: Global,
     form: Form,
     columns: &Columns,
     rows: Vec<(Key, Group)>,
-) -> Result<Vec<u8>, Reason>
+) -> Result<Vec<u8>, AllocError>
     ensures { IfOk result (λ text. text.items
         ≡ file_text form (heading form None columns.now ++ table_rows columns.now.order.items rows.items)) }
 {
@@ -260,7 +262,7 @@ fn put_table(
     written: &mut Written,
     columns: &Columns,
     rows: Vec<(Key, Group)>,
-) -> Result<(), Reason>
+) -> Result<(), AllocError>
     ensures { OnOk result (PutsRows written.old written.new (table_rows columns.now.order.items rows.items)) }
 {
     for row in rows {

@@ -8,24 +8,22 @@ use crate::job::Job;
 use either_or_both::EitherOrBoth;
 use eob_joins::Change;
 use keyed_columns::Columns;
-use keyed_faults::Reason;
 use keyed_files::{Sign, Written};
 use keyed_requests::Form;
 use keyed_rows::{Cells, Group, Key};
-use std::alloc::Global;
+use std::alloc::{AllocError, Global};
 
 /// Changes, as `apply` reads them: a row that goes begins with `-`, one that comes with `+`. The header has the names
 /// of the columns as they are marked. Each change is dropped once it is written.
 ///
 /// # Errors
 ///
-/// Returns `CellCount` if a row has more or fewer cells than the first one, and `NoMemory`, or `Io` with the error that the
-/// writer makes of it, if a request for memory was refused.
+/// Returns `AllocError` if a request for memory was refused.
 pub fn write_changes(
     job: &Job<'_, Columns>,
     marked: &Cells,
     changes: Vec<(Key, Change<Group>)>,
-) -> Result<Vec<u8>, Reason>
+) -> Result<Vec<u8>, AllocError>
     ensures { IfOk result (λ text. text.items ≡ text_of job.now.form
         (changes_heading job.now.form marked.now
         ++ changes_rows job.now.columns.now.order.items changes.items)) }
@@ -41,8 +39,8 @@ pub fn write_changes(
 ///
 /// # Errors
 ///
-/// Returns `NoMemory`, or `Io` with the error that the writer makes of it, if a request for memory was refused.
-pub fn begin_changes(alloc: Global, form: Form, marked: &Cells) -> Result<Written, Reason>
+/// Returns `AllocError` if a request for memory was refused.
+pub fn begin_changes(alloc: Global, form: Form, marked: &Cells) -> Result<Written, AllocError>
     ensures { IfOk result (λ written. Wrote form (changes_heading form marked.now) written) }
 {
     let mut written = Written::new(alloc, form);
@@ -60,7 +58,7 @@ fn put_changes(
     written: &mut Written,
     columns: &Columns,
     changes: Vec<(Key, Change<Group>)>,
-) -> Result<(), Reason>
+) -> Result<(), AllocError>
     ensures { OnOk result
         (PutsRows written.old written.new (changes_rows columns.now.order.items changes.items)) }
 {
@@ -76,7 +74,7 @@ fn put_change(
     columns: &Columns,
     key: &Key,
     change: &Change<Group>,
-) -> Result<(), Reason>
+) -> Result<(), AllocError>
     ensures { OnOk result
         (PutsRows written.old written.new (change_rows columns.now.order.items key.now change.now)) }
 {
@@ -114,7 +112,7 @@ fn put_version(
     columns: &Columns,
     key: &Key,
     rows: Option<&Group>,
-) -> Result<(), Reason>
+) -> Result<(), AllocError>
     ensures { OnOk result (PutsRows written.old written.new
         (version_rows sign columns.now.order.items key.now (option_map (λ rows. rows.now) rows.entry))) }
 {

@@ -1,6 +1,7 @@
 //! Columns that are ignored where changes are written as CSV, and the changes in which another one differs.
-ghost use Rattle.std.specs.Prelude.{◌≡◌, ◌||◌, IfOk, OnOk, map, true, zip};
+ghost use Rattle.std.specs.Prelude.{◌≡◌, ◌||◌, IfErr, IfOk, OnOk, map, true, zip};
 ghost use Rattle.std.specs.List.{list_all};
+ghost use Rattle.keyed_faults.specs.Outside.{IsApart};
 ghost use Rattle.keyed_columns.specs.ColumnNames.{has_name};
 ghost use Rattle.keyed_columns.specs.KeyText.{AreNamesIn};
 ghost use Rattle.keyed_jobs.specs.Beside.{AreCompared, changed_beside, is_compared, is_same_change};
@@ -27,8 +28,9 @@ pub fn compared_columns(
     before: &Cells,
     after: &Cells,
 ) -> Result<Vec<bool>, Reason>
-    ensures { IfOk result
+    ensures compared { IfOk result
         (λ compared. AreCompared text.now columns.now before.now after.now compared.items) }
+    ensures why { IfErr result IsApart }
 {
     let ignored = key_names(alloc, text)?;
     check_known(alloc, columns, &ignored.first)?;
@@ -38,9 +40,10 @@ pub fn compared_columns(
 
 // Tells of the first of these names that is that of no column.
 fn check_known(alloc: Global, columns: &Columns, names: &Cells) -> Result<(), Reason>
-    ensures { OnOk result
+    ensures known { OnOk result
         (list_all (λ name. has_name columns.now.key name || has_name columns.now.rest name) names.now
         ≡ true) }
+    ensures why { IfErr result IsApart }
 {
     for name in names {
         if !has_column(columns, name) {

@@ -322,6 +322,8 @@ impl Job<'_, Columns> {
             placed_with (noted self.old.order) (noted self.new.order)) }
         ensures same { self.new ≡ record self.old { order = self.new.order; row_order = self.new.row_order } }
         ensures unordered { OnOk result (IsUnordered self.old → IsUnordered self.new) }
+        ensures first_header { sides.new.first.source.value.header ≡ sides.old.first.source.value.header }
+        ensures first_named { sides.new.first.file ≡ sides.old.first.file }
         ensures why { IfErr result (ExplainsTables R.remaining self.old.groups self.old.columns.now
             self.old.columns.now sides.old) }
     {
@@ -349,6 +351,8 @@ impl Job<'_, Columns> {
             noted_with (noted self.old.order) (noted self.new.order)) }
         ensures same { self.new ≡ record self.old { order = self.new.order; row_order = self.new.row_order } }
         ensures unordered { OnOk result (IsUnordered self.old → IsUnordered self.new) }
+        ensures first_header { inputs.new.first.source.value.header ≡ inputs.old.first.source.value.header }
+        ensures first_named { inputs.new.first.file ≡ inputs.old.first.file }
         ensures why { IfErr result
             (ExplainsInputs R.remaining self.old.groups self.old.columns.now inputs.old) }
     {

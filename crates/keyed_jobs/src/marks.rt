@@ -16,7 +16,6 @@ use crate::job::Job;
 use crate::row_order::{Grouped, RowOrder};
 use eob_joins::{Marked, Versions};
 use keyed_columns::Columns;
-use keyed_faults::Reason;
 use keyed_files::{Written, begin_table, quote_first};
 use keyed_rows::{Group, Key};
 use std::alloc::{AllocError, Global};
@@ -54,13 +53,12 @@ fn is_in_conflict(row: &Marked<Group>) -> bool
 ///
 /// # Errors
 ///
-/// Returns `CellCount` if a row has more or fewer cells than the first one, and `NoMemory`, or `Io` with the error that the
-/// writer makes of it, if a request for memory was refused.
+/// Returns `AllocError` if a request for memory was refused.
 pub fn answer_with_marks(
     job: &Job<'_, Columns>,
     how: Telling<'_>,
     rows: Vec<(Key, Marked<Group>)>,
-) -> Result<Answer, Reason>
+) -> Result<Answer, AllocError>
     ensures { IfOk result (AnswersMarkedFile job.now.form job.now.columns.now (noted job.now.order)
         (is_none job.now.row_order.files) how.entry.unit how.entry.alikes.now rows.items) }
 {
@@ -79,7 +77,7 @@ fn write_marked(
     job: &Job<'_, Columns>,
     how: Telling<'_>,
     rows: Vec<(Key, Marked<Group>)>,
-) -> Result<Vec<u8>, Reason>
+) -> Result<Vec<u8>, AllocError>
     ensures { IfOk result (λ file. file.items ≡ marked_file job.now.form job.now.columns.now
         how.entry.unit how.entry.alikes.now rows.items) }
 {
@@ -100,7 +98,7 @@ struct Text {
 
 impl Text {
     // The heading of a table, if it has one.
-    fn begun(job: &Job<'_, Columns>) -> Result<Self, Reason>
+    fn begun(job: &Job<'_, Columns>) -> Result<Self, AllocError>
         ensures { IfOk result (HasText job.now.form
             (text_of job.now.form (heading job.now.form None job.now.columns.now))) }
     {
@@ -117,7 +115,7 @@ impl Text {
         job: &Job<'_, Columns>,
         how: Telling<'_>,
         rows: Vec<(Key, Marked<Group>)>,
-    ) -> Result<Self, Reason>
+    ) -> Result<Self, AllocError>
         ensures { IfOk result (λ text. PutsText job.now.form self text
             (marked_rows_text job.now.form job.now.columns.now.order.items
             how.entry.unit how.entry.alikes.now rows.items)) }
@@ -136,7 +134,7 @@ impl Text {
         how: Telling<'_>,
         key: &Key,
         row: Marked<Group>,
-    ) -> Result<Self, Reason>
+    ) -> Result<Self, AllocError>
         ensures { IfOk result (λ text. PutsText job.now.form self text
             (marked_text job.now.form job.now.columns.now.order.items
             how.entry.unit how.entry.alikes.now key.now row)) }
@@ -151,7 +149,7 @@ impl Text {
     }
 
     // The text with the rows under a key after it.
-    fn with_rows(self, job: &Job<'_, Columns>, key: &Key, rows: &Group) -> Result<Self, Reason>
+    fn with_rows(self, job: &Job<'_, Columns>, key: &Key, rows: &Group) -> Result<Self, AllocError>
         ensures { IfOk result (λ text. PutsText job.now.form self text
             (group_text job.now.form job.now.columns.now.order.items key.now rows.now)) }
     {
@@ -161,7 +159,7 @@ impl Text {
     }
 
     // The text with all its rows among the bytes that stay as they are.
-    fn flushed(self, job: &Job<'_, Columns>) -> Result<Self, Reason>
+    fn flushed(self, job: &Job<'_, Columns>) -> Result<Self, AllocError>
         ensures { IfOk result (KeepsText job.now.form self) }
     {
         let Text { mut bytes, written } = self;
@@ -174,7 +172,7 @@ impl Text {
     }
 
     // The text with a line after it that is no row, and so has no quotes in any style.
-    fn with_line(self, job: &Job<'_, Columns>, line: &str) -> Result<Self, Reason>
+    fn with_line(self, job: &Job<'_, Columns>, line: &str) -> Result<Self, AllocError>
         ensures { IfOk result (λ text. PutsText job.now.form self text (line_text job.now.form line.now)) }
     {
         let Text { mut bytes, written } = self.flushed(job)?;
@@ -189,7 +187,7 @@ impl Text {
         job: &Job<'_, Columns>,
         key: &Key,
         versions: &Versions<Group>,
-    ) -> Result<Self, Reason>
+    ) -> Result<Self, AllocError>
         ensures { IfOk result (λ text. PutsText job.now.form self text
             (versions_text job.now.form job.now.columns.now.order.items key.now versions.now)) }
     {
@@ -208,7 +206,7 @@ impl Text {
         job: &Job<'_, Columns>,
         key: &Key,
         rows: Option<&Group>,
-    ) -> Result<Self, Reason>
+    ) -> Result<Self, AllocError>
         ensures { IfOk result (λ text. PutsText job.now.form self text
             (version_text job.now.form job.now.columns.now.order.items key.now
             (option_map (λ rows. rows.now) rows.entry))) }

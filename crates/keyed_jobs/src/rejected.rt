@@ -9,7 +9,6 @@ use crate::changes::write_changes;
 use crate::job::Job;
 use eob_joins::Change;
 use keyed_columns::{Columns, Fate, PlacedCells};
-use keyed_faults::Reason;
 use keyed_requests::Form;
 use keyed_rows::{Cells, Group, Key};
 use std::alloc::{AllocError, Global};
@@ -32,7 +31,7 @@ pub fn changes_text(
     job: &Job<'_, Columns>,
     how: &ChangesForm,
     changes: Vec<(Key, Change<Group>)>,
-) -> Result<Vec<u8>, Reason>
+) -> Result<Vec<u8>, AllocError>
     ensures { IfOk result (λ text. IsChangesText how.now job.now.columns.now (noted job.now.order)
         (is_none job.now.row_order.files) changes.items text.items) }
 {

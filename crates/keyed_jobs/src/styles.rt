@@ -1,6 +1,9 @@
 //! How a table is written, as far as it is read: what is noted of its bytes on their way to the reader of CSV.
-ghost use Rattle.std.specs.Prelude.{◌≡◌, IfOk, IfSome};
+ghost use Rattle.std.specs.Prelude.{◌≡◌, ◌⊎◌, IfErr, IfOk, IfSome};
 ghost use Rattle.std.specs.Io.KnownBytes.{Keeps};
+ghost use Rattle.keyed_faults.specs.Outside.{IsApart};
+ghost use Rattle.keyed_faults.specs.declared.fault.Reason.{Reason};
+ghost use Rattle.keyed_files.specs.Explained.{ExplainsOpening, ExplainsPlaces};
 ghost use Rattle.keyed_files.specs.Opening.{form_of, text_of_stream};
 ghost use Rattle.keyed_files.specs.Reading.{text_read};
 ghost use Rattle.keyed_requests.specs.declared.request.Form.{Form};
@@ -110,7 +113,11 @@ fn first(bytes: &[u8], count: usize) -> &[u8] {
 pub fn spelling_of<'a, R: Read + Drop>(
     job: &Job<'_, Columns>,
     table: &Opened<'a, Watched<R>>,
-) -> Result<TableSpelling, Fault<'a>> {
+) -> Result<TableSpelling, Fault<'a>>
+    ensures file { IfErr result (λ fault. fault.file ≡ table.now.file) }
+    ensures why { IfErr result (λ fault.
+        ExplainsPlaces table.now.source.value job.now.columns.now fault.reason ⊎ IsApart fault.reason) }
+{
     let found_by = if job.groups {
         FoundBy::Cells
     } else {
@@ -159,6 +166,11 @@ pub fn watch<'a, R: Read + Drop>(
         (text_of_stream (watched_left R.remaining) form read.0)) }
     ensures style { IfOk result (λ read. IfSome (text_of_stream (watched_left R.remaining) form read.0)
         (IsNoted (form_of form read.0) read.1)) }
+    ensures named { IfOk result (λ read. read.0.file ≡ stream.entry.file) }
+    ensures opens { IfOk result (λ read. (told : Reason) → ExplainsOpening read.0.reader told
+        → ExplainsOpening stream.entry.reader told) }
+    ensures file { IfErr result (λ fault. fault.file ≡ stream.entry.file) }
+    ensures why { IfErr result (λ fault. ExplainsOpening stream.entry.reader fault.reason) }
 {
     let Stream {
         file,
@@ -190,6 +202,7 @@ fn watched_reader<R: Read + Drop>(
         (text_read form (watched_left R.remaining read.0))) }
     ensures style { IfOk result (λ read. IfSome (text_read form (watched_left R.remaining read.0))
         (IsNoted form read.1)) }
+    ensures why { IfErr result IsApart }
 {
     let marks = marks_of(form);
     let skipped = form.reading.skipped;
@@ -219,7 +232,9 @@ fn marks_of(form: Form) -> Marks
 }
 
 // Why a text is not read, by the error of its reader.
-fn reason_of(error: io::Error) -> Reason {
+fn reason_of(error: io::Error) -> Reason
+    ensures { IsApart result }
+{
     if error.kind() == ErrorKind::OutOfMemory {
         Reason::NoMemory
     } else {
@@ -232,6 +247,9 @@ pub fn unwatched<'a, R: Read>(alloc: Global, stream: Stream<'a, R>) -> Stream<'a
     ensures form { (form : Form) → form_of form result ≡ form_of form stream.entry }
     ensures text { (form : Form) → text_of_stream (watched_left R.remaining) form result
         ≡ text_of_stream R.remaining form stream.entry }
+    ensures named { result.file ≡ stream.entry.file }
+    ensures opens { (told : Reason) → ExplainsOpening result.reader told
+        → ExplainsOpening stream.entry.reader told }
 {
     let Stream {
         file,

@@ -19,4 +19,4 @@ returns c =
     merge_unresolved (told refl) (record { key = refl; renames = refl; order = refl }) id_a id_a id_a (one_x ∷ []) (one_y ∷ []) (one_z ∷ [])
     (known_text _ _ _ _ _ c.as_slice.ensures refl with_x refl) (known_text _ _ _ _ _ c.as_slice-2.ensures refl with_y refl) (known_text _ _ _ _ _ c.as_slice-3.ensures refl with_z refl)
     ((codes "1" ∷ [], codes "x" ∷ []) ∷ []) ((codes "1" ∷ [], codes "y" ∷ []) ∷ []) ((codes "1" ∷ [], codes "z" ∷ []) ∷ []) (tt, tt) (tt, tt) (tt, tt)
-    (IsPermutation-refl _) (IsPermutation-refl _) (IsPermutation-refl _) refl refl (codes "1" ∷ []) refl) c.merge.ensures
+    (IsPermutation-refl _) (IsPermutation-refl _) (IsPermutation-refl _) refl refl (codes "1" ∷ []) refl) c.merge.ensures.answer

@@ -18,4 +18,4 @@ returns c =
     (known_text _ _ _ _ _ c.as_slice.ensures refl with_x_and_y refl) (known_changes _ _ _ _ _ c.as_slice-2.ensures refl without_column refl)
     ((codes "1" ∷ [], codes "x" ∷ []) ∷ (codes "2" ∷ [], codes "y" ∷ []) ∷ []) ((codes "1" ∷ [], codes "x" ∷ []) ∷ []) []
     (tt, (refl, tt)) (tt, tt) tt (IsPermutation-refl _) (IsPermutation-refl _) (IsPermutation-refl _)
-    (refl, tt) refl) c.apply.ensures
+    (refl, tt) refl) c.apply.ensures.answer

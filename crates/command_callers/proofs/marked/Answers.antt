@@ -28,4 +28,4 @@ returns c =
     ((codes "1" ∷ [], codes "x" ∷ []) ∷ []) ((codes "1" ∷ [], codes "y" ∷ []) ∷ []) ((codes "1" ∷ [], codes "z" ∷ []) ∷ (codes "2" ∷ [], codes "y" ∷ []) ∷ []) (tt, tt) (tt, tt) (tt, (refl, tt))
     (IsPermutation-refl _) (IsPermutation-refl _) (IsPermutation-refl _)
     unit.Row can_nothing GivesNothing (λ b p q v w given. absurd given) (merged rows_eq) (λ b o t rows are. are) refl refl ((λ settled. absurd (true≢false settled)), ((λ settled. refl), tt))
-    plainly (known_style _ _ _ _ plainly c.as_slice-2.ensures refl refl) refl refl _ (λ ends. refl)) c.merge.ensures
+    plainly (known_style _ _ _ _ plainly c.as_slice-2.ensures refl refl) refl refl _ (λ ends. refl)) c.merge.ensures.answer

@@ -27,4 +27,4 @@ returns c =
     ((codes "1" ∷ [], codes "x" ∷ codes "y" ∷ []) ∷ []) ((codes "1" ∷ [], codes "z" ∷ codes "y" ∷ []) ∷ []) ((codes "1" ∷ [], codes "v" ∷ codes "w" ∷ []) ∷ []) (tt, tt) (tt, tt) (tt, tt)
     (IsPermutation-refl _) (IsPermutation-refl _) (IsPermutation-refl _)
     unit.Cell can_by_row GivesRow gives_once merged_by_cell (λ b o t rows are. are) refl refl ((λ settled. absurd (true≢false settled)), tt)
-    plainly (known_style _ _ _ _ plainly c.as_slice-2.ensures refl refl) refl refl _ (λ ends. refl)) c.merge.ensures
+    plainly (known_style _ _ _ _ plainly c.as_slice-2.ensures refl refl) refl refl _ (λ ends. refl)) c.merge.ensures.answer

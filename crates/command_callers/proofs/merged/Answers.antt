@@ -25,4 +25,4 @@ returns c =
           (IsPermutation-refl _) (IsPermutation-refl _) (IsPermutation-refl _)
           fully (known_style _ _ _ _ fully c.as_slice-2.ensures refl refl) refl refl (refl, (refl, tt)) refl;
       whole = refl;
-    }) c.merge.ensures
+    }) c.merge.ensures.answer

@@ -27,4 +27,4 @@ returns c =
           plainly (known_style _ _ _ _ plainly c.as_slice-2.ensures refl refl) refl refl (refl, tt)
           (merged_map (codes "x" ∷ codes "y" ∷ []) (codes "z" ∷ codes "y" ∷ []) (codes "x" ∷ codes "w" ∷ []) (codes "z" ∷ codes "w" ∷ []) refl refl, tt) refl;
       whole = refl;
-    }) c.merge.ensures
+    }) c.merge.ensures.answer

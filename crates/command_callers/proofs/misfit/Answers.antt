@@ -18,4 +18,4 @@ returns c =
     (known_text _ _ _ _ _ c.as_slice.ensures refl with_x refl) (known_changes _ _ _ _ _ c.as_slice-2.ensures refl without_y refl)
     ((codes "1" ∷ [], codes "x" ∷ []) ∷ []) ((codes "2" ∷ [], codes "y" ∷ []) ∷ []) []
     (tt, tt) (tt, tt) tt (IsPermutation-refl _) (IsPermutation-refl _) (IsPermutation-refl _)
-    (λ fits. some_none _ (fits (codes "2" ∷ [])))) c.apply.ensures
+    (λ fits. some_none _ (fits (codes "2" ∷ [])))) c.apply.ensures.answer

@@ -18,4 +18,4 @@ returns c =
     (known_text _ _ _ _ _ c.as_slice.ensures refl with_x refl) (known_changes _ _ _ _ _ c.as_slice-2.ensures refl from_z_to_y refl)
     ((codes "1" ∷ [], codes "x" ∷ []) ∷ []) ((codes "1" ∷ [], codes "z" ∷ []) ∷ []) ((codes "1" ∷ [], codes "y" ∷ []) ∷ [])
     (tt, tt) (tt, tt) (tt, tt) (IsPermutation-refl _) (IsPermutation-refl _) (IsPermutation-refl _)
-    (λ fits. different (codes "z") (codes "x") refl (same_cell _ _ (fits (codes "1" ∷ []))))) c.apply.ensures
+    (λ fits. different (codes "z") (codes "x") refl (same_cell _ _ (fits (codes "1" ∷ []))))) c.apply.ensures.answer

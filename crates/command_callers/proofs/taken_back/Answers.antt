@@ -25,4 +25,4 @@ returns c =
           (tt, tt) (tt, tt) (tt, tt) (IsPermutation-refl _) (IsPermutation-refl _) (IsPermutation-refl _)
           (refl, tt) fully (known_style _ _ _ _ fully c.as_slice.ensures refl refl) refl;
       whole = refl;
-    }) c.apply.ensures
+    }) c.apply.ensures.answer

@@ -1,5 +1,5 @@
 //! The answer to `apply`, of streams: a table with changes made to it, or a report of those that do not fit.
-ghost use Rattle.std.specs.Prelude.{◌≡◌, ◌↔◌, IfOk, IsTrue, MatchBool, is_none, option_map};
+ghost use Rattle.std.specs.Prelude.{◌≡◌, ◌↔◌, IfErr, IfOk, IsTrue, MatchBool, is_none, option_map};
 ghost use Rattle.either_or_both.specs.Prelude.{left_place, right_place};
 ghost use Rattle.keyed_tables.specs.Arranged.{noted};
 ghost use Rattle.keyed_jobs.specs.NotedStyles.{watched_left};
@@ -7,13 +7,14 @@ ghost use Rattle.keyed_jobs.specs.Answers.{AllFit, AnswersPatched, Stops, fits_p
 ghost use Rattle.keyed_jobs.specs.MadeChanges.{made_with};
 ghost use Rattle.keyed_jobs.specs.Turned.{changes_in};
 ghost use Rattle.keyed_commands.specs.AppliedTexts.{AnswersApplied, AppliesSources, AppliesStreams};
+ghost use Rattle.keyed_commands.specs.Unanswered.{ExplainsApply, ExplainsChange};
 
 use crate::made_table::answer_of_rows;
 use either_or_both::EitherOrBoth;
 use either_or_both::join::{outer_join, outer_join_slices};
 use eob_joins::Change;
 use keyed_columns::{Columns, Content};
-use keyed_faults::{Fault, Reason, at};
+use keyed_faults::{Fault, at};
 use keyed_files::{Stream, Two};
 use keyed_jobs::{
     Answer, Changes, Job, Table, Watched, made_changes, missing_columns, spelling_of, stopped,
@@ -41,7 +42,10 @@ pub fn apply<'a, R: Read + Drop>(
     old: Stream<'a, R>,
     changes: Stream<'a, R>,
 ) -> Result<Answer, Fault<'a>>
-    ensures { IfOk result (AppliesStreams R.remaining settings.entry direction old.entry changes.entry) }
+    ensures answer { IfOk result
+        (AppliesStreams R.remaining settings.entry direction old.entry changes.entry) }
+    ensures why { IfErr result (ExplainsApply R.remaining (watched_left R.remaining) settings.entry direction
+        old.entry changes.entry) }
 {
     let watched = watch(alloc, settings.form, old)?;
     let (old, first_style) = watched;
@@ -64,8 +68,10 @@ fn apply_files<'a, R: Read + Drop>(
     direction: Direction,
     inputs: &mut Two<'a, Watched<R>>,
 ) -> Result<Answer, Fault<'a>>
-    ensures { IfOk result
+    ensures answer { IfOk result
         (AppliesSources (watched_left R.remaining) job.entry first_style direction inputs.old) }
+    ensures why { IfErr result (ExplainsChange (watched_left R.remaining) job.entry.groups
+        job.entry.columns.now inputs.old) }
 {
     let (before, after) = (inputs.first.header(), inputs.next.header());
     let missing = missing_columns(job.alloc, before, after, &job.columns.rest);
@@ -89,7 +95,7 @@ fn apply_in(
     direction: Direction,
     old: Table,
     changes: Changes,
-) -> Result<Answer, Reason>
+) -> Result<Answer, AllocError>
     ensures { IfOk result (AnswersApplied job.now.form job.now.columns.now (noted job.now.order)
         (is_none job.now.row_order.files) old.pairs.items (made_with
         (option_map (λ are. are.items) missing) old.pairs.items (changes_in direction changes.pairs.items))) }
@@ -100,7 +106,7 @@ fn apply_in(
 }
 
 // The answer to `apply`: the table with the changes made to it, where each of them fits, and else a report of those that do not.
-fn apply_tables(job: &Job<'_, Columns>, old: Table, changes: Changes) -> Result<Answer, Reason>
+fn apply_tables(job: &Job<'_, Columns>, old: Table, changes: Changes) -> Result<Answer, AllocError>
     ensures fits { IfOk result (λ answer. AllFit key_cmp old.pairs.items changes.pairs.items
         → AnswersPatched job.now.form job.now.columns.now (noted job.now.order)
         (is_none job.now.row_order.files) old.pairs.items changes.pairs.items answer) }
@@ -118,7 +124,7 @@ fn apply_if(
     fit: bool,
     old: Table,
     changes: Changes,
-) -> Result<Answer, Reason>
+) -> Result<Answer, AllocError>
     ensures { IfOk result (λ answer. MatchBool fit
         (AnswersPatched job.now.form job.now.columns.now (noted job.now.order)
         (is_none job.now.row_order.files) old.pairs.items changes.pairs.items answer) (Stops answer)) }
@@ -133,7 +139,7 @@ fn apply_if(
 }
 
 // The table with changes made to it that fit.
-fn apply_fitting(job: &Job<'_, Columns>, old: Table, changes: Changes) -> Result<Answer, Reason>
+fn apply_fitting(job: &Job<'_, Columns>, old: Table, changes: Changes) -> Result<Answer, AllocError>
     ensures { IfOk result (AnswersPatched job.now.form job.now.columns.now (noted job.now.order)
         (is_none job.now.row_order.files) old.pairs.items changes.pairs.items) }
 {
@@ -143,7 +149,11 @@ fn apply_fitting(job: &Job<'_, Columns>, old: Table, changes: Changes) -> Result
 }
 
 // Changes that do not fit, as a report.
-fn report_misfits(job: &Job<'_, Columns>, old: Table, changes: Changes) -> Result<Answer, Reason>
+fn report_misfits(
+    job: &Job<'_, Columns>,
+    old: Table,
+    changes: Changes,
+) -> Result<Answer, AllocError>
     ensures { IfOk result Stops }
 {
     let text = render_misfits(job, (old, changes))?;

@@ -1,7 +1,8 @@
 //! The answer to `diff`, of streams: what changed between two tables.
 //!
 //! Like each command it has three steps: the headers are read, then the rows under their columns, and then the tables are answered.
-ghost use Rattle.std.specs.Prelude.{◌≡◌, ◌↔◌, ◌==◌, ◌&&◌, IfOk, None, is_none, length, not};
+ghost use Rattle.std.specs.Prelude.{◌≡◌, ◌↔◌, ◌==◌, ◌&&◌, IfErr, IfOk, None, is_none, length, not};
+ghost use Rattle.keyed_faults.specs.Outside.{IsApart};
 ghost use Rattle.keyed_reports.specs.TableLines.{TellsTable};
 ghost use Rattle.keyed_requests.specs.declared.request.Format.TheVariants as format;
 ghost use Rattle.keyed_columns.specs.ChangedColumns.{marked_columns};
@@ -18,6 +19,7 @@ ghost use Rattle.keyed_commands.specs.DiffOnly.{AreChangeColumnsBy, DiffsOnlySou
 ghost use Rattle.keyed_commands.specs.DiffOnly.{DiffsStreamsBy};
 ghost use Rattle.keyed_commands.specs.Reported.{AreComparedColumns, IsReport, ReportsSources, ReportsStreams};
 ghost use Rattle.keyed_commands.specs.Reported.{TellsChanges};
+ghost use Rattle.keyed_commands.specs.Unanswered.{ExplainsDiff, ExplainsVersions};
 
 use eob_joins::Change;
 use keyed_columns::{
@@ -53,6 +55,7 @@ pub fn diff<'a, R: Read + Drop>(
         DiffsStreamsBy R.remaining how.entry.view.columns settings.entry old.entry new.entry answer) }
     ensures report { IfOk result (λ answer. IsReport how.entry.format → how.entry.sameness ≡ None →
         ReportsStreams R.remaining how.entry settings.entry old.entry new.entry answer) }
+    ensures why { IfErr result (ExplainsDiff R.remaining settings.entry how.entry old.entry new.entry) }
 {
     let mut versions = Two::new(alloc, settings.form, Content::Rows, old, new)?;
     versions.first.rename(alloc, settings)?;
@@ -72,6 +75,7 @@ fn columns_of_diff<'a, R>(
         (next_header versions.now) columns) }
     ensures report { IfOk result (λ columns. IsReport how.entry.format →
         AreComparedColumns how.entry.view.columns settings.entry.key (headers_of versions.now) columns) }
+    ensures why { IfErr result (λ fault. IsApart fault.reason) }
 {
     match how.format {
         Format::Csv => columns_changed(alloc, settings.key, how.view.columns, versions),
@@ -86,8 +90,9 @@ fn columns_changed<'a, R>(
     picked: Picked<'_>,
     versions: &Two<'a, R>,
 ) -> Result<Columns, Fault<'a>>
-    ensures { IfOk result (AreChangeColumnsBy picked.entry key.entry
+    ensures columns { IfOk result (AreChangeColumnsBy picked.entry key.entry
         (first_header versions.now) (next_header versions.now)) }
+    ensures why { IfErr result (λ fault. IsApart fault.reason) }
 {
     match picked {
         Picked::All => versions.change_columns(alloc, key),
@@ -103,9 +108,10 @@ fn columns_only<'a, R>(
     picked: Picked<'_>,
     versions: &Two<'a, R>,
 ) -> Result<Columns, Fault<'a>>
-    ensures { IfOk result (λ columns. (all : Columns)
+    ensures columns { IfOk result (λ columns. (all : Columns)
         × AreChangeColumns key.entry (first_header versions.now) (next_header versions.now) all
         × ArePickedColumns picked.entry all columns) }
+    ensures why { IfErr result (λ fault. IsApart fault.reason) }
 {
     let all = versions.change_columns(alloc, key)?;
     let picked = picked_columns(alloc, picked, all);
@@ -119,8 +125,9 @@ fn columns_compared<'a, R>(
     how: Comparing<'_>,
     versions: &Two<'a, R>,
 ) -> Result<Columns, Fault<'a>>
-    ensures { IfOk result
+    ensures columns { IfOk result
         (AreComparedColumns how.entry.view.columns settings.entry.key (headers_of versions.now)) }
+    ensures why { IfErr result (λ fault. IsApart fault.reason) }
 {
     let all = versions.columns(alloc, settings.key)?;
     let tolerances = at(versions.next.file, Tolerances::new(alloc, how.sameness))?;
@@ -138,6 +145,8 @@ fn diff_files<'a, R: Read + Drop>(
         DiffsSourcesBy R.remaining how.entry.view.columns job.entry versions.old answer) }
     ensures report { IfOk result (λ answer. IsReport how.entry.format → how.entry.sameness ≡ None →
         ReportsSources R.remaining job.entry how.entry versions.old answer) }
+    ensures why { IfErr result
+        (ExplainsVersions R.remaining job.entry.groups job.entry.columns.now versions.old) }
 {
     match how.format {
         Format::Csv => diff_files_picked(job, how.view.columns, versions),
@@ -151,7 +160,9 @@ fn diff_files_picked<'a, R: Read + Drop>(
     picked: Picked<'_>,
     versions: &mut Two<'a, R>,
 ) -> Result<Answer, Fault<'a>>
-    ensures { IfOk result (DiffsSourcesBy R.remaining picked.entry job.entry versions.old) }
+    ensures answer { IfOk result (DiffsSourcesBy R.remaining picked.entry job.entry versions.old) }
+    ensures why { IfErr result
+        (ExplainsVersions R.remaining job.entry.groups job.entry.columns.now versions.old) }
 {
     match picked {
         Picked::All => diff_files_as_csv(job, versions),
@@ -165,7 +176,9 @@ fn diff_files_only<'a, R: Read + Drop>(
     mut job: Job<'_, Columns>,
     versions: &mut Two<'a, R>,
 ) -> Result<Answer, Fault<'a>>
-    ensures { IfOk result (DiffsOnlySources R.remaining job.entry versions.old) }
+    ensures answer { IfOk result (DiffsOnlySources R.remaining job.entry versions.old) }
+    ensures why { IfErr result
+        (ExplainsVersions R.remaining job.entry.groups job.entry.columns.now versions.old) }
 {
     let tables = job.read_both(versions)?;
     let marked = names_marked(job.alloc, job.columns, versions)?;
@@ -185,8 +198,9 @@ fn names_marked<'a, R>(
     columns: &Columns,
     versions: &Two<'a, R>,
 ) -> Result<Cells, Fault<'a>>
-    ensures { IfOk result (λ marked. marked
+    ensures marked { IfOk result (λ marked. marked
         ≡ marked_columns columns.now (first_header versions.now) (next_header versions.now)) }
+    ensures why { IfErr result (λ fault. IsApart fault.reason) }
 {
     let marked = marked_columns(
         alloc,
@@ -203,7 +217,9 @@ fn diff_files_beside<'a, R: Read + Drop>(
     ignored: &str,
     versions: &mut Two<'a, R>,
 ) -> Result<Answer, Fault<'a>>
-    ensures { IfOk result (DiffsBesideSources R.remaining job.entry ignored.now versions.old) }
+    ensures answer { IfOk result (DiffsBesideSources R.remaining job.entry ignored.now versions.old) }
+    ensures why { IfErr result
+        (ExplainsVersions R.remaining job.entry.groups job.entry.columns.now versions.old) }
 {
     let (before, after) = (versions.first.header(), versions.next.header());
     let compared = compared_columns(job.alloc, ignored, job.columns, before, after);
@@ -230,7 +246,7 @@ fn diff_beside(
     compared: &[bool],
     old: Table,
     new: Table,
-) -> Result<Answer, Reason>
+) -> Result<Answer, AllocError>
     ensures { IfOk result (AnswersBeside job.now.form job.now.columns.now (noted job.now.order)
         (is_none job.now.row_order.files) compared.now marked.now (columns_differ columns.entry)
         old.pairs.items new.pairs.items) }
@@ -251,7 +267,9 @@ fn diff_files_as_csv<'a, R: Read + Drop>(
     mut job: Job<'_, Columns>,
     versions: &mut Two<'a, R>,
 ) -> Result<Answer, Fault<'a>>
-    ensures { IfOk result (DiffsSources R.remaining job.entry versions.old) }
+    ensures answer { IfOk result (DiffsSources R.remaining job.entry versions.old) }
+    ensures why { IfErr result
+        (ExplainsVersions R.remaining job.entry.groups job.entry.columns.now versions.old) }
 {
     let tables = job.read_both(versions)?;
     let marked = versions.marked_names(job.alloc)?;
@@ -268,7 +286,7 @@ fn diff_as_csv(
     marked: &Cells,
     old: Table,
     new: Table,
-) -> Result<Answer, Reason>
+) -> Result<Answer, AllocError>
     ensures text { IfOk result (λ answer. IsDiffText job.now.form job.now.columns.now (noted job.now.order)
         (is_none job.now.row_order.files) marked.now old.pairs.items new.pairs.items answer.bytes.items) }
     ensures status { IfOk result (λ answer.
@@ -292,8 +310,10 @@ fn diff_files_as_report<'a, R: Read + Drop>(
     how: Comparing<'_>,
     versions: &mut Two<'a, R>,
 ) -> Result<Answer, Fault<'a>>
-    ensures { IfOk result (λ answer. how.entry.sameness ≡ None → how.entry.format ≡ format.Report look
+    ensures answer { IfOk result (λ answer. how.entry.sameness ≡ None → how.entry.format ≡ format.Report look
         → ReportsSources R.remaining job.entry how.entry versions.old answer) }
+    ensures why { IfErr result
+        (ExplainsVersions R.remaining job.entry.groups job.entry.columns.now versions.old) }
 {
     let tables = job.read_both(versions)?;
     let before = names_among(job.alloc, versions.first.header(), job.columns);
@@ -319,6 +339,7 @@ fn diff_as_report<'a>(
     ensures table { IfOk result (λ answer. how.entry.sameness ≡ None → TellsTable look how.entry.view →
         TellsChanges how.entry.view job.now.groups job.now.columns.now (noted job.now.order)
         (is_none job.now.row_order.files) old.pairs.items new.pairs.items answer.bytes.items) }
+    ensures why { IfErr result IsApart }
 {
     let tolerances = Tolerances::new(job.alloc, how.sameness)?;
     let alikes = tolerances.alikes(job.alloc, job.columns)?;

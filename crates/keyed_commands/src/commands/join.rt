@@ -1,5 +1,6 @@
 //! Joins of two tables, written as CSV: an absent side has empty cells.
-ghost use Rattle.std.specs.Prelude.{◌≡◌, [], IfErr, IfOk, OnOk, false, is_none, option_map, true};
+ghost use Rattle.std.specs.Prelude.{◌≡◌, ◌⊎◌, [], IfErr, IfOk, OnOk, false, is_none, option_map, true};
+ghost use Rattle.keyed_faults.specs.Outside.{IsApart};
 ghost use Rattle.keyed_requests.specs.declared.request.RowFormat.TheVariants.{Csv};
 ghost use Rattle.keyed_columns.specs.JoinedNames.{ExplainsNames, joined_names, side_column};
 ghost use Rattle.keyed_columns.specs.Names.{repeats};
@@ -8,11 +9,13 @@ ghost use Rattle.keyed_files.specs.Writing.{Wrote};
 ghost use Rattle.keyed_tables.specs.Arranged.{noted};
 ghost use Rattle.keyed_jobs.specs.Answers.{IsTableText};
 ghost use Rattle.keyed_jobs.specs.ComeOut.{AlikePlaces, AlikeRows};
+ghost use Rattle.keyed_jobs.specs.Unread.{ExplainsTables};
 ghost use Rattle.keyed_commands.specs.JoinAnswers.{AlikeBoth, AlikeLeft, AlikeRight, IsJoinText};
 ghost use Rattle.keyed_commands.specs.JoinAnswers.{IsTextOfJoin, JoinsSources, JoinsStreams, PutsJoin};
 ghost use Rattle.keyed_commands.specs.JoinAnswers.{PutsSides, RowSides, header_of_join, heading_of_join};
 ghost use Rattle.keyed_commands.specs.JoinAnswers.{inner_sides, left_sides, outer_sides, right_sides};
 ghost use Rattle.keyed_commands.specs.JoinAnswers.{side_name};
+ghost use Rattle.keyed_commands.specs.Unanswered.{ExplainsJoin};
 
 use crate::commands::join_json::write_join;
 use either_or_both::EitherOrBoth;
@@ -40,8 +43,9 @@ pub fn join<'a, R: Read + Drop>(
     left: Stream<'a, R>,
     right: Stream<'a, R>,
 ) -> Result<Answer, Fault<'a>>
-    ensures { IfOk result (λ answer. how.entry.format ≡ Csv →
+    ensures answer { IfOk result (λ answer. how.entry.format ≡ Csv →
         JoinsStreams R.remaining settings.entry how.entry left.entry right.entry answer) }
+    ensures why { IfErr result (ExplainsJoin R.remaining settings.entry left.entry right.entry) }
 {
     let mut sides = Two::new(alloc, settings.form, Content::Rows, left, right)?;
     let columns = sides.join_columns(alloc, settings.key)?;
@@ -56,8 +60,10 @@ fn join_files<'a, R: Read + Drop>(
     form: &JoinForm,
     sides: &mut Two<'a, R>,
 ) -> Result<Answer, Fault<'a>>
-    ensures { IfOk result (λ answer. form.now.format ≡ Csv →
+    ensures answer { IfOk result (λ answer. form.now.format ≡ Csv →
         JoinsSources R.remaining job.entry form.now.kind form.now.header sides.old answer) }
+    ensures why { IfErr result (λ fault. IsApart fault.reason ⊎ ExplainsTables R.remaining job.entry.groups
+        job.entry.columns.now.left job.entry.columns.now.right sides.old fault) }
 {
     let tables = job.read_sides(sides)?;
     let (left, right) = tables;
@@ -259,14 +265,13 @@ impl JoinForm {
 ///
 /// # Errors
 ///
-/// Returns `CellCount` if a row has more or fewer cells than the first one, and `NoMemory`, or `Io` with the error that the
-/// writer makes of it, if a request for memory was refused.
+/// Returns `AllocError` if a request for memory was refused.
 pub fn join_as_csv(
     job: &Job<'_, JoinColumns>,
     how: &JoinForm,
     left: Table,
     right: Table,
-) -> Result<Vec<u8>, Reason>
+) -> Result<Vec<u8>, AllocError>
     ensures { IfOk result (λ text. IsJoinText job.now.form job.now.columns.now how.now.header
         (noted job.now.order) (is_none job.now.row_order.files) how.now.kind
         left.pairs.items right.pairs.items text.items) }
@@ -288,7 +293,7 @@ fn write_joined<T: JoinedRow + Drop>(
     job: &Job<'_, JoinColumns>,
     header: &Cells,
     rows: Vec<(Key, T)>,
-) -> Result<Vec<u8>, Reason>
+) -> Result<Vec<u8>, AllocError>
     ensures { IfOk result (λ text. IsTextOfJoin job.now.form job.now.columns.now header.now
         (noted job.now.order) (is_none job.now.row_order.files) T.shows T.alike rows.items text.items) }
 {
@@ -305,7 +310,7 @@ fn put_rows<T: JoinedRow + Drop>(
     job: &Job<'_, JoinColumns>,
     written: &mut Written,
     rows: Vec<(Key, T)>,
-) -> Result<(), Reason>
+) -> Result<(), AllocError>
     ensures { OnOk result (PutsJoin job.now.columns.now T.shows (is_none job.now.row_order.files) T.alike
         written.old written.new rows.items) }
 {
@@ -320,7 +325,7 @@ fn put_row<T: JoinedRow + Drop>(
     job: &Job<'_, JoinColumns>,
     written: &mut Written,
     row: (Key, T),
-) -> Result<(), Reason>
+) -> Result<(), AllocError>
     ensures { OnOk result (PutsSides job.now.columns.now T.shows (is_none job.now.row_order.files) T.alike
         written.old written.new row) }
 {
@@ -331,7 +336,7 @@ fn put_row<T: JoinedRow + Drop>(
 }
 
 // Rows of the left table, as they come out.
-fn write_left(job: &Job<'_, JoinColumns>, rows: Vec<(Key, Group)>) -> Result<Vec<u8>, Reason>
+fn write_left(job: &Job<'_, JoinColumns>, rows: Vec<(Key, Group)>) -> Result<Vec<u8>, AllocError>
     ensures { IfOk result (λ text. IsTableText job.now.form job.now.columns.now.left (noted job.now.order)
         (is_none job.now.row_order.files) rows.items text.items) }
 {
@@ -340,7 +345,7 @@ fn write_left(job: &Job<'_, JoinColumns>, rows: Vec<(Key, Group)>) -> Result<Vec
 }
 
 // The header, where answers have a heading.
-fn begin_join(job: &Job<'_, JoinColumns>, header: &Cells) -> Result<Written, Reason>
+fn begin_join(job: &Job<'_, JoinColumns>, header: &Cells) -> Result<Written, AllocError>
     ensures { IfOk result (λ written. Wrote job.now.form (heading_of_join job.now.form header.now) written) }
 {
     let mut written = Written::new(job.alloc, job.form);

@@ -8,7 +8,6 @@ use crate::commands::join::{JoinForm, JoinedRow, join_as_csv};
 use either_or_both::EitherOrBoth;
 use either_or_both::join::outer_join;
 use keyed_columns::JoinColumns;
-use keyed_faults::Reason;
 use keyed_jobs::{Job, Table};
 use keyed_reports::{JsonSides, put_json_row};
 use keyed_requests::{Kind, RowFormat};
@@ -25,14 +24,14 @@ pub fn write_join(
     form: &JoinForm,
     left: Table,
     right: Table,
-) -> Result<Vec<u8>, Reason>
+) -> Result<Vec<u8>, AllocError>
     ensures { IfOk result (λ bytes. form.now.format ≡ Csv → IsJoinText job.now.form job.now.columns.now
         form.now.header (noted job.now.order) (is_none job.now.row_order.files) form.now.kind
         left.pairs.items right.pairs.items bytes.items) }
 {
     match form.format {
         RowFormat::Csv => join_as_csv(job, form, left, right),
-        RowFormat::Json => Ok(join_as_json(job, form.kind, left, right)?),
+        RowFormat::Json => join_as_json(job, form.kind, left, right),
     }
 }
 

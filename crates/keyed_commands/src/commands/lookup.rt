@@ -1,14 +1,18 @@
 //! Rows of a table looked up in another by key. The right table is held, by key; the left one is read row by row, and never held.
-ghost use Rattle.std.specs.Prelude.{◌≡◌, ◌++◌, ◌∷◌, [], IfOk, List, None, OnOk, map, option_map, ℕ};
+ghost use Rattle.std.specs.Prelude.{◌≡◌, ◌++◌, ◌∷◌, [], IfErr, IfOk, List, None, OnOk};
+ghost use Rattle.std.specs.Prelude.{false, map, option_map, ℕ};
 ghost use Rattle.std.specs.HashMap.{IsUnique, get_by};
 ghost use Rattle.eob_joins.specs.Lookup.{shown_lookup, with_found};
 ghost use Rattle.keyed_requests.specs.declared.request.RowFormat.TheVariants.{Csv};
+ghost use Rattle.keyed_files.specs.Explained.{ExplainsRows};
 ghost use Rattle.keyed_files.specs.Reading.{ReadsRest, ReadsRows};
 ghost use Rattle.keyed_files.specs.Writing.{PutsRows, Wrote, quoted_text};
 ghost use Rattle.keyed_commands.specs.JoinAnswers.{heading_of_join};
 ghost use Rattle.keyed_commands.specs.LookupAnswers.{LooksUpStreams, ReadsPart, WritesBehind, WritesPart};
 ghost use Rattle.keyed_commands.specs.LookupAnswers.{WritesRest, as_rows, found_under, held_rows, key_eq};
 ghost use Rattle.keyed_commands.specs.LookupAnswers.{lookup_rows, rows_of, shown_row, shown_rows};
+ghost use Rattle.keyed_commands.specs.UnansweredLookup.{ExplainsFound, ExplainsHeld, ExplainsLeft};
+ghost use Rattle.keyed_commands.specs.UnansweredLookup.{ExplainsLookup, GoesOn, IsRepeated};
 
 use eob_joins::{LookupRow, lookup_join};
 use indexmap::IndexMap;
@@ -53,6 +57,7 @@ pub fn lookup<'a, R: Read + Drop, W: Write>(
     ensures status { IfOk result (λ status. status ≡ 0) }
     ensures text { OnOk result (how.entry.format ≡ Csv → LooksUpStreams R.remaining layout.entry how.entry
         left.entry right.entry (W.contents output.old) (W.contents output.new)) }
+    ensures why { IfErr result (ExplainsLookup R.remaining layout.entry left.entry right.entry) }
 {
     let mut sides = Two::new(alloc, layout.form, Content::Rows, left, right)?;
     let columns = sides.join_columns(alloc, layout.key)?;
@@ -97,6 +102,7 @@ fn read_found<R: Read + Drop>(
     ensures rows { IfOk result (λ found.
         ReadsRows R.remaining columns.now right.old.source.value [] (held_rows found.entries)) }
     ensures unique { IfOk result (λ found. IsUnique key_eq found) }
+    ensures why { IfErr result (ExplainsFound R.remaining columns.now right.old.source.value) }
 {
     let places = right.source.places(columns)?;
     let mut found: FoundByKey = IndexMap::new(alloc);
@@ -113,6 +119,8 @@ fn read_rest<R: Read + Drop>(
     ensures read { OnOk result (ReadsRest R.remaining places.now source.old
         (held_rows found.old.entries) (held_rows found.new.entries)) }
     ensures unique { OnOk result (IsUnique key_eq found.old → IsUnique key_eq found.new) }
+    ensures why { IfErr result (λ told. held_rows found.old.entries ≡ []
+        → ExplainsHeld R.remaining places.now source.old told) }
 {
     for _ in 0..u64::MAX {
         match source.read_row(places)? {
@@ -128,6 +136,7 @@ fn put_unique(found: &mut FoundByKey, row: ReadRow) -> Result<(), Reason>
     ensures absent { OnOk result (get_by (⟦<Key as PartialEq>⟧.eq row.key) found.old ≡ None) }
     ensures put { OnOk result (held_rows found.new.entries ≡ held_rows found.old.entries ++ row ∷ []) }
     ensures unique { OnOk result (IsUnique key_eq found.new) }
+    ensures why { IfErr result (IsRepeated (held_rows found.old.entries) row) }
 {
     if let Some(earlier) = found.get(&row.key) {
         return Err(Reason::RepeatedRight(RepeatedKey {
@@ -158,6 +167,7 @@ fn write_found<'a, R: Read + Drop, W: Write>(
     ensures text { OnOk result (WritesBehind R.remaining work.now.form work.now.kind work.now.columns.now
         (found_under work.now.found.entries) places.now (heading_of_join work.now.form header.now)
         left.old.source.value (W.contents output.old) (W.contents output.new)) }
+    ensures why { IfErr result (ExplainsLeft R.remaining left.old) }
 {
     let written = at(left.file, begin_lookup(work, header))?;
     write_parts(work, places, left, written, output)
@@ -176,6 +186,7 @@ fn write_parts<'a, R: Read + Drop, W: Write>(
     ensures text { OnOk result (WritesRest R.remaining work.now.form work.now.kind work.now.columns.now
         (found_under work.now.found.entries) places.now left.old.source.value written
         (W.contents output.old) (W.contents output.new)) }
+    ensures why { IfErr result (ExplainsLeft R.remaining left.old) }
 {
     for _ in 0..u64::MAX {
         let is_last = write_part(work, places, left, written, output)?;
@@ -198,7 +209,8 @@ fn write_json<'a, R: Read + Drop, W: Write>(
     left: &mut Opened<'a, R>,
     output: &mut W,
 ) -> Result<u8, Fault<'a>>
-    ensures { IfOk result (λ status. status ≡ 0) }
+    ensures status { IfOk result (λ status. status ≡ 0) }
+    ensures why { IfErr result (ExplainsLeft R.remaining left.old) }
 {
     for _ in 0..u64::MAX {
         let part = at(left.file, read_part(work.alloc, &mut left.source, places))?;
@@ -220,9 +232,13 @@ fn write_part<'a, R: Read + Drop, W: Write>(
     written: Written,
     output: &mut W,
 ) -> Result<bool, Fault<'a>>
-    ensures { IfOk result (λ is_last. WritesPart R.remaining work.now.form work.now.kind work.now.columns.now
-        (found_under work.now.found.entries) places.now is_last left.old.source.value
+    ensures text { IfOk result (λ is_last. WritesPart R.remaining work.now.form work.now.kind
+        work.now.columns.now (found_under work.now.found.entries) places.now is_last left.old.source.value
         left.new.source.value written (W.contents output.old) (W.contents output.new)) }
+    ensures goes_on { IfOk result (λ is_last. is_last ≡ false
+        → GoesOn R.remaining left.old.source.value left.new.source.value) }
+    ensures named { left.new.file ≡ left.old.file }
+    ensures why { IfErr result (ExplainsLeft R.remaining left.old) }
 {
     let part = at(left.file, read_part(work.alloc, &mut left.source, places))?;
     let bytes = at(left.file, part_as_csv(work, written, part.rows))?;
@@ -243,8 +259,10 @@ fn read_part<R: Read + Drop>(
     source: &mut Source<R>,
     places: &Places,
 ) -> Result<Part, Reason>
-    ensures { IfOk result (λ part. ReadsPart R.remaining part.is_last places.now source.old source.new
+    ensures rows { IfOk result (λ part. ReadsPart R.remaining part.is_last places.now source.old source.new
         (as_rows part.rows.items)) }
+    ensures goes_on { IfOk result (λ part. part.is_last ≡ false → GoesOn R.remaining source.old source.new) }
+    ensures why { IfErr result (ExplainsRows R.remaining source.old) }
 {
     let mut rows = Vec::new(alloc);
     for _ in 0..PART {
@@ -265,7 +283,7 @@ fn read_part<R: Read + Drop>(
 }
 
 // The header, where answers have a heading.
-fn begin_lookup(work: &LookupWork<'_>, header: &Cells) -> Result<Written, Reason>
+fn begin_lookup(work: &LookupWork<'_>, header: &Cells) -> Result<Written, AllocError>
     ensures { IfOk result (λ written.
         Wrote work.now.form (heading_of_join work.now.form header.now) written) }
 {
@@ -284,7 +302,7 @@ fn part_as_csv(
     work: &LookupWork<'_>,
     mut written: Written,
     rows: Vec<(Key, Cells)>,
-) -> Result<Vec<u8>, Reason>
+) -> Result<Vec<u8>, AllocError>
     ensures { IfOk result (λ text. (pending : List (List (List ℕ))) → Wrote work.now.form pending written
         → text.items ≡ quoted_text work.now.form (pending ++ lookup_rows work.now.columns.now work.now.kind
         (found_under work.now.found.entries) rows.items)) }
@@ -345,7 +363,7 @@ fn put_rows(
     work: &LookupWork<'_>,
     written: &mut Written,
     rows: Vec<LookupRow<'_, Key, Cells, Found>>,
-) -> Result<(), Reason>
+) -> Result<(), AllocError>
     ensures { OnOk result (PutsRows written.old written.new
         (shown_rows work.now.columns.now work.now.kind (map shown_lookup rows.entry.items))) }
 {
@@ -360,7 +378,7 @@ fn put_row(
     work: &LookupWork<'_>,
     written: &mut Written,
     row: &LookupRow<'_, Key, Cells, Found>,
-) -> Result<(), Reason>
+) -> Result<(), AllocError>
     ensures { OnOk result (PutsRows written.old written.new
         (shown_row work.now.columns.now work.now.kind (shown_lookup row.now))) }
 {
@@ -379,7 +397,7 @@ fn put_found(
     key: &Key,
     cells: &Cells,
     found: Option<&Cells>,
-) -> Result<(), Reason>
+) -> Result<(), AllocError>
     ensures { OnOk result (PutsRows written.old written.new
         (rows_of work.now.columns.now work.now.kind key.now cells.now
         (option_map (λ cells. cells.now) found.entry))) }

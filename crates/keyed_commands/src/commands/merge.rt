@@ -1,6 +1,7 @@
 //! The answer to `merge`, of streams: two versions of a table merged over their base, or a report of the rows in conflict.
-ghost use Rattle.std.specs.Prelude.{◌≡◌, IfOk, None, OnOk, is_none};
+ghost use Rattle.std.specs.Prelude.{◌≡◌, ◌⊎◌, IfErr, IfOk, None, OnOk, is_none};
 ghost use Rattle.eob_joins.specs.Marked.{merged_of};
+ghost use Rattle.keyed_faults.specs.Outside.{IsApart};
 ghost use Rattle.keyed_columns.specs.Keys.{AreMergedColumnsBy};
 ghost use Rattle.keyed_columns.specs.Spelled.{IsSpelledAs};
 ghost use Rattle.keyed_columns.specs.declared.content.Content.TheVariants.{Rows};
@@ -16,6 +17,7 @@ ghost use Rattle.keyed_jobs.specs.Answers.{AnswersMerge, AnswersMerged, AnswersM
 ghost use Rattle.keyed_jobs.specs.Answers.{AnswersTable, HasNoConflict, HasNoneUnresolved};
 ghost use Rattle.keyed_jobs.specs.Answers.{HasUnresolved, Stops};
 ghost use Rattle.keyed_commands.specs.MergedTexts.{AnswersAs, AnswersBy, MergesSources, MergesStreams};
+ghost use Rattle.keyed_commands.specs.Unanswered.{ExplainsMerge, ExplainsThree};
 
 use crate::conflicts::render_conflicts;
 use crate::lost_cells::lose_cells;
@@ -52,9 +54,11 @@ pub fn merge<'a, R: Read + Drop>(
     ours: Stream<'a, R>,
     theirs: Stream<'a, R>,
 ) -> Result<Answer, Fault<'a>>
-    ensures { IfOk result (λ answer. how.entry.sameness ≡ None →
+    ensures answer { IfOk result (λ answer. how.entry.sameness ≡ None →
         MergesStreams R.remaining how.entry.conflicts how.entry.unit settings.entry
         base.entry ours.entry theirs.entry answer) }
+    ensures why { IfErr result (ExplainsMerge R.remaining (watched_left R.remaining) settings.entry
+        base.entry ours.entry theirs.entry) }
 {
     let base = unwatched(alloc, base);
     let mut base = Opened::new(alloc, settings.form, Content::Rows, base)?;
@@ -70,7 +74,9 @@ pub fn merge<'a, R: Read + Drop>(
 }
 
 // Tells of a column with a tolerance of its own that is none of these.
-fn check_known(alloc: Global, how: Merging<'_>, columns: &Columns) -> Result<(), Reason> {
+fn check_known(alloc: Global, how: Merging<'_>, columns: &Columns) -> Result<(), Reason>
+    ensures { IfErr result IsApart }
+{
     Tolerances::new(alloc, how.sameness)?.check_known(alloc, columns)
 }
 
@@ -85,6 +91,7 @@ fn columns_of_merge<'a, R>(
         (first_header sides.now) (next_header sides.now)) }
     ensures spelled { IfOk result (IsSpelledAs sides.now.first.source.value.header.spelling.names
         sides.now.first.source.value.header.spelling.spelled) }
+    ensures why { IfErr result (λ fault. IsApart fault.reason) }
 {
     let (base_names, ours, theirs) = (base.header(), sides.first.header(), sides.next.header());
     let all = at(
@@ -106,9 +113,11 @@ fn merge_files<'a, R: Read + Drop>(
     base: &mut Opened<'a, Watched<R>>,
     sides: &mut Two<'a, Watched<R>>,
 ) -> Result<Answer, Fault<'a>>
-    ensures { IfOk result (λ answer. how.entry.sameness ≡ None →
+    ensures answer { IfOk result (λ answer. how.entry.sameness ≡ None →
         MergesSources (watched_left R.remaining) how.entry.conflicts how.entry.unit job.entry first_style
         base.old sides.old answer) }
+    ensures why { IfErr result (λ fault. IsApart fault.reason ⊎ ExplainsThree (watched_left R.remaining)
+        job.entry.groups job.entry.columns.now base.old sides.old fault) }
 {
     let versions = read_versions(&mut job, base, sides)?;
     let has_end = sides.first.source.get_ref().has_end();
@@ -144,6 +153,10 @@ fn read_versions<'a, R: Read + Drop>(
         (noted job.old.order) (noted job.new.order)) }
     ensures same { job.new ≡ record job.old { order = job.new.order; row_order = job.new.row_order } }
     ensures unordered { OnOk result (IsUnordered job.old → IsUnordered job.new) }
+    ensures first_header { sides.new.first.source.value.header ≡ sides.old.first.source.value.header }
+    ensures first_named { sides.new.first.file ≡ sides.old.first.file }
+    ensures why { IfErr result
+        (ExplainsThree R.remaining job.old.groups job.old.columns.now base.old sides.old) }
 {
     let (ours, theirs) = job.read_merged(sides)?;
     let base = job.unordered().read_table(job.columns, base)?;
@@ -155,10 +168,11 @@ fn merge_tables(
     how: Merging<'_>,
     versions: ThreeVersions,
 ) -> Result<Answer, Reason>
-    ensures { IfOk result (λ answer. how.entry.sameness ≡ None →
+    ensures answer { IfOk result (λ answer. how.entry.sameness ≡ None →
         AnswersAs job.now.form job.now.columns.now (noted job.now.order) (is_none job.now.row_order.files)
         versions.base.pairs.items versions.ours.pairs.items versions.theirs.pairs.items
         (all_as_they_stand job.now.columns.now) answer how.entry.unit how.entry.conflicts) }
+    ensures why { IfErr result IsApart }
 {
     let tolerances = Tolerances::new(job.alloc, how.sameness)?;
     let alikes = tolerances.alikes(job.alloc, job.columns)?;
@@ -167,8 +181,8 @@ fn merge_tables(
         alikes: &alikes,
     };
     match how.sameness {
-        Some(_) => merge_by_number(job, telling, how.conflicts, versions),
-        None => merge_as_written(job, telling, how.conflicts, versions),
+        Some(_) => Ok(merge_by_number(job, telling, how.conflicts, versions)?),
+        None => Ok(merge_as_written(job, telling, how.conflicts, versions)?),
     }
 }
 
@@ -178,7 +192,7 @@ fn merge_as_written(
     how: Telling<'_>,
     conflicts: Conflicts,
     versions: ThreeVersions,
-) -> Result<Answer, Reason>
+) -> Result<Answer, AllocError>
     ensures { IfOk result (λ answer. AnswersAs job.now.form job.now.columns.now
         (noted job.now.order) (is_none job.now.row_order.files)
         versions.base.pairs.items versions.ours.pairs.items versions.theirs.pairs.items
@@ -205,7 +219,7 @@ fn merge_by_number(
     how: Telling<'_>,
     conflicts: Conflicts,
     versions: ThreeVersions,
-) -> Result<Answer, Reason> {
+) -> Result<Answer, AllocError> {
     let rows = marked_rows(job.alloc, how.unit, versions)?;
     let rows = settled_by_number(job.alloc, how.alikes, how.unit, rows)?;
     match conflicts {
@@ -221,7 +235,7 @@ fn mark_conflicts(
     job: &Job<'_, Columns>,
     how: Telling<'_>,
     rows: Vec<(Key, Marked<Group>)>,
-) -> Result<Answer, Reason>
+) -> Result<Answer, AllocError>
     ensures { IfOk result (AnswersMarks job.now.form job.now.columns.now (noted job.now.order)
         (is_none job.now.row_order.files) how.entry.unit how.entry.alikes.now rows.items) }
 {
@@ -252,7 +266,7 @@ fn merge_by_side(
     how: Telling<'_>,
     side: Side,
     rows: Vec<(Key, Marked<Group>)>,
-) -> Result<Answer, Reason>
+) -> Result<Answer, AllocError>
     ensures { IfOk result (AnswersTable job.now.form job.now.columns.now (noted job.now.order)
         (is_none job.now.row_order.files)
         (rows_by_side how.entry.unit how.entry.alikes.now side rows.items)) }
@@ -267,7 +281,7 @@ fn merge_reported(
     job: &Job<'_, Columns>,
     how: Telling<'_>,
     versions: ThreeVersions,
-) -> Result<Answer, Reason>
+) -> Result<Answer, AllocError>
     ensures { IfOk result (λ answer. AnswersBy job.now.form job.now.columns.now
         (noted job.now.order) (is_none job.now.row_order.files)
         versions.base.pairs.items versions.ours.pairs.items versions.theirs.pairs.items
@@ -303,7 +317,7 @@ fn merge_by_row(
     base: Table,
     ours: Table,
     theirs: Table,
-) -> Result<Answer, Reason>
+) -> Result<Answer, AllocError>
     ensures whole { IfOk result (λ answer. HasNoConflict base.pairs.items ours.pairs.items theirs.pairs.items
         → AnswersMerged job.now.form job.now.columns.now (noted job.now.order)
         (is_none job.now.row_order.files) base.pairs.items ours.pairs.items theirs.pairs.items answer) }
@@ -322,7 +336,7 @@ fn merge_by_cell(
     base: Table,
     ours: Table,
     theirs: Table,
-) -> Result<Answer, Reason>
+) -> Result<Answer, AllocError>
     ensures whole { IfOk result (λ answer.
         HasNoneUnresolved base.pairs.items ours.pairs.items theirs.pairs.items
         → AnswersMergedByCell job.now.form job.now.columns.now (noted job.now.order)
@@ -340,7 +354,7 @@ fn answer_of_merge(
     job: &Job<'_, Columns>,
     how: Telling<'_>,
     parted: Parted<Key, Group>,
-) -> Result<Answer, Reason>
+) -> Result<Answer, AllocError>
     ensures { IfOk result (AnswersMerge job.now.form job.now.columns.now (noted job.now.order)
         (is_none job.now.row_order.files) (merged_of parted)) }
 {
@@ -358,7 +372,7 @@ fn report_conflicts(
     job: &Job<'_, Columns>,
     how: Telling<'_>,
     parted: Parted<Key, Group>,
-) -> Result<Answer, Reason>
+) -> Result<Answer, AllocError>
     ensures { IfOk result Stops }
 {
     let Parted {

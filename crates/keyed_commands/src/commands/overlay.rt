@@ -1,9 +1,12 @@
 //! Tables that are laid one over the other, the last one on top.
-ghost use Rattle.std.specs.Prelude.{◌≡◌, ◌∷◌, [], IfOk, IfSome, MatchOption, OnOk, is_none, map, option_map};
-ghost use Rattle.std.specs.Prelude.{unwrap_or};
+ghost use Rattle.std.specs.Prelude.{◌≡◌, ◌∷◌, ◌⊎◌, [], IfErr, IfOk, IfSome, MatchOption};
+ghost use Rattle.std.specs.Prelude.{OnOk, is_none, map, option_map, unwrap_or};
 ghost use Rattle.std.specs.Io.KnownBytes.{Keeps};
+ghost use Rattle.keyed_faults.specs.Outside.{IsApart};
+ghost use Rattle.keyed_faults.specs.declared.fault.Reason.{Reason};
 ghost use Rattle.keyed_columns.specs.Keys.{AreColumnsBy};
 ghost use Rattle.keyed_columns.specs.declared.content.Content.TheVariants.{Rows};
+ghost use Rattle.keyed_files.specs.Explained.{ExplainsOpening, ExplainsPlaces};
 ghost use Rattle.keyed_files.specs.Opening.{form_of, text_of_stream};
 ghost use Rattle.keyed_tables.specs.Arranged.{noted};
 ghost use Rattle.keyed_jobs.specs.Answers.{IsTableFile};
@@ -14,6 +17,8 @@ ghost use Rattle.keyed_jobs.specs.declared.answer.Outcome.TheVariants.{Made};
 ghost use Rattle.keyed_commands.specs.OverlayAnswers.{AreLaidOver, AreLayers, IsLayer, IsSpelledAsFirst};
 ghost use Rattle.keyed_commands.specs.OverlayAnswers.{IsNotedFirst, LaysTables, NotesAll};
 ghost use Rattle.keyed_commands.specs.OverlayAnswers.{OverlaysSources, OverlaysStreams, rows_laid};
+ghost use Rattle.keyed_commands.specs.UnansweredOverlay.{ExplainsLaid, ExplainsLayer, ExplainsLayers};
+ghost use Rattle.keyed_commands.specs.UnansweredOverlay.{ExplainsOne, ExplainsOverlay, HaveFiles};
 
 use crate::files::put;
 use crate::made_table::table_as_csv;
@@ -41,7 +46,8 @@ pub fn overlay<'a, R: Read + Drop>(
     layer: Layer,
     tables: Vec<Stream<'a, R>>,
 ) -> Result<Answer, Fault<'a>>
-    ensures { IfOk result (OverlaysStreams R.remaining settings.entry layer tables.entry.items) }
+    ensures answer { IfOk result (OverlaysStreams R.remaining settings.entry layer tables.entry.items) }
+    ensures why { IfErr result (ExplainsOverlay R.remaining settings.entry tables.entry.items) }
 {
     let layers = open_all(alloc, settings, tables)?;
     let (opened, first_style) = layers;
@@ -63,8 +69,10 @@ fn overlay_files<'a, R: Read + Drop>(
     file: &'a str,
     tables: Vec<Opened<'a, Watched<R>>>,
 ) -> Result<Answer, Fault<'a>>
-    ensures { IfOk result
+    ensures answer { IfOk result
         (OverlaysSources R.remaining layer first_style job.entry tables.entry.items) }
+    ensures why { IfErr result (λ fault. IsApart fault.reason
+        ⊎ ExplainsLaid R.remaining job.entry.groups job.entry.columns.now tables.entry.items fault) }
 {
     let laid = lay_all(&mut job, layer, tables)?;
     let has_end = laid.has_end.unwrap_or(first_style.has_end);
@@ -85,6 +93,9 @@ fn open_all<'a, R: Read + Drop>(
         tables.entry.items read.0.items) }
     ensures style { IfOk result (λ read. IsNotedFirst R.remaining settings.entry.form
         tables.entry.items read.1) }
+    ensures named { IfOk result (λ read. HaveFiles tables.entry.items read.0.items) }
+    ensures why { IfErr result (λ fault. IsApart fault.reason
+        ⊎ ExplainsLayers R.remaining settings.entry.form settings.entry.key tables.entry.items fault) }
 {
     let mut opened = Vec::new(alloc);
     let mut key = settings.key;
@@ -114,6 +125,8 @@ fn open_layer<'a, R: Read + Drop>(
     ensures style { IfOk result (λ read. MatchOption first_style
         (IfSome (text_of_stream R.remaining form stream.entry) (IsNoted (form_of form stream.entry) read.1))
         (λ style. read.1 ≡ style)) }
+    ensures named { IfOk result (λ read. read.0.file ≡ stream.entry.file) }
+    ensures why { IfErr result (ExplainsLayer R.remaining form key.entry stream.entry) }
 {
     let watched = watch_layer(alloc, form, first_style, stream)?;
     let (stream, style) = watched;
@@ -135,6 +148,11 @@ fn watch_layer<'a, R: Read + Drop>(
     ensures style { IfOk result (λ read. MatchOption first_style
         (IfSome (text_of_stream (watched_left R.remaining) form read.0) (IsNoted (form_of form read.0) read.1))
         (λ style. read.1 ≡ style)) }
+    ensures named { IfOk result (λ read. read.0.file ≡ stream.entry.file) }
+    ensures opens { IfOk result (λ read. (told : Reason) → ExplainsOpening read.0.reader told
+        → ExplainsOpening stream.entry.reader told) }
+    ensures file { IfErr result (λ fault. fault.file ≡ stream.entry.file) }
+    ensures why { IfErr result (λ fault. ExplainsOpening stream.entry.reader fault.reason) }
 {
     match first_style {
         Some(style) => Ok((unwatched(alloc, stream), style)),
@@ -163,6 +181,7 @@ fn columns_of_all<R>(
         (map (λ table. table.source.value.header.names) opened.now)
         (map (λ table. table.source.value.header.names) opened.now)) }
     ensures spelled { IfOk result (IsSpelledAsFirst opened.now) }
+    ensures why { IfErr result IsApart }
 {
     let headers = headers_of(alloc, opened)?;
     let columns = columns_of(alloc, settings.key, &headers)?;
@@ -224,6 +243,8 @@ fn lay_all<'a, R: Read + Drop>(
         (noted job.old.order) (noted job.new.order)) }
     ensures same { job.new ≡ record job.old { order = job.new.order; row_order = job.new.row_order } }
     ensures unordered { OnOk result (IsUnordered job.old → IsUnordered job.new) }
+    ensures why { IfErr result (λ fault. IsApart fault.reason
+        ⊎ ExplainsLaid R.remaining job.old.groups job.old.columns.now tables.entry.items fault) }
 {
     let mut laid = Laid {
         table: None,
@@ -249,6 +270,8 @@ fn lay<'a, R: Read + Drop>(
         table.entry.source.value (λ keys. noted job.new.order ≡ noted_with (noted job.old.order) keys)) }
     ensures same { job.new ≡ record job.old { order = job.new.order; row_order = job.new.row_order } }
     ensures unordered { OnOk result (IsUnordered job.old → IsUnordered job.new) }
+    ensures why { IfErr result (λ fault. IsApart fault.reason
+        ⊎ ExplainsOne R.remaining job.old.groups job.old.columns.now table.entry fault) }
 {
     let above = job.read_table(job.columns, &mut table)?;
     let has_end = below.has_end.unwrap_or(table.source.get_ref().has_end());
@@ -266,7 +289,11 @@ fn first_spelling<'a, R: Read + Drop>(
     job: &Job<'_, Columns>,
     below: Option<TableSpelling>,
     table: &Opened<'a, Watched<R>>,
-) -> Result<TableSpelling, Fault<'a>> {
+) -> Result<TableSpelling, Fault<'a>>
+    ensures file { IfErr result (λ fault. fault.file ≡ table.now.file) }
+    ensures why { IfErr result (λ fault.
+        ExplainsPlaces table.now.source.value job.now.columns.now fault.reason ⊎ IsApart fault.reason) }
+{
     match below {
         Some(spelling) => Ok(spelling),
         None => spelling_of(job, table),
@@ -304,7 +331,7 @@ fn laid_by(alloc: Global, layer: Layer, below: Table, above: Table) -> Result<Ta
 }
 
 // The rows of a table, if there is one.
-fn answer_laid(job: &Job<'_, Columns>, table: Option<Table>) -> Result<Answer, Reason>
+fn answer_laid(job: &Job<'_, Columns>, table: Option<Table>) -> Result<Answer, AllocError>
     ensures text { IfOk result (λ answer. IsTableFile job.now.form job.now.columns.now (noted job.now.order)
         (is_none job.now.row_order.files)
         (unwrap_or (option_map (λ table. table.pairs.items) table) []) answer.bytes.items) }

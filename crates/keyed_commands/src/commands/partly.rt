@@ -1,5 +1,6 @@
 //! The answer to `apply`, of streams, where changes need not fit: the table with those made to it that do, and the others as changes.
-ghost use Rattle.std.specs.Prelude.{◌≡◌, ◌==◌, IfOk, OnOk, is_none, length, option_map};
+ghost use Rattle.std.specs.Prelude.{◌≡◌, ◌==◌, IfErr, IfOk, OnOk, is_none, length, option_map};
+ghost use Rattle.keyed_faults.specs.Outside.{IsApart};
 ghost use Rattle.keyed_tables.specs.Arranged.{noted};
 ghost use Rattle.keyed_files.specs.Gone.{IsTurned};
 ghost use Rattle.keyed_files.specs.Opening.{form_of};
@@ -9,11 +10,12 @@ ghost use Rattle.keyed_jobs.specs.Rejected.{other_way, plain};
 ghost use Rattle.keyed_jobs.specs.Turned.{changes_in};
 ghost use Rattle.keyed_commands.specs.AppliedTexts.{PartlySources, PartlyStreams};
 ghost use Rattle.keyed_commands.specs.PartlyAnswers.{AnswersPartly, beside};
+ghost use Rattle.keyed_commands.specs.Unanswered.{ExplainsApply, ExplainsChange};
 
 use crate::made_table::answer_of_rows;
 use eob_joins::Change;
 use keyed_columns::{Columns, Content};
-use keyed_faults::{Fault, Reason, at};
+use keyed_faults::{Fault, at};
 use keyed_files::{Opened, Stream, Two};
 use keyed_jobs::{
     Answer, Changes, ChangesForm, Job, Table, Watched, changes_text, made_changes, missing_columns,
@@ -22,7 +24,7 @@ use keyed_jobs::{
 use keyed_requests::{Direction, Form, Settings, Writing};
 use keyed_rows::{Cells, Group, Key};
 use keyed_text::Style;
-use std::alloc::Global;
+use std::alloc::{AllocError, Global};
 use std::io::Read;
 
 /// A table to which the changes are made that fit, with status 1 where some do not, and a text of those.
@@ -46,7 +48,10 @@ pub fn apply_partly<'a, R: Read + Drop>(
     old: Stream<'a, R>,
     changes: Stream<'a, R>,
 ) -> Result<Partly, Fault<'a>>
-    ensures { IfOk result (PartlyStreams R.remaining settings.entry direction old.entry changes.entry) }
+    ensures partly { IfOk result
+        (PartlyStreams R.remaining settings.entry direction old.entry changes.entry) }
+    ensures why { IfErr result (ExplainsApply R.remaining (watched_left R.remaining) settings.entry direction
+        old.entry changes.entry) }
 {
     let form = changes_form(settings.form, &changes);
     let watched = watch(alloc, settings.form, old)?;
@@ -86,6 +91,8 @@ fn how_marked<'a, R>(
     ensures going { IfOk result (λ how. how.going ≡ changes.old.source.value.header.gone) }
     ensures coming { IfOk result (λ how. how.coming ≡ changes.old.source.value.header.came) }
     ensures same { OnOk result (IsTurned direction changes.old.source.value changes.new.source.value) }
+    ensures named { changes.new.file ≡ changes.old.file }
+    ensures why { IfErr result (λ fault. IsApart fault.reason) }
 {
     let going = copied_gone(changes)?;
     changes.turn(Direction::Backward);
@@ -100,7 +107,8 @@ fn how_marked<'a, R>(
 
 // The names of the columns that go.
 fn copied_gone<'a, R>(changes: &Opened<'a, R>) -> Result<Cells, Fault<'a>>
-    ensures { IfOk result (λ gone. gone ≡ changes.now.source.value.header.gone) }
+    ensures gone { IfOk result (λ gone. gone ≡ changes.now.source.value.header.gone) }
+    ensures why { IfErr result (λ fault. IsApart fault.reason) }
 {
     let gone: Result<_, _> = changes.source.gone().clone();
     at(changes.file, gone)
@@ -123,9 +131,11 @@ fn partly_files<'a, R: Read + Drop>(
     direction: Direction,
     inputs: &mut Two<'a, Watched<R>>,
 ) -> Result<Partly, Fault<'a>>
-    ensures { IfOk result
+    ensures partly { IfOk result
         (PartlySources (watched_left R.remaining) job.entry first_style
         how.now direction inputs.old) }
+    ensures why { IfErr result (ExplainsChange (watched_left R.remaining) job.entry.groups
+        job.entry.columns.now inputs.old) }
 {
     let (before, after) = (inputs.first.header(), inputs.next.header());
     let missing = missing_columns(job.alloc, before, after, &job.columns.rest);
@@ -151,7 +161,7 @@ fn partly_in(
     direction: Direction,
     old: Table,
     changes: Changes,
-) -> Result<Partly, Reason>
+) -> Result<Partly, AllocError>
     ensures { IfOk result (λ partly. AnswersPartly direction how.now partly job.now.form
         job.now.columns.now (noted job.now.order) (is_none job.now.row_order.files)
         old.pairs.items (made_with (option_map (λ are. are.items) missing) old.pairs.items

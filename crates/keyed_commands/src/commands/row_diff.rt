@@ -1,14 +1,17 @@
 //! The answer to `diff` of tables that have no key: which rows went and which came. Rows are compared as wholes, in their order.
-ghost use Rattle.std.specs.Prelude.{◌≡◌, ◌++◌, ◌∷◌, [], IfOk, OnOk, map, true};
+ghost use Rattle.std.specs.Prelude.{◌≡◌, ◌++◌, ◌∷◌, ◌⊎◌, [], IfErr, IfOk, OnOk, map, true};
 ghost use Rattle.std.specs.List.{list_all};
+ghost use Rattle.keyed_faults.specs.Outside.{IsApart};
 ghost use Rattle.keyed_columns.specs.ColumnNames.{AreColumns};
 ghost use Rattle.keyed_files.specs.Opening.{first_header, next_header};
 ghost use Rattle.keyed_files.specs.Rows.{shown_sign};
 ghost use Rattle.keyed_files.specs.Writing.{PutsRows, text_of};
 ghost use Rattle.keyed_jobs.specs.Answers.{status_of};
 ghost use Rattle.keyed_jobs.specs.ChangeRows.{changes_heading};
+ghost use Rattle.keyed_jobs.specs.Unread.{ExplainsUnread};
 ghost use Rattle.keyed_commands.specs.RowDiff.{AnswersRows, DiffsRowSources, DiffsRowStreams};
 ghost use Rattle.keyed_commands.specs.RowDiff.{ReadsCells};
+ghost use Rattle.keyed_commands.specs.Unanswered.{ExplainsRowDiff, ExplainsRowsOf};
 ghost use Rattle.keyed_commands.specs.RowDiff.{have_same_columns, is_kept, signed_row, signed_rows};
 ghost use Rattle.keyed_requests.specs.declared.request.Format.TheVariants.{Csv};
 
@@ -50,7 +53,8 @@ pub fn diff_rows<'a, R: Read + Drop>(
     old: Stream<'a, R>,
     new: Stream<'a, R>,
 ) -> Result<Answer, Fault<'a>>
-    ensures { IfOk result (DiffsRowStreams R.remaining form how.format old.entry new.entry) }
+    ensures answer { IfOk result (DiffsRowStreams R.remaining form how.format old.entry new.entry) }
+    ensures why { IfErr result (ExplainsRowDiff R.remaining form old.entry new.entry) }
 {
     let mut versions = Two::new(alloc, form, Content::Rows, old, new)?;
     check_columns(&versions)?;
@@ -69,8 +73,9 @@ pub fn diff_rows<'a, R: Read + Drop>(
 
 // Tells that both tables have the same columns in the same order. A file with no row says nothing of columns.
 fn check_columns<'a, R>(versions: &Two<'a, R>) -> Result<(), Fault<'a>>
-    ensures { OnOk result
+    ensures columns { OnOk result
         (have_same_columns (first_header versions.now) (next_header versions.now) ≡ true) }
+    ensures why { IfErr result (λ fault. IsApart fault.reason) }
 {
     let (old, new) = (versions.first.header(), versions.next.header());
     if have_same_columns(old, new) {
@@ -90,7 +95,9 @@ fn have_same_columns(old: &Cells, new: &Cells) -> bool
 }
 
 // Why the rows of a table can't be compared as wholes.
-fn other_columns() -> Reason {
+fn other_columns() -> Reason
+    ensures { IsApart result }
+{
     Reason::Io(io::Error::new(
         ErrorKind::InvalidData,
         "other columns than the first table, or in another order: compare by --key",
@@ -99,8 +106,9 @@ fn other_columns() -> Reason {
 
 // The columns of both tables, none of which is a key.
 fn columns_of_rows<'a, R>(alloc: Global, versions: &Two<'a, R>) -> Result<Columns, Fault<'a>>
-    ensures { IfOk result (λ columns.
+    ensures columns { IfOk result (λ columns.
         AreColumns [] (next_header versions.now ∷ first_header versions.now ∷ []) columns) }
+    ensures why { IfErr result (λ fault. IsApart fault.reason) }
 {
     let headers = [versions.next.header(), versions.first.header()];
     let columns = at(
@@ -115,7 +123,9 @@ fn diff_row_files<'a, R: Read + Drop>(
     job: RowJob<'_>,
     versions: &mut Two<'a, R>,
 ) -> Result<Answer, Fault<'a>>
-    ensures { IfOk result (DiffsRowSources R.remaining job.entry versions.old) }
+    ensures answer { IfOk result (DiffsRowSources R.remaining job.entry versions.old) }
+    ensures why { IfErr result (λ fault. IsApart fault.reason
+        ⊎ ExplainsRowsOf R.remaining job.entry.columns.now versions.old fault) }
 {
     let before = read_cells(job, &mut versions.first)?;
     let after = read_cells(job, &mut versions.next)?;
@@ -128,8 +138,11 @@ fn read_cells<'a, R: Read + Drop>(
     job: RowJob<'_>,
     table: &mut Opened<'a, R>,
 ) -> Result<Vec<Cells>, Fault<'a>>
-    ensures { IfOk result (λ rows.
+    ensures cells { IfOk result (λ rows.
         ReadsCells R.remaining job.entry.columns.now table.old.source.value rows.items) }
+    ensures file { IfErr result (λ fault. fault.file ≡ table.old.file) }
+    ensures why { IfErr result (λ fault.
+        ExplainsUnread R.remaining job.entry.columns.now table.old.source.value fault.reason) }
 {
     let mut rows = Vec::new(job.alloc);
     let mut order = Order::by_key();
@@ -154,8 +167,9 @@ fn cells_of(alloc: Global, rows: Vec<ReadRow>) -> Result<Vec<Cells>, AllocError>
 
 // What is answered of the rows of two tables.
 fn answer_rows(job: RowJob<'_>, before: Vec<Cells>, after: Vec<Cells>) -> Result<Answer, Reason>
-    ensures { IfOk result (AnswersRows job.entry.form job.entry.how.format job.entry.marked.now
+    ensures answer { IfOk result (AnswersRows job.entry.form job.entry.how.format job.entry.marked.now
         before.items after.items) }
+    ensures why { IfErr result IsApart }
 {
     let parts = compare_parts(job.alloc, before, after)?;
     let status = status_of(&parts);
@@ -198,20 +212,18 @@ fn is_kept(part: &Part<Cells>) -> bool
 
 // The rows that went and came, in the form that is asked for.
 fn write_parts(job: RowJob<'_>, parts: &[Part<Cells>]) -> Result<Vec<u8>, Reason>
-    ensures { IfOk result (λ text. job.entry.how.format ≡ Csv → text.items ≡ text_of job.entry.form
+    ensures text { IfOk result (λ text. job.entry.how.format ≡ Csv → text.items ≡ text_of job.entry.form
         (changes_heading job.entry.form job.entry.marked.now ++ signed_rows parts.now)) }
+    ensures why { IfErr result IsApart }
 {
     match job.how.format {
-        Format::Csv => write_signed(job, parts),
-        Format::Report(look) => {
-            let text = report_parts(job, look, parts)?;
-            Ok(text)
-        }
+        Format::Csv => Ok(write_signed(job, parts)?),
+        Format::Report(look) => report_parts(job, look, parts),
     }
 }
 
 // These rows as CSV.
-fn write_signed(job: RowJob<'_>, parts: &[Part<Cells>]) -> Result<Vec<u8>, Reason>
+fn write_signed(job: RowJob<'_>, parts: &[Part<Cells>]) -> Result<Vec<u8>, AllocError>
     ensures { IfOk result (λ text. text.items ≡ text_of job.entry.form
         (changes_heading job.entry.form job.entry.marked.now ++ signed_rows parts.now)) }
 {
@@ -222,7 +234,7 @@ fn write_signed(job: RowJob<'_>, parts: &[Part<Cells>]) -> Result<Vec<u8>, Reaso
 }
 
 // Puts the rows that went and came.
-fn put_parts(written: &mut Written, parts: &[Part<Cells>]) -> Result<(), Reason>
+fn put_parts(written: &mut Written, parts: &[Part<Cells>]) -> Result<(), AllocError>
     ensures { OnOk result (PutsRows written.old written.new (signed_rows parts.now)) }
 {
     for part in parts {
@@ -232,7 +244,7 @@ fn put_parts(written: &mut Written, parts: &[Part<Cells>]) -> Result<(), Reason>
 }
 
 // Puts a row after its sign, if it went or came.
-fn put_part(written: &mut Written, part: &Part<Cells>) -> Result<(), Reason>
+fn put_part(written: &mut Written, part: &Part<Cells>) -> Result<(), AllocError>
     ensures { OnOk result (PutsRows written.old written.new (signed_row part.now)) }
 {
     match part {
@@ -243,7 +255,7 @@ fn put_part(written: &mut Written, part: &Part<Cells>) -> Result<(), Reason>
 }
 
 // Puts a row after a sign.
-fn put_signed(written: &mut Written, sign: Sign, row: &Cells) -> Result<(), Reason>
+fn put_signed(written: &mut Written, sign: Sign, row: &Cells) -> Result<(), AllocError>
     ensures { OnOk result (PutsRows written.old written.new ((shown_sign sign ∷ row.now) ∷ [])) }
 {
     written.put_cell(sign.cell())?;
@@ -253,7 +265,9 @@ fn put_signed(written: &mut Written, sign: Sign, row: &Cells) -> Result<(), Reas
 }
 
 // These rows as a report, of rows that have no key.
-fn report_parts(job: RowJob<'_>, look: Look, parts: &[Part<Cells>]) -> Result<Vec<u8>, Reason> {
+fn report_parts(job: RowJob<'_>, look: Look, parts: &[Part<Cells>]) -> Result<Vec<u8>, Reason>
+    ensures { IfErr result IsApart }
+{
     let key = Key::new(Cells::new(job.alloc));
     let rows = row_changes(job.alloc, &key, parts)?;
     report_rows(job, look, count_old(parts), &rows)
@@ -265,7 +279,9 @@ fn report_rows<'r>(
     look: Look,
     old_rows: usize,
     rows: &[RowChange<'r>],
-) -> Result<Vec<u8>, Reason> {
+) -> Result<Vec<u8>, Reason>
+    ensures { IfErr result IsApart }
+{
     let tolerances = Tolerances::new(job.alloc, None)?;
     let alikes = tolerances.alikes(job.alloc, job.columns)?;
     let names = &job.columns.rest;

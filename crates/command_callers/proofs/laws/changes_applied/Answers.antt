@@ -25,7 +25,7 @@ returns c =
     let bytes = diff_bytes differs (record { key = refl; renames = refl; order = refl }) id_a id_a (one_x ∷ two_y ∷ []) (three_w ∷ one_z ∷ []) old_known new_known
     ((codes "1" ∷ [], codes "x" ∷ []) ∷ (codes "2" ∷ [], codes "y" ∷ []) ∷ []) ((codes "1" ∷ [], codes "z" ∷ []) ∷ (codes "3" ∷ [], codes "w" ∷ []) ∷ [])
     (tt, (refl, tt)) (tt, (refl, tt)) (IsPermutation-refl _) (IsPermutation-swap _ _ 0 1 (omega arith) (omega arith) refl) in
-    and_so c.apply.result c.apply.ensures (λ answer told. record {
+    and_so c.apply.result c.apply.ensures.answer (λ answer told. record {
       file = made_other differs told refl refl refl refl c.as_slice-2.ensures.value c.law_diff_apply_texts.ensures.plain (record { key = refl; renames = refl; order = refl }) refl refl refl (refl, refl, refl, omega arith) tt
           id_a id_a change_id_a (one_x ∷ two_y ∷ []) (three_w ∷ one_z ∷ []) (minus_one_x ∷ plus_one_z ∷ minus_two_y ∷ plus_three_w ∷ [])
           c.as_slice-text.ensures with_x_and_y refl c.as_slice.ensures with_w_then_z refl (known_changes _ _ _ _ _ bytes refl from_xy_to_zw refl)

@@ -26,4 +26,4 @@ returns c =
           (IsPermutation-refl _) (IsPermutation-refl _) (IsPermutation-refl _)
           (c.law_marks.ensures _ _ _ _ _ _ _ _ _ merges) fully (known_style _ _ _ _ fully c.as_slice-2.ensures refl refl) refl (refl, (refl, tt)) refl;
       whole = refl;
-    }) c.merge.ensures
+    }) c.merge.ensures.answer

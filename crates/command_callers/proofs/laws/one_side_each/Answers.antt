@@ -26,4 +26,4 @@ returns c =
           of_base of_ours of_theirs (tt, (refl, tt)) (tt, (refl, tt)) (tt, (refl, tt))
           (IsPermutation-refl _) (IsPermutation-refl _) (IsPermutation-refl _)
           (map alone of_both) both_rise both_are,
-    )) c.merge.ensures
+    )) c.merge.ensures.answer

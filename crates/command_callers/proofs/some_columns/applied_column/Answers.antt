@@ -26,4 +26,4 @@ returns c =
           (tt, tt) (tt, tt) (tt, tt) (IsPermutation-refl _) (IsPermutation-refl _) (IsPermutation-refl _)
           (refl, tt) plainly (known_style _ _ _ _ plainly c.as_slice.ensures refl refl) refl;
       whole = refl;
-    }) c.apply.ensures
+    }) c.apply.ensures.answer

@@ -1,4 +1,4 @@
 use Rattle.keyed_commands.proofs.commands.diff.columns_changed.Goals as goal
 
-pub returns-in-Only : goal.returns-in-Only
-returns-in-Only g c = rw c.in-Only.is (rw c.in-Only.is at c.columns_only.ensures)
+pub returns-in-Only-clause-columns : goal.returns-in-Only-clause-columns
+returns-in-Only-clause-columns g c = rw c.in-Only.is (rw c.in-Only.is at c.columns_only.ensures.columns)

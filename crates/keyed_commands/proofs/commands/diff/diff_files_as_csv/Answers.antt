@@ -1,15 +1,17 @@
-use Rattle.std.proofs.Common.{◌∙◌, ap, ap₂, subst}
+use Rattle.std.proofs.Common.{◌∙◌, ap, ap₂, inl, inr, subst}
 use Rattle.std.specs.Prelude.{is_none}
-use Rattle.std.proofs.lemmas.Result.{IfOk-weaker}
+use Rattle.std.proofs.lemmas.Result.{IfErr-weaker, IfOk-weaker}
 use Rattle.keyed_columns.specs.ChangedColumns.{marked_names}
 use Rattle.keyed_columns.specs.Names.{compared}
 use Rattle.keyed_tables.specs.Arranged.{noted}
 use Rattle.keyed_jobs.specs.Answers.{IsDiffText}
 use Rattle.keyed_jobs.proofs.ReadLemmas.{status-between}
+use Rattle.keyed_files.proofs.ReadingLemmas.{same-err}
+use Rattle.keyed_commands.proofs.UnansweredLemmas.{memory-apart}
 use Rattle.keyed_commands.proofs.commands.diff.diff_files_as_csv.Goals as goal
 
-pub returns : goal.returns
-returns g c =
+pub returns-clause-answer : goal.returns-clause-answer
+returns-clause-answer g c =
     let tables = c.in_ok-tables.tables in
     let marked = c.in_ok-marked.marked in
     let job = c.read_both.new.self in
@@ -33,3 +35,16 @@ returns g c =
       marks = c.in_ok-marked.ensures.marked ∙ ap₂ marked_names (ap (λ header. header.names) read.first_header) (ap (λ header. header.names) read.next_header);
       status = status-between c.column_changes.result _ _ _ _ answer.status headers (rw is at c.diff_as_csv-answer.ensures.status);
     }) c.at.ensures.value
+
+pub returns-in_err-tables-clause-why : goal.returns-in_err-tables-clause-why
+returns-in_err-tables-clause-why g c =
+    same-err c.from_residual.result c.in_err-tables.field-0.0 _ c.from_residual.ensures.1
+    (inr c.in_err-tables.ensures.why)
+
+pub returns-in_err-marked-clause-why : goal.returns-in_err-marked-clause-why
+returns-in_err-marked-clause-why g c =
+    same-err c.from_residual-in_err-marked.result c.in_err-marked.field-0.0 _ c.from_residual-in_err-marked.ensures.1
+    (inl c.in_err-marked.ensures.why)
+
+pub returns-clause-why : goal.returns-clause-why
+returns-clause-why g c = IfErr-weaker c.at.result _ _ (λ fault why. inl (memory-apart fault.reason why.2)) c.at.ensures.why

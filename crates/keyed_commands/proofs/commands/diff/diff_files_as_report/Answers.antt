@@ -1,15 +1,19 @@
-use Rattle.std.proofs.Common.{◌∙◌, ap, ap₂, subst}
+use Rattle.std.proofs.Common.{◌∙◌, ap, ap₂, inl, inr, subst}
 use Rattle.std.specs.Prelude.{is_none}
-use Rattle.std.proofs.lemmas.Result.{IfOk-weaker}
+use Rattle.std.proofs.lemmas.Result.{IfErr-weaker, IfOk-weaker}
 use Rattle.keyed_columns.specs.Names.{compared}
 use Rattle.keyed_tables.specs.Arranged.{noted}
 use Rattle.keyed_jobs.specs.TablesRead.{IsStatusBetween}
 use Rattle.keyed_jobs.proofs.ReadLemmas.{status-between}
 use Rattle.keyed_commands.specs.Reported.{IsTold, TellsChanges, names_among}
+use Rattle.keyed_files.proofs.ReadingLemmas.{same-err}
+use Rattle.keyed_faults.specs.Outside.{IsApart}
+use Rattle.keyed_jobs.proofs.UnreadLemmas.{told-of}
+use Rattle.keyed_commands.proofs.UnansweredLemmas.{memory-apart}
 use Rattle.keyed_commands.proofs.commands.diff.diff_files_as_report.Goals as goal
 
-pub returns : goal.returns
-returns g c =
+pub returns-clause-answer : goal.returns-clause-answer
+returns-clause-answer g c =
     let tables = c.in_ok-tables.tables in
     let job = c.read_both.new.self in
     let read = c.in_ok-tables.ensures in
@@ -38,3 +42,21 @@ returns g c =
         order = λ unordered. let after = read.unordered unordered in (after.keys, after.rows);
       };
     }) c.at-3.ensures.value
+
+pub returns-in_err-tables-clause-why : goal.returns-in_err-tables-clause-why
+returns-in_err-tables-clause-why g c =
+    same-err c.from_residual.result c.in_err-tables.field-0.0 _ c.from_residual.ensures.1
+    (inr c.in_err-tables.ensures.why)
+
+pub returns-in_err-before-clause-why : goal.returns-in_err-before-clause-why
+returns-in_err-before-clause-why g c =
+    same-err c.from_residual-in_err-before.result c.in_err-before.field-0.0 _ c.from_residual-in_err-before.ensures.1
+    (inl (memory-apart _ c.in_err-before.ensures.why.2))
+
+pub returns-in_err-after-clause-why : goal.returns-in_err-after-clause-why
+returns-in_err-after-clause-why g c =
+    same-err c.from_residual-in_err-after.result c.in_err-after.field-0.0 _ c.from_residual-in_err-after.ensures.1
+    (inl (memory-apart _ c.in_err-after.ensures.why.2))
+
+pub returns-clause-why : goal.returns-clause-why
+returns-clause-why g c = IfErr-weaker c.at-3.result _ _ (λ fault why. inl (told-of IsApart c.diff_as_report-answer.result fault why c.diff_as_report-answer.ensures.why)) c.at-3.ensures.why

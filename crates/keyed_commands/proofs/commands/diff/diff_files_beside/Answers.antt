@@ -1,16 +1,20 @@
-use Rattle.std.proofs.Common.{◌≡◌, ◌∙◌, ap, ap₂, subst}
+use Rattle.std.proofs.Common.{◌≡◌, ◌∙◌, ap, ap₂, inl, inr, subst}
 use Rattle.std.specs.Prelude.{◌||◌, is_none}
-use Rattle.std.proofs.lemmas.Result.{IfOk-weaker}
+use Rattle.std.proofs.lemmas.Result.{IfErr-weaker, IfOk-weaker}
 use Rattle.keyed_columns.specs.ChangedColumns.{marked_names}
 use Rattle.keyed_columns.specs.Names.{compared, has_lone}
 use Rattle.keyed_tables.specs.Arranged.{noted}
 use Rattle.keyed_jobs.specs.Answers.{columns_differ}
 use Rattle.keyed_jobs.specs.Beside.{AnswersBeside}
 use Rattle.keyed_jobs.specs.TablesRead.{headers_differ}
+use Rattle.keyed_files.proofs.ReadingLemmas.{same-err}
+use Rattle.keyed_faults.specs.Outside.{IsApart}
+use Rattle.keyed_jobs.proofs.UnreadLemmas.{told-of}
+use Rattle.keyed_commands.proofs.UnansweredLemmas.{memory-apart}
 use Rattle.keyed_commands.proofs.commands.diff.diff_files_beside.Goals as goal
 
-pub returns : goal.returns
-returns g c =
+pub returns-clause-answer : goal.returns-clause-answer
+returns-clause-answer g c =
     let tables = c.in_ok-tables.tables in
     let marked = c.in_ok-marked.marked in
     let job = c.read_both.new.self in
@@ -29,7 +33,7 @@ returns g c =
       notes = read.notes;
       beside = record {
         compared = c.in_ok-compared.compared.items;
-        are = rw (c.header-before.ensures, c.header-after.ensures) at (rw c.in_ok-compared.ensures.value at c.compared_columns-compared.ensures);
+        are = rw (c.header-before.ensures, c.header-after.ensures) at (rw c.in_ok-compared.ensures.value at c.compared_columns-compared.ensures.compared);
         keys = noted job.order;
         by_cells = is_none job.row_order.files;
         changes = subst (λ j. AnswersBeside j.form j.columns.now (noted job.order) (is_none job.row_order.files) c.in_ok-compared.compared.items (marked_names before after) (headers_differ before after)
@@ -43,3 +47,21 @@ returns g c =
         order = λ unordered. let after = read.unordered unordered in (after.keys, after.rows);
       };
     }) c.at-2.ensures.value
+
+pub returns-in_err-compared-clause-why : goal.returns-in_err-compared-clause-why
+returns-in_err-compared-clause-why g c =
+    same-err c.from_residual.result c.in_err-compared.field-0.0 _ c.from_residual.ensures.1
+    (inl (told-of IsApart c.compared_columns-compared.result c.in_err-compared.field-0.0 c.in_err-compared.ensures.why c.compared_columns-compared.ensures.why))
+
+pub returns-in_err-tables-clause-why : goal.returns-in_err-tables-clause-why
+returns-in_err-tables-clause-why g c =
+    same-err c.from_residual-in_err-tables.result c.in_err-tables.field-0.0 _ c.from_residual-in_err-tables.ensures.1
+    (inr c.in_err-tables.ensures.why)
+
+pub returns-in_err-marked-clause-why : goal.returns-in_err-marked-clause-why
+returns-in_err-marked-clause-why g c =
+    same-err c.from_residual-in_err-marked.result c.in_err-marked.field-0.0 _ c.from_residual-in_err-marked.ensures.1
+    (inl c.in_err-marked.ensures.why)
+
+pub returns-clause-why : goal.returns-clause-why
+returns-clause-why g c = IfErr-weaker c.at-2.result _ _ (λ fault why. inl (memory-apart fault.reason why.2)) c.at-2.ensures.why

@@ -1,11 +1,13 @@
-use Rattle.std.proofs.Common.{refl, subst}
+use Rattle.std.proofs.Common.{inl, inr, refl, subst}
 use Rattle.std.specs.Prelude.{is_none}
 use Rattle.keyed_tables.specs.Arranged.{noted}
 use Rattle.keyed_commands.specs.JoinAnswers.{IsJoinText}
+use Rattle.keyed_files.proofs.ReadingLemmas.{same-err}
+use Rattle.keyed_commands.proofs.UnansweredLemmas.{memory-apart}
 use Rattle.keyed_commands.proofs.commands.join.join_files.Goals as goal
 
-pub returns : goal.returns
-returns g c =
+pub returns-clause-answer : goal.returns-clause-answer
+returns-clause-answer g c =
     let tables = c.in_ok-tables.tables in
     let form = c.args.form.now in
     let job = c.read_sides.new.self in
@@ -26,3 +28,13 @@ returns g c =
       status = refl;
       outcome = refl;
     }
+
+pub returns-in_err-tables-clause-why : goal.returns-in_err-tables-clause-why
+returns-in_err-tables-clause-why g c =
+    same-err c.from_residual.result c.in_err-tables.field-0.0 _ c.from_residual.ensures.1
+    (inr c.in_err-tables.ensures.why)
+
+pub returns-in_err-bytes-clause-why : goal.returns-in_err-bytes-clause-why
+returns-in_err-bytes-clause-why g c =
+    same-err c.from_residual-in_err-bytes.result c.in_err-bytes.field-0.0 _ c.from_residual-in_err-bytes.ensures.1
+    (inl (memory-apart _ c.in_err-bytes.ensures.why.2))

@@ -1,4 +1,4 @@
-use Rattle.std.proofs.Common.{◌≡◌, ◌∷◌, ◌∙◌, [], ap, arith, rules, subst}
+use Rattle.std.proofs.Common.{◌≡◌, ◌∷◌, ◌∙◌, [], ◌⊎◌, ap, arith, rules, subst}
 use Rattle.std.proofs.lemmas.Grind.{common_steps}
 use Rattle.keyed_columns.specs.declared.columns.Columns.{Columns}
 use Rattle.keyed_columns.specs.declared.content.Content.TheVariants.{Rows}
@@ -8,6 +8,10 @@ use Rattle.keyed_jobs.specs.FileOrder.{OfKeys, noted_with}
 use Rattle.keyed_jobs.specs.declared.job.Job.{Job}
 use Rattle.keyed_commands.specs.OverlayAnswers.{LaysTables, rows_laid}
 use Rattle.keyed_commands.proofs.OverlayLemmas.{lays_none, lays_then, notes_none, notes_then}
+use Rattle.keyed_faults.specs.Outside.{IsApart}
+use Rattle.keyed_files.proofs.ReadingLemmas.{same-err}
+use Rattle.keyed_commands.specs.UnansweredOverlay.{ExplainsOne}
+use Rattle.keyed_commands.proofs.UnansweredOverlayLemmas.{laid-later, laid-whole, one-of-laid}
 use Rattle.keyed_commands.proofs.commands.overlay.lay_all.Goals as goal
 
 pub loop-table-preserved : goal.loop-table-preserved
@@ -24,6 +28,7 @@ loop-table-preserved g c =
           (subst (λ j. OfKeys (watched_left g.R.Read.remaining) Rows j.columns.now c.in-Some.table.source.value (λ keys. noted c.lay.new.job.order ≡ noted_with (noted c.loop-table.job.order) keys)) before.same one.notes) more);
       same = one.same ∙ ap set before.same;
       unordered = λ unordered. one.unordered (before.unordered unordered);
+      why = λ fault later. before.why fault (laid-later g.R.Read.remaining job.groups job.columns.now _ _ c.in-Some.table fault c.in-Some.ensures.steps.0 later);
     }
 
 pub returns-clause-laid : goal.returns-clause-laid
@@ -36,3 +41,10 @@ pub returns-clause-notes : goal.returns-clause-notes
 returns-clause-notes g c =
     let none : c.loop-table.table-iterator.rest.items ≡ [] = first_of (search rules, grind (arith, common_steps)) in
     c.loop-table.invariant.notes _ (notes_none g.R.Read.remaining c.args.job.now.columns.now _ _ none)
+
+pub returns-in_err-laid-clause-why : goal.returns-in_err-laid-clause-why
+returns-in_err-laid-clause-why g c =
+    same-err c.from_residual.result c.in_err-laid.field-0.0 _ c.from_residual.ensures.1
+    (laid-whole g.R.Read.remaining c.args.job.now.groups c.args.job.now.columns.now _ c.args.tables.items _ (c.loop-table.invariant.why _)
+    (one-of-laid g.R.Read.remaining c.args.job.now.groups c.args.job.now.columns.now _ _ c.in-Some.table _ c.in-Some.ensures.steps.0
+    (subst (λ job. IsApart c.in_err-laid.field-0.0.reason ⊎ ExplainsOne g.R.Read.remaining job.groups job.columns.now c.in-Some.table c.in_err-laid.field-0.0) c.loop-table.invariant.same c.in_err-laid.ensures.why)))

@@ -1,15 +1,17 @@
-use Rattle.std.proofs.Common.{subst}
+use Rattle.std.proofs.Common.{inl, subst}
 use Rattle.std.specs.Prelude.{is_none}
-use Rattle.std.proofs.lemmas.Result.{IfOk-weaker}
+use Rattle.std.proofs.lemmas.Result.{IfErr-weaker, IfOk-weaker}
 use Rattle.keyed_requests.specs.AnswerForm.{in_style}
 use Rattle.keyed_tables.specs.Arranged.{noted}
 use Rattle.keyed_jobs.specs.Answers.{IsTableFile}
 use Rattle.keyed_jobs.specs.NotedStyles.{IsStyleBy}
 use Rattle.keyed_commands.specs.OverlayAnswers.{rows_laid}
+use Rattle.keyed_files.proofs.ReadingLemmas.{same-err}
+use Rattle.keyed_commands.proofs.UnansweredLemmas.{memory-apart}
 use Rattle.keyed_commands.proofs.commands.overlay.overlay_files.Goals as goal
 
-pub returns : goal.returns
-returns g c =
+pub returns-clause-answer : goal.returns-clause-answer
+returns-clause-answer g c =
     let laid = c.in_ok-laid.laid in
     let job = c.lay_all.new.job in
     let style = c.style_under-style.result in
@@ -37,3 +39,11 @@ returns g c =
         order = λ unordered. let after = read.unordered unordered in (after.keys, after.rows);
       };
     }) c.at.ensures.value
+
+pub returns-in_err-laid-clause-why : goal.returns-in_err-laid-clause-why
+returns-in_err-laid-clause-why g c =
+    same-err c.from_residual.result c.in_err-laid.field-0.0 _ c.from_residual.ensures.1
+    (c.in_err-laid.ensures.why)
+
+pub returns-clause-why : goal.returns-clause-why
+returns-clause-why g c = IfErr-weaker c.at.result _ _ (λ fault why. inl (memory-apart fault.reason why.2)) c.at.ensures.why

@@ -1,5 +1,5 @@
-use Rattle.std.proofs.Common.{◌∙◌, ap, subst, sym}
-use Rattle.std.proofs.lemmas.Result.{IfOk-weaker}
+use Rattle.std.proofs.Common.{◌∙◌, ap, inl, inr, subst, subst₂, sym}
+use Rattle.std.proofs.lemmas.Result.{IfErr-weaker, IfOk-weaker}
 use Rattle.keyed_columns.specs.Keys.{AreChangedColumnsBy}
 use Rattle.keyed_columns.specs.Spelled.{IsSpelledAs}
 use Rattle.keyed_columns.specs.declared.columns.Columns.{Columns}
@@ -8,10 +8,14 @@ use Rattle.keyed_jobs.specs.NotedStyles.{watched_left}
 use Rattle.keyed_jobs.specs.Rejected.{plain}
 use Rattle.keyed_commands.specs.AppliedTexts.{PartlyTexts}
 use Rattle.keyed_commands.proofs.TextAnswerLemmas.{partly-streams, two-alike}
+use Rattle.keyed_columns.specs.declared.content.Content.TheVariants.{Changes, Rows}
+use Rattle.keyed_files.proofs.ReadingLemmas.{same-err}
+use Rattle.keyed_commands.specs.Unanswered.{ExplainsChange}
+use Rattle.keyed_commands.proofs.UnansweredLemmas.{both-of, change-unanswered, opens-anew, opens-kept, opens-same}
 use Rattle.keyed_commands.proofs.commands.partly.apply_partly.Goals as goal
 
-pub returns : goal.returns
-returns g c =
+pub returns-clause-partly : goal.returns-clause-partly
+returns-clause-partly g c =
     let settings = c.args.settings in
     let direction = c.args.direction in
     let how = c.in_ok-how.how in
@@ -31,4 +35,53 @@ returns g c =
     c.in_ok-rename.ensures.named c.in_ok-how.ensures.same c.new-2.ensures.form c.new-2.ensures.groups c.new-2.ensures.unordered c.new-2.ensures.order
     (subst P (sym c.new-2.ensures.columns) c.in_ok-columns.ensures.columns)
     (subst (IsSpelledAs named.first.source.value.header.spelling.names named.first.source.value.header.spelling.spelled) (sym c.new-2.ensures.columns) c.in_ok-columns.ensures.spelled)
-    read)) c.partly_files.ensures
+    read)) c.partly_files.ensures.partly
+
+pub returns-in_err-watched-clause-why : goal.returns-in_err-watched-clause-why
+returns-in_err-watched-clause-why g c =
+    same-err c.from_residual.result c.in_err-watched.field-0.0 _ c.from_residual.ensures.1
+    (inr (inl (inl (c.in_err-watched.ensures.file, c.in_err-watched.ensures.why))))
+
+pub returns-in_err-inputs-clause-why : goal.returns-in_err-inputs-clause-why
+returns-in_err-inputs-clause-why g c =
+    same-err c.from_residual-in_err-inputs.result c.in_err-inputs.field-0.0 _ c.from_residual-in_err-inputs.ensures.1
+    (inr (inl (both-of c.args.old c.args.changes c.in_ok-watched.watched.0 c.unwatched-changes.result c.in_err-inputs.field-0.0 c.in_ok-watched.ensures.named
+    c.unwatched-changes.ensures.named c.in_ok-watched.ensures.opens c.unwatched-changes.ensures.opens c.in_err-inputs.ensures.why)))
+
+pub returns-in_err-rename-clause-why : goal.returns-in_err-rename-clause-why
+returns-in_err-rename-clause-why g c =
+    same-err c.from_residual-in_err-rename.result c.in_err-rename.field-0.0 _ c.from_residual-in_err-rename.ensures.1
+    (inr (inr (inl (
+      c.in_ok-inputs.inputs.first,
+      opens-kept g.R.Read.remaining (watched_left g.R.Read.remaining) c.args.settings.form Rows c.args.old c.in_ok-watched.watched.0 c.in_ok-inputs.inputs.first c.in_ok-watched.ensures.form
+          c.in_ok-watched.ensures.text c.in_ok-watched.ensures.named c.in_ok-inputs.ensures.first_named c.in_ok-inputs.ensures.first,
+      c.in_err-rename.ensures.file ∙ (c.in_ok-inputs.ensures.first_named ∙ c.in_ok-watched.ensures.named),
+      c.in_err-rename.ensures.why,
+    ))))
+
+pub returns-in_err-how-clause-why : goal.returns-in_err-how-clause-why
+returns-in_err-how-clause-why g c =
+    same-err c.from_residual-in_err-how.result c.in_err-how.field-0.0 _ c.from_residual-in_err-how.ensures.1
+    (inl c.in_err-how.ensures.why)
+
+pub returns-in_err-columns-clause-why : goal.returns-in_err-columns-clause-why
+returns-in_err-columns-clause-why g c =
+    same-err c.from_residual-in_err-columns.result c.in_err-columns.field-0.0 _ c.from_residual-in_err-columns.ensures.1
+    (inl c.in_err-columns.ensures.why)
+
+pub returns-clause-why : goal.returns-clause-why
+returns-clause-why g c =
+    let settings = c.args.settings in
+    let inputs = c.in_ok-inputs.inputs in
+    let named = record inputs { first = c.rename.new.self } in
+    IfErr-weaker c.partly_files.result _ _
+    (λ fault why. change-unanswered g.R.Read.remaining (watched_left g.R.Read.remaining) settings c.args.direction c.args.old c.args.changes fault named c.how_marked.new.changes c.in_ok-columns.columns
+    (opens-anew g.R.Read.remaining (watched_left g.R.Read.remaining) settings c.args.old inputs.first c.rename.new.self
+    (opens-kept g.R.Read.remaining (watched_left g.R.Read.remaining) c.args.settings.form Rows c.args.old c.in_ok-watched.watched.0 c.in_ok-inputs.inputs.first c.in_ok-watched.ensures.form
+    c.in_ok-watched.ensures.text c.in_ok-watched.ensures.named c.in_ok-inputs.ensures.first_named c.in_ok-inputs.ensures.first)
+    c.in_ok-rename.ensures.same c.in_ok-rename.ensures.named)
+    (opens-same g.R.Read.remaining (watched_left g.R.Read.remaining) settings.form Changes c.args.changes c.unwatched-changes.result inputs.next (c.unwatched-changes.ensures.form settings.form)
+    (c.unwatched-changes.ensures.text settings.form) c.unwatched-changes.ensures.named c.in_ok-inputs.ensures.next_named c.in_ok-inputs.ensures.next)
+    c.in_ok-how.ensures.named c.in_ok-how.ensures.same c.in_ok-columns.ensures.columns
+    (subst₂ (λ groups columns. ExplainsChange (watched_left g.R.Read.remaining) groups columns (record named { next = c.how_marked.new.changes }) fault) c.new-2.ensures.groups c.new-2.ensures.columns why))
+    c.partly_files.ensures.why

@@ -1,16 +1,18 @@
-use Rattle.std.proofs.Common.{◌∙◌, ap₂, subst}
+use Rattle.std.proofs.Common.{◌∙◌, ap, ap₂, inl, inr, subst}
 use Rattle.std.specs.Prelude.{is_none}
-use Rattle.std.proofs.lemmas.Result.{IfOk-weaker}
+use Rattle.std.proofs.lemmas.Result.{IfErr-weaker, IfOk-weaker}
 use Rattle.keyed_requests.specs.AnswerForm.{in_style}
 use Rattle.keyed_tables.specs.Arranged.{noted}
 use Rattle.keyed_jobs.specs.MadeChanges.{made_in, made_with, missing_by}
-use Rattle.keyed_jobs.specs.NotedStyles.{IsStyleBy}
+use Rattle.keyed_jobs.specs.NotedStyles.{IsStyleBy, watched_left}
 use Rattle.keyed_jobs.specs.Turned.{changes_in}
 use Rattle.keyed_commands.specs.PartlyAnswers.{AnswersPartly}
+use Rattle.keyed_files.proofs.ReadingLemmas.{same-err}
+use Rattle.keyed_commands.proofs.UnansweredLemmas.{change-unspelled, memory-apart}
 use Rattle.keyed_commands.proofs.commands.partly.partly_files.Goals as goal
 
-pub returns : goal.returns
-returns g c =
+pub returns-clause-partly : goal.returns-clause-partly
+returns-clause-partly g c =
     let tables = c.in_ok-tables.tables in
     let job = c.read_to_change.new.self in
     let style = c.style_under-style.result in
@@ -44,3 +46,24 @@ returns g c =
         order = λ unordered. let after = read.unordered unordered in (after.keys, after.rows);
       };
     }) c.at-2.ensures.value
+
+pub returns-in_err-missing-clause-why : goal.returns-in_err-missing-clause-why
+returns-in_err-missing-clause-why g c =
+    same-err c.from_residual.result c.in_err-missing.field-0.0 _ c.from_residual.ensures.1
+    (inl (memory-apart _ c.in_err-missing.ensures.why.2))
+
+pub returns-in_err-tables-clause-why : goal.returns-in_err-tables-clause-why
+returns-in_err-tables-clause-why g c =
+    same-err c.from_residual-in_err-tables.result c.in_err-tables.field-0.0 _ c.from_residual-in_err-tables.ensures.1
+    (inr c.in_err-tables.ensures.why)
+
+pub returns-in_err-spelling-clause-why : goal.returns-in_err-spelling-clause-why
+returns-in_err-spelling-clause-why g c =
+    let read = c.in_ok-tables.ensures in
+    let told = c.in_err-spelling.field-0.0 in
+    same-err c.from_residual-in_err-spelling.result told _ c.from_residual-in_err-spelling.ensures.1
+    (change-unspelled (watched_left g.R.Read.remaining) _ c.args.job.columns.now _ c.args.inputs.now c.read_to_change.new.inputs.first told read.first_named read.first_header
+    (ap (λ job. job.columns.now) read.same) c.in_err-spelling.ensures.file c.in_err-spelling.ensures.why)
+
+pub returns-clause-why : goal.returns-clause-why
+returns-clause-why g c = IfErr-weaker c.at-2.result _ _ (λ fault why. inl (memory-apart fault.reason why.2)) c.at-2.ensures.why

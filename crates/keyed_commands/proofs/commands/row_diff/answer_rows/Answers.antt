@@ -2,8 +2,8 @@ use Rattle.std.proofs.Common.{rules}
 use Rattle.keyed_commands.proofs.RowDiffLemmas.{same-rows}
 use Rattle.keyed_commands.proofs.commands.row_diff.answer_rows.Goals as goal
 
-pub returns : goal.returns
-returns c = record {
+pub returns-clause-answer : goal.returns-clause-answer
+returns-clause-answer c = record {
   parts = c.in_ok-parts.parts.items;
   before = c.in_ok-parts.ensures.old;
   after = c.in_ok-parts.ensures.new;

@@ -11,7 +11,7 @@ loop-preserved g c =
     takes_and c.args.bound.now c.args.self.now c.loop.self c.pop.new.self c.loop.rows.items c.loop.invariant c.in-Some.ensures.same
     c.push.new.self.items c.in-Some.row c.in-Some.ensures.first c.in-Some.ensures.rest c.in_ok-push-in-Some.ensures.items
 
-pub returns-in-None : goal.returns-in-None
-returns-in-None g c =
+pub returns-in-None-clause-rows : goal.returns-in-None-clause-rows
+returns-in-None-clause-rows g c =
     takes_all c.args.bound.now c.args.self.now c.loop.self c.pop.new.self c.loop.rows.items c.loop.invariant c.in-None.ensures.same
     c.in-None.ensures.first c.in-None.ensures.rest
