@@ -19,6 +19,7 @@ use Rattle.keyed_jobs.specs.ChangeRows.{changes_heading, changes_rows}
 use Rattle.keyed_jobs.specs.TablesRead.{DiffsTexts, headers_differ}
 use Rattle.keyed_jobs.specs.declared.answer.Answer.{Answer}
 use Rattle.keyed_jobs.proofs.AnswerLemmas.{key_exact, key_total}
+use Rattle.command_callers.specs.Cases.{IsAnswer}
 use Rattle.command_callers.proofs.KnownJoins.{kept_joined}
 use Rattle.command_callers.proofs.KnownRows.{alone_rise}
 use Rattle.command_callers.proofs.KnownTables.{IsKnown, IsPlain, KeyedRows, came_out, columns_are, header_is, names_are, rows_by, table_is}
@@ -111,3 +112,12 @@ module _ {settings : Settings} {old_form new_form : Form} {old_text new_text : L
         old_table ∙ same ∙ sym new_table,
         ap (λ n. headers_differ n d.next_header) old_names ∙ ap (λ n. headers_differ old_fields n) new_names ∙ headers,
       ))
+
+  -- both of them, with the text
+  pub diff_changed : same_tables (map alone old) (map alone old) ≡ true → same_tables (map alone old) (map alone new) ≡ false
+      → IsAnswer 1 (diff_text settings.form old_fields new_fields old new) answer
+  diff_changed itself differ = (diff_differs itself differ, diff_bytes)
+
+  pub diff_unchanged : map alone old ≡ map alone new → headers_differ old_fields new_fields ≡ false
+      → IsAnswer 0 (diff_text settings.form old_fields new_fields old new) answer
+  diff_unchanged same headers = (diff_same same headers, diff_bytes)

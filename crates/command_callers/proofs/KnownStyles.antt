@@ -6,7 +6,8 @@ use Rattle.keyed_requests.specs.declared.request.Form.{Form}
 use Rattle.keyed_requests.specs.declared.writing.Heading.{Heading}
 use Rattle.keyed_requests.specs.declared.writing.Heading.TheVariants.{Written}
 use Rattle.keyed_jobs.specs.NotedStyles.{IsStyleOf, marks_in}
-use Rattle.command_callers.specs.Answered.{IsButForEnd}
+use Rattle.keyed_jobs.specs.declared.answer.Answer.{Answer}
+use Rattle.command_callers.specs.Answered.{IsButForEnd, IsInStyle, IsSpelledIn, IsTableInStyle, file_in}
 
 -- a text in a form is known, and with it its style
 pub record IsStyled (form : Form) (heading : Heading) (text : List ℕ) (named : Style) : Type 0 where
@@ -24,3 +25,7 @@ pub named_style : (form : Form) (heading : Heading) (text : List ℕ) (named sty
 named_style form heading text named style known of =
     let plainly = subst (λ h. IsStyleOf form h text style) known.written of in
     subst (λ t. IsStyleOf form Written t style) known.is plainly ∙ ap (λ (s : Style). record s { has_end = style.has_end }) known.style
+
+pub table_in_style : {rows : List (List (List ℕ))} {named : Style} {text : List ℕ} {answer : Answer} → IsInStyle (IsButForEnd named) (IsSpelledIn rows) answer
+    → file_in rows named ≡ text → IsTableInStyle rows named text answer
+table_in_style file whole = record { file = file; whole = whole }

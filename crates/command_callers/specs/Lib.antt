@@ -1,4 +1,5 @@
 pub mod Answered
+pub mod Cases
 pub mod Keys
 pub mod Repeats
 pub mod Shown
