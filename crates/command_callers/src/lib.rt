@@ -53,8 +53,8 @@ pub mod texts;
 
 use keyed_commands::{
     Answer, Comparing, Conflicts, Delimiter, Direction, Fault, Form, Format, JoinNames, Joining,
-    Kind, Look, Merging, Reading, RowFormat, Settings, Stream, Unit, View, Writing, apply, diff,
-    join, merge,
+    Kind, Layout, Look, Merging, Reading, RowFormat, Settings, Stream, Unit, View, Writing, apply,
+    diff, join, merge,
 };
 use std::alloc::Global;
 
@@ -76,7 +76,13 @@ const PLAIN: Settings<'static> = Settings {
     look: Look::PLAIN,
 };
 
-// The same, where rows come out in the order of the files.
+// The same of commands that write while they read.
+const LAYOUT: Layout<'static> = Layout {
+    form: FORM,
+    key: None,
+};
+
+// The same as at first, where rows come out in the order of the files.
 const IN_ORDER: Settings<'static> = Settings {
     keeps_order: true,
     ..PLAIN

@@ -1,21 +1,9 @@
 //! Callers of `lookup`.
 ghost use Rattle.std.specs.Prelude.{◌≡◌, ◌++◌, IfOk, OnOk, codes};
 
-use keyed_commands::{
-    Delimiter, Fault, Finding, Form, JoinNames, Layout, LookupKind, Reading, RowFormat, Stream,
-    Writing, lookup,
-};
+use crate::LAYOUT;
+use keyed_commands::{Fault, Finding, JoinNames, LookupKind, RowFormat, Stream, lookup};
 use std::alloc::Global;
-
-const LAYOUT: Layout<'static> = Layout {
-    form: Form {
-        delimiter: Delimiter::COMMA,
-        has_header: true,
-        reading: Reading::STRICT,
-        writing: Writing::PLAIN,
-    },
-    key: None,
-};
 
 const LEFT: Finding<'static> = Finding {
     kind: LookupKind::Left,
@@ -25,14 +13,12 @@ const LEFT: Finding<'static> = Finding {
 
 const INNER: Finding<'static> = Finding {
     kind: LookupKind::Inner,
-    names: JoinNames::PLAIN,
-    format: RowFormat::Csv,
+    ..LEFT
 };
 
 const ANTI: Finding<'static> = Finding {
     kind: LookupKind::Anti,
-    names: JoinNames::PLAIN,
-    format: RowFormat::Csv,
+    ..LEFT
 };
 
 /// Appends the rows of a table in their order, each with what another one has under its key, and returns the status, 0.

@@ -2,26 +2,11 @@
 ghost use Rattle.std.specs.Prelude.{◌≡◌, ◌∷◌, [], IfOk, codes};
 ghost use Rattle.command_callers.specs.Answered.{IsTableInStyle, plainly};
 
+use crate::PLAIN;
 use keyed_commands::{
-    Answer, Comparing, Delimiter, Direction, Fault, Form, Format, Look, Picked, Reading, Settings,
-    Stream, View, Writing, apply, diff,
+    Answer, Comparing, Direction, Fault, Format, Picked, Stream, View, apply, diff,
 };
 use std::alloc::Global;
-
-// Tables with commas and a header, whose key is the first column.
-const PLAIN: Settings<'static> = Settings {
-    form: Form {
-        delimiter: Delimiter::COMMA,
-        has_header: true,
-        reading: Reading::STRICT,
-        writing: Writing::PLAIN,
-    },
-    key: None,
-    renames: None,
-    keeps_order: false,
-    groups: false,
-    look: Look::PLAIN,
-};
 
 /// Returns the changes of one column between two tables of which another one is another too, with status 1.
 ///

@@ -1,22 +1,9 @@
 //! What a program knows of tables that it knows when it is written and that are compared while they are read.
 ghost use Rattle.std.specs.Prelude.{◌≡◌, IfOk, codes};
 
-use keyed_commands::{
-    Answer, Delimiter, Fault, Form, Layout, Outcome, Reading, SortedChanges, Stream, Writing,
-    diff_sorted,
-};
+use crate::LAYOUT;
+use keyed_commands::{Answer, Fault, Outcome, SortedChanges, Stream, diff_sorted};
 use std::alloc::Global;
-
-// Tables with commas and a header, whose key is the first column.
-const LAYOUT: Layout<'static> = Layout {
-    form: Form {
-        delimiter: Delimiter::COMMA,
-        has_header: true,
-        reading: Reading::STRICT,
-        writing: Writing::PLAIN,
-    },
-    key: None,
-};
 
 /// Returns what is written of the changes between two tables in which a row has other cells, while they are read, with status 1.
 ///
