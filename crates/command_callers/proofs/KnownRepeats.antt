@@ -139,11 +139,11 @@ module _ {R : Type 0} (rem : R → Option (List ℕ)) (settings : Settings) (how
   pub twice-told : (fault : Fault) (repeated : RepeatedKey) → fault.reason ≡ reason.RepeatedKey repeated → ExplainsDiff rem settings how old new fault
       → (fault.file ≡ old.file) × (repeated.key ≡ codes "1" ∷ [])
   unfolding distinct field_at repeats
-  twice-told fault repeated is (inl apart) = let never : ⊥ = subst IsApart is apart in absurd never
-  twice-told fault repeated is (inr (inl (inl one))) = absurd (opening-never old.reader old_inner fault.reason repeated old_is is one.1)
-  twice-told fault repeated is (inr (inl (inr one))) = absurd (opening-never new.reader new_inner fault.reason repeated new_is is one.1)
-  twice-told fault repeated is (inr (inr (inl anew))) = absurd (naming-never settings anew.0.source.value fault.reason plain.key plain.renames anew.3)
-  twice-told fault repeated is (inr (inr (inr (two, first, next, (columns, are, inl (file, table)))))) =
+  twice-told fault repeated is (inl (inl one)) = absurd (opening-never old.reader old_inner fault.reason repeated old_is is one.1)
+  twice-told fault repeated is (inl (inr one)) = absurd (opening-never new.reader new_inner fault.reason repeated new_is is one.2)
+  twice-told fault repeated is (inr (inl anew)) = absurd (naming-never settings anew.1.0.source.value fault.reason plain.key plain.renames anew.1.3)
+  twice-told fault repeated is (inr (inr (two, first, next, inl apart))) = let never : ⊥ = subst IsApart is apart.0 in absurd never
+  twice-told fault repeated is (inr (inr (two, first, next, inr (columns, are, inl (file, table))))) =
       let source = two.first.source.value in
       let same : source ≡ first.before.source.value = named-same settings first.before.source.value source plain.key plain.renames first.anew in
       let found = repeated-rows rem settings.groups columns source repeated (subst (ExplainsTable rem settings.groups columns source) is table) in
@@ -155,7 +155,7 @@ module _ {R : Type 0} (rem : R → Option (List ℕ)) (settings : Settings) (how
         two-alike found.0 (codes "1" ∷ []) repeated.key _ _ repeated.first repeated.second found.2.twice.0
             (parts ∙ ap (λ k. rows_by id_a k columns.rest (one_x ∷ one_y ∷ [])) (key-is two columns are header)) found.2.twice.1,
       )
-  twice-told fault repeated is (inr (inr (inr (two, first, next, (columns, are, inr (file, table)))))) =
+  twice-told fault repeated is (inr (inr (two, first, next, inr (columns, are, inr (file, table))))) =
       let source = two.next.source.value in
       let found = repeated-rows rem settings.groups columns source repeated (subst (ExplainsTable rem settings.groups columns source) is table) in
       let parts = known-rows rem settings.form new two.next new_text id_a (one_x ∷ []) new_has new_known next columns found.0 found.1 in

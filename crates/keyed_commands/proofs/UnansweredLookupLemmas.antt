@@ -2,7 +2,6 @@
 use Rattle.std.proofs.Common.{◌≡◌, ◌∙◌, ◌++◌, ◌⊎◌, ℕ, List, [], ◌∷◌, Option, append_assoc, append-nil, inl, inr, option_map, refl, subst, sym}
 use Rattle.std.specs.Map.{lookup}
 use Rattle.eob_joins.proofs.TableLemmas.{by_test}
-use Rattle.keyed_faults.specs.Outside.{IsApart}
 use Rattle.keyed_faults.specs.declared.fault.Fault.{Fault}
 use Rattle.keyed_faults.specs.declared.fault.Reason.{Reason}
 use Rattle.keyed_requests.specs.declared.request.Layout.{Layout}
@@ -21,6 +20,7 @@ use Rattle.keyed_commands.specs.LookupAnswers.{held_rows, key_eq}
 use Rattle.keyed_commands.specs.Unanswered.{OpensFile}
 use Rattle.keyed_commands.specs.UnansweredLookup.{ExplainsFound, ExplainsLeft, ExplainsLookup, GoesOn, line_under}
 use Rattle.keyed_commands.specs.declared.commands.lookup.Found.{Found}
+use Rattle.keyed_commands.proofs.UnansweredLemmas.{among-one, apart-among}
 
 -- the rows that are held have under a key the line that is kept with it
 pub line-held : (entries : List (List (List ℕ) × Found)) (key : List (List ℕ))
@@ -57,8 +57,9 @@ module _ {R : Type 0} (rem : R → Option (List ℕ)) where
   }
 
   pub left-after : (old mid : Opened R) (fault : Fault) → mid.file ≡ old.file → GoesOn rem old.source.value mid.source.value → ExplainsLeft rem mid fault → ExplainsLeft rem old fault
-  left-after old mid fault named before (inl apart) = inl apart
-  left-after old mid fault named before (inr of_row) = inr (of_row.0 ∙ named, rows-after old.source.value mid.source.value fault.reason before of_row.1)
+  left-after old mid fault named before (inl output) = inl output
+  left-after old mid fault named before (inr (inl apart)) = inr (inl (apart.0, inl (among-one mid.file fault.file apart.1 ∙ named)))
+  left-after old mid fault named before (inr (inr of_row)) = inr (inr (of_row.0 ∙ named, rows-after old.source.value mid.source.value fault.reason before of_row.1))
 
   -- both tables are opened, and one of them is not read
   pub lookup-unread : (layout : Layout) (left right : Stream R) (fault : Fault) (sides : Two R) (columns : JoinColumns)
@@ -66,12 +67,14 @@ module _ {R : Type 0} (rem : R → Option (List ℕ)) where
       → AreJoinColumns layout.key (first_header sides) (next_header sides) columns
       → (((fault.file ≡ sides.first.file) × ExplainsUnread rem columns.left sides.first.source.value fault.reason)
       ⊎ ((fault.file ≡ sides.next.file) × ExplainsFound rem columns.right sides.next.source.value fault.reason)) → ExplainsLookup rem layout left right fault
-  lookup-unread layout left right fault sides columns first next are why = inr (inr (sides, first, next, (columns, are, why)))
+  lookup-unread layout left right fault sides columns first next are why = inr (sides, first, next, inr (inr (columns, are, why)))
 
   -- the left one is not read to its end
   pub lookup-unanswered : (layout : Layout) (left right : Stream R) (fault : Fault) (sides : Two R) (columns : JoinColumns)
       → OpensFile rem rem layout.form Rows left sides.first → OpensFile rem rem layout.form Rows right sides.next
       → AreJoinColumns layout.key (first_header sides) (next_header sides) columns → ExplainsLeft rem sides.first fault → ExplainsLookup rem layout left right fault
-  lookup-unanswered layout left right fault sides columns first next are (inl apart) = inl apart
-  lookup-unanswered layout left right fault sides columns first next are (inr of_row) =
+  lookup-unanswered layout left right fault sides columns first next are (inl output) = inr (sides, first, next, inr (inl output))
+  lookup-unanswered layout left right fault sides columns first next are (inr (inl apart)) =
+      inr (sides, first, next, inl (apart-among sides.first.file (sides.next.file ∷ []) fault apart))
+  lookup-unanswered layout left right fault sides columns first next are (inr (inr of_row)) =
       lookup-unread layout left right fault sides columns first next are (inl (of_row.0, inr of_row.1))

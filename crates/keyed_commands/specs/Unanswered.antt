@@ -1,8 +1,9 @@
--- Why a command gives no answer: it has to do with no table, or a stream can't be opened, or a column or a row of a stream is to blame.
-use Rattle.std.specs.Prelude.{◌≡◌, ◌⊎◌, ℕ, Bool, List, [], ◌∷◌, IfSome, Option}
+-- Why a command gives no answer: a stream can't be opened, or of those that are a column or a row is to blame, or neither is; and of which file that
+-- is told.
+use Rattle.std.specs.Prelude.{◌≡◌, ◌⊎◌, ℕ, Bool, List, [], ◌∷◌, IfSome, IsOk, Option}
+use Rattle.std.specs.Borrow.{Bor}
 use Rattle.keyed_faults.specs.Outside.{IsApart}
 use Rattle.keyed_faults.specs.declared.fault.Fault.{Fault}
-use Rattle.keyed_faults.specs.declared.fault.Reason.{Reason}
 use Rattle.keyed_requests.specs.declared.request.Comparing.{Comparing}
 use Rattle.keyed_requests.specs.declared.request.Direction.{Direction}
 use Rattle.keyed_requests.specs.declared.request.Form.{Form}
@@ -25,24 +26,47 @@ use Rattle.keyed_jobs.specs.Unread.{ExplainsInputs, ExplainsTable, ExplainsTable
 use Rattle.keyed_commands.specs.DiffOnly.{AreChangeColumnsBy}
 use Rattle.keyed_commands.specs.Reported.{AreComparedColumns, IsReport}
 
+-- a file is one of these
+abbrev pub IsAmong : List (Bor (List ℕ)) → Bor (List ℕ) → Type 0
+IsAmong [] file = ⊥
+IsAmong (one ∷ files) file = (file ≡ one) ⊎ IsAmong files file
+
+-- neither the header nor the rows of a table are to blame, and the fault is told of one of these files
+abbrev pub IsApartOf : List (Bor (List ℕ)) → Fault → Type 0
+IsApartOf files fault = IsApart fault.reason × IsAmong files fault.file
+
 -- the columns of `diff`
 pub record AreDiffColumns {R : Type 0} (how : Comparing) (settings : Settings) (versions : Two R) (columns : Columns) : Type 0 where
   pub csv : how.format ≡ Csv → AreChangeColumnsBy how.view.columns settings.key (first_header versions) (next_header versions) columns
   pub report : IsReport how.format → AreComparedColumns how.view.columns settings.key (headers_of versions) columns
 
+-- the files of two tables that are opened
+abbrev pub files_of : {R : Type 0} → Two R → List (Bor (List ℕ))
+files_of two = two.first.file ∷ two.next.file ∷ []
+
+-- and those of three
+abbrev pub files_of_three : {R : Type 0} → Opened R → Two R → List (Bor (List ℕ))
+files_of_three base sides = base.file ∷ files_of sides
+
 module _ {S : Type 0} (left : S → Option (List ℕ)) where
   -- why two tables under the same columns are not both read, or what has no table to blame
   abbrev pub ExplainsVersions : Bool → Columns → Two S → Fault → Type 0
-  ExplainsVersions groups columns versions fault = IsApart fault.reason ⊎ ExplainsTables left groups columns columns versions fault
+  ExplainsVersions groups columns versions fault = IsApartOf (files_of versions) fault ⊎ ExplainsTables left groups columns columns versions fault
 
   -- the same of a table and of changes
   abbrev pub ExplainsChange : Bool → Columns → Two S → Fault → Type 0
-  ExplainsChange groups columns inputs fault = IsApart fault.reason ⊎ ExplainsInputs left groups columns inputs fault
+  ExplainsChange groups columns inputs fault = IsApartOf (files_of inputs) fault ⊎ ExplainsInputs left groups columns inputs fault
 
   -- why one of a table and two versions of it is not read
   abbrev pub ExplainsThree : Bool → Columns → Opened S → Two S → Fault → Type 0
   ExplainsThree groups columns base sides fault = ((fault.file ≡ base.file) × ExplainsTable left groups columns base.source.value fault.reason)
       ⊎ ExplainsTables left groups columns columns sides fault
+
+  -- and under the columns of `merge`
+  abbrev pub ExplainsMerged : Settings → Opened S → Two S → Fault → Type 0
+  ExplainsMerged settings base sides fault = (columns : Columns)
+      × AreMergedColumnsBy settings.key base.source.value.header.names (first_header sides) (next_header sides) columns
+      × ExplainsThree settings.groups columns base sides fault
 
   -- why a table, or changes that are turned in a direction, are not read under the columns of the table that they make
   abbrev pub ExplainsTurned : Settings → Direction → Fault → Two S → Type 0
@@ -74,6 +98,7 @@ module _ {S : Type 0} (left : S → Option (List ℕ)) where
 module _ {R S : Type 0} (remaining : R → Option (List ℕ)) (left : S → Option (List ℕ)) where
   -- the header of a stream is read, by a reader that has the text of the stream
   pub record OpensFile (form : Form) (kind : Content) (stream : Stream R) (opened : Opened S) : Type 0 where
+    pub ready : IsOk stream.reader
     pub named : opened.file ≡ stream.file
     pub reads : IfSome (text_of_stream remaining form stream)
         (λ text. IsOpen (form_of form stream) kind left text opened.source.value.header.names opened.source.value)
@@ -90,16 +115,19 @@ module _ {R S : Type 0} (remaining : R → Option (List ℕ)) (left : S → Opti
   ExplainsAnew settings stream fault = (opened : Opened S) × OpensFile settings.form Rows stream opened
       × (fault.file ≡ stream.file) × ExplainsNamingAnew settings opened.source.value fault.reason
 
-  -- why a command on two tables gives no answer: what has no table to blame, a stream that can't be opened, or what is said so of the tables
+  -- why a command on two tables gives no answer: a stream can't be opened; or both are, and neither headers nor rows are to blame, or what is said
+  -- so of the tables
   abbrev pub ExplainsPair : Form → Content → Stream R → Stream R → (Two S → Type 0) → Fault → Type 0
-  ExplainsPair form kind first next explains fault = IsApart fault.reason ⊎ (ExplainsBoth first next fault
-      ⊎ ((two : Two S) × OpensFile form Rows first two.first × OpensFile form kind next two.next × explains two))
+  ExplainsPair form kind first next explains fault = ExplainsBoth first next fault
+      ⊎ ((two : Two S) × OpensFile form Rows first two.first × OpensFile form kind next two.next
+      × (IsApartOf (files_of two) fault ⊎ explains two))
 
   -- the same where columns of the first one get other names
   abbrev pub ExplainsPairAnew : Settings → Content → Stream R → Stream R → (Two S → Type 0) → Fault → Type 0
-  ExplainsPairAnew settings kind first next explains fault = IsApart fault.reason ⊎ (ExplainsBoth first next fault
-      ⊎ (ExplainsAnew settings first fault
-      ⊎ ((two : Two S) × OpensAnew settings first two.first × OpensFile settings.form kind next two.next × explains two)))
+  ExplainsPairAnew settings kind first next explains fault = ExplainsBoth first next fault
+      ⊎ ((IsOk next.reader × ExplainsAnew settings first fault)
+      ⊎ ((two : Two S) × OpensAnew settings first two.first × OpensFile settings.form kind next two.next
+      × (IsApartOf (files_of two) fault ⊎ explains two)))
 
   -- why `apply` gives no answer
   abbrev pub ExplainsApply : Settings → Direction → Stream R → Stream R → Fault → Type 0
@@ -107,14 +135,12 @@ module _ {R S : Type 0} (remaining : R → Option (List ℕ)) (left : S → Opti
 
   -- why `merge` gives no answer
   abbrev pub ExplainsMerge : Settings → Stream R → Stream R → Stream R → Fault → Type 0
-  ExplainsMerge settings base ours theirs fault = IsApart fault.reason
-      ⊎ (((fault.file ≡ base.file) × ExplainsOpening base.reader fault.reason)
-      ⊎ (ExplainsBoth ours theirs fault
-      ⊎ (ExplainsAnew settings base fault
+  ExplainsMerge settings base ours theirs fault = ((fault.file ≡ base.file) × ExplainsOpening base.reader fault.reason)
+      ⊎ ((IsOk base.reader × ExplainsBoth ours theirs fault)
+      ⊎ ((IsOk ours.reader × IsOk theirs.reader × ExplainsAnew settings base fault)
       ⊎ ((opened : Opened S) × (sides : Two S) × OpensAnew settings base opened
       × OpensFile settings.form Rows ours sides.first × OpensFile settings.form Rows theirs sides.next
-      × (columns : Columns) × AreMergedColumnsBy settings.key opened.source.value.header.names (first_header sides) (next_header sides) columns
-      × ExplainsThree left settings.groups columns opened sides fault))))
+      × (IsApartOf (files_of_three opened sides) fault ⊎ ExplainsMerged left settings opened sides fault))))
 
 module _ {R : Type 0} (remaining : R → Option (List ℕ)) where
   -- why `diff` gives no answer

@@ -2,7 +2,6 @@
 use Rattle.std.specs.Prelude.{◌≡◌, ◌++◌, ◌⊎◌, ◌∷◌, ℕ, List, [], Option, Some, ⊤, map}
 use Rattle.std.specs.Map.{lookup}
 use Rattle.keyed_rows.specs.declared.row.ReadRow.{ReadRow}
-use Rattle.keyed_faults.specs.Outside.{IsApart}
 use Rattle.keyed_faults.specs.declared.fault.Fault.{Fault}
 use Rattle.keyed_faults.specs.declared.fault.Reason.{Reason}
 use Rattle.keyed_faults.specs.declared.fault.Reason.TheVariants as reason
@@ -20,8 +19,9 @@ use Rattle.keyed_files.specs.declared.opened.Two.{Two}
 use Rattle.keyed_files.specs.declared.source.Places.{Places}
 use Rattle.keyed_files.specs.declared.source.Source.{Source}
 use Rattle.keyed_jobs.specs.Unread.{ExplainsUnread}
+use Rattle.keyed_jobs.specs.Written.{IsOfOutput}
 use Rattle.keyed_commands.specs.LookupAnswers.{key_eq}
-use Rattle.keyed_commands.specs.Unanswered.{ExplainsPair}
+use Rattle.keyed_commands.specs.Unanswered.{ExplainsPair, IsApartOf}
 
 -- the line of the first of these rows with a key, if there is one
 abbrev pub line_under : List ReadRow → List (List ℕ) → Option ℕ
@@ -50,15 +50,16 @@ module _ {R : Type 0} (remaining : R → Option (List ℕ)) where
   ExplainsFound columns source told = ExplainsPlaces source columns told
       ⊎ ((places : Places) × PlacesOf source columns places × ExplainsHeld places source told)
 
-  -- why the rows of the left table are not looked up: what has no table to blame, or a row of it
+  -- why the rows of the left table are not looked up: the output is not written, neither its header nor its rows are to blame, or a row of it
   abbrev pub ExplainsLeft : Opened R → Fault → Type 0
-  ExplainsLeft opened fault = IsApart fault.reason ⊎ ((fault.file ≡ opened.file) × ExplainsRows remaining opened.source.value fault.reason)
+  ExplainsLeft opened fault = IsOfOutput fault ⊎ (IsApartOf (opened.file ∷ []) fault
+      ⊎ ((fault.file ≡ opened.file) × ExplainsRows remaining opened.source.value fault.reason))
 
   -- why rows of a left table are not looked up in a right one
   abbrev pub ExplainsSides : Layout → Fault → Two R → Type 0
-  ExplainsSides layout fault sides = (columns : JoinColumns) × AreJoinColumns layout.key (first_header sides) (next_header sides) columns
+  ExplainsSides layout fault sides = IsOfOutput fault ⊎ ((columns : JoinColumns) × AreJoinColumns layout.key (first_header sides) (next_header sides) columns
       × (((fault.file ≡ sides.first.file) × ExplainsUnread remaining columns.left sides.first.source.value fault.reason)
-      ⊎ ((fault.file ≡ sides.next.file) × ExplainsFound columns.right sides.next.source.value fault.reason))
+      ⊎ ((fault.file ≡ sides.next.file) × ExplainsFound columns.right sides.next.source.value fault.reason)))
 
   -- why `lookup` gives no answer
   abbrev pub ExplainsLookup : Layout → Stream R → Stream R → Fault → Type 0

@@ -67,19 +67,21 @@ module _ {R : Type 0} (rem : R → Option (List ℕ)) where
       }
 
   pub fills_none : (parts : Parts R) → Fills rem parts parts
-  fills_none parts = record { more = []; waiting = sym (append-nil parts.waiting.items); places = refl; ended = λ e. (e, refl); rises = λ taken h. h; has = λ d c text given taken h. h }
+  fills_none parts = record { more = []; waiting = sym (append-nil parts.waiting.items); named = refl; places = refl; rule = (refl, refl); ended = λ e. (e, refl); rises = λ taken h. h; has = λ d c text given taken h. h }
 
   pub fills_then : (a b c : Parts R) → Fills rem a b → Fills rem b c → Fills rem a c
   fills_then a b c g h = record {
     more = g.more ++ h.more;
     waiting = h.waiting ∙ ap (λ l. l ++ h.more) g.waiting ∙ append_assoc a.waiting.items g.more h.more;
+    named = h.named ∙ g.named;
     places = h.places ∙ g.places;
+    rule = (h.rule.0 ∙ g.rule.0, h.rule.1 ∙ g.rule.1);
     ended = λ e. let first = g.ended e in let next = h.ended first.0 in (next.0, ap₂ (λ l m. l ++ m) first.1 next.1);
     rises = λ taken x. h.rises taken (g.rises taken x);
     has = λ d e text given taken x. h.has d e text given taken (g.has d e text given taken x);
   }
 
-  module _ (old new : Parts R) (places : new.places ≡ old.places) (was : old.is_ended ≡ false) where
+  module _ (old new : Parts R) (named : new.file ≡ old.file) (places : new.places ≡ old.places) (was : old.is_ended ≡ false) where
     unread : (d : ℕ) (c : Option ℕ) (text : List ℕ) (records : List (List (List ℕ))) → AreRead rem old.is_ended d c text records old.source.value
         → HasGiven d c rem text records old.source.value
     unread d c text records h = subst (λ b. AreRead rem b d c text records old.source.value) was h
@@ -89,13 +91,15 @@ module _ {R : Type 0} (rem : R → Option (List ℕ)) where
     behind taken row waits = ap (λ l. taken ++ l) waits ∙ sym (append_assoc taken old.waiting.items (row ∷ []))
 
     -- a row is read and put after those that wait
-    pub fills_and : (source : Source R) (row : ReadRow) → new.is_ended ≡ false → new.source.value ≡ source → GivesRecord rem old.source.value source true
-        → IsPicked old.places (last_record source) row → rises_behind old.last row.key ≡ true → new.last ≡ Some row.key
+    pub fills_and : (source : Source R) (row : ReadRow) → new.is_ended ≡ false → new.source.value ≡ source → SameCount old.source.value source
+        → GivesRecord rem old.source.value source true → IsPicked old.places (last_record source) row → rises_behind old.last row.key ≡ true → new.last ≡ Some row.key
         → new.waiting.items ≡ old.waiting.items ++ (row ∷ []) → Fills rem old new
-    fills_and source row is same gives picks rises last waits = record {
+    fills_and source row is same rule gives picks rises last waits = record {
       more = row ∷ [];
       waiting = waits;
+      named = named;
       places = places;
+      rule = subst (SameCount old.source.value) (sym same) rule;
       ended = λ e. absurd (cc (sym was ∙ e));
       rises = λ taken h.
           let before = keys_in (taken ++ old.waiting.items) in
@@ -118,12 +122,14 @@ module _ {R : Type 0} (rem : R → Option (List ℕ)) where
     }
 
     -- the source has no more rows
-    pub fills_end : (source : Source R) → new.is_ended ≡ true → new.waiting.items ≡ old.waiting.items → new.last ≡ old.last
-        → GivesRecord rem old.source.value source false → Fills rem old new
-    fills_end source is waits last gives = record {
+    pub fills_end : (source : Source R) → new.is_ended ≡ true → new.source.value ≡ source → SameCount old.source.value source
+        → new.waiting.items ≡ old.waiting.items → new.last ≡ old.last → GivesRecord rem old.source.value source false → Fills rem old new
+    fills_end source is same rule waits last gives = record {
       more = [];
       waiting = waits ∙ sym (append-nil old.waiting.items);
+      named = named;
       places = places;
+      rule = subst (SameCount old.source.value) (sym same) rule;
       ended = λ e. absurd (cc (sym was ∙ e));
       rises = λ taken h. subst (λ l. RisesTo (keys_in (taken ++ l)) new.last) (sym waits) (subst (RisesTo (keys_in (taken ++ old.waiting.items))) (sym last) h);
       has = λ d c text given taken h. record {
@@ -135,13 +141,13 @@ module _ {R : Type 0} (rem : R → Option (List ℕ)) where
     }
 
   -- a row is read, and put by itself
-  pub fills_put : (old mid new : Parts R) (row : ReadRow) → new ≡ record mid { last = new.last; waiting = new.waiting } → mid.places ≡ old.places
+  pub fills_put : (old mid new : Parts R) (row : ReadRow) → new ≡ record mid { last = new.last; waiting = new.waiting } → mid.file ≡ old.file → mid.places ≡ old.places
       → mid.is_ended ≡ false → old.is_ended ≡ false → mid.last ≡ old.last → mid.waiting.items ≡ old.waiting.items
-      → GivesRecord rem old.source.value mid.source.value true → IsPicked old.places (last_record mid.source.value) row
-      → rises_behind mid.last row.key ≡ true → new.last ≡ Some row.key → new.waiting.items ≡ mid.waiting.items ++ (row ∷ []) → Fills rem old new
-  fills_put old mid new row same places unended was last waits gives picks rises is put =
-      fills_and old new (ap (λ (p : Parts R). p.places) same ∙ places) was mid.source.value row (ap (λ (p : Parts R). p.is_ended) same ∙ unended)
-      (ap (λ (p : Parts R). p.source.value) same) gives picks (subst (λ l. rises_behind l row.key ≡ true) last rises) is
+      → SameCount old.source.value mid.source.value → GivesRecord rem old.source.value mid.source.value true
+      → IsPicked old.places (last_record mid.source.value) row → rises_behind mid.last row.key ≡ true → new.last ≡ Some row.key → new.waiting.items ≡ mid.waiting.items ++ (row ∷ []) → Fills rem old new
+  fills_put old mid new row same named places unended was last waits rule gives picks rises is put =
+      fills_and old new (ap (λ (p : Parts R). p.file) same ∙ named) (ap (λ (p : Parts R). p.places) same ∙ places) was mid.source.value row (ap (λ (p : Parts R). p.is_ended) same ∙ unended)
+      (ap (λ (p : Parts R). p.source.value) same) rule gives picks (subst (λ l. rises_behind l row.key ≡ true) last rises) is
       (put ∙ ap (λ l. l ++ (row ∷ [])) waits)
 
   -- a row that is read does not wait: its key is not greater than the last one, or memory was refused

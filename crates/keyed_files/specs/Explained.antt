@@ -1,5 +1,5 @@
 -- Why a table is not read: for want of memory, by an error of the file or its quotes, or by a rule that the key or a row breaks.
-use Rattle.std.specs.Prelude.{◌≡◌, ◌≢◌, ◌≤◌, ◌⊎◌, ◌++◌, ℕ, List, [], ◌∷◌, length, Option, None, Some, Result, Ok, Err, ⊤}
+use Rattle.std.specs.Prelude.{◌≡◌, ◌≢◌, ◌≤◌, ◌⊎◌, ◌++◌, ℕ, List, [], ◌∷◌, length, Option, None, Some, Result, IsOk, Ok, Err, ⊤}
 use Rattle.std.specs.Borrow.{Bor}
 use Rattle.csv.specs.Records.{field_at}
 use Rattle.keyed_faults.specs.Outside.{IsApart}
@@ -91,10 +91,10 @@ abbrev pub ExplainsOpening : {R : Type 0} → Result R Reason → Reason → Typ
 ExplainsOpening (Ok reader) told = IsApart told
 ExplainsOpening (Err why) told = told ≡ why
 
--- the same of one of two streams, which is named
+-- the same of one of two streams, which is named: of the next one only where the first one has a reader
 abbrev pub ExplainsBoth : {R : Type 0} → Stream R → Stream R → Fault → Type 0
 ExplainsBoth first next fault = ((fault.file ≡ first.file) × ExplainsOpening first.reader fault.reason)
-    ⊎ ((fault.file ≡ next.file) × ExplainsOpening next.reader fault.reason)
+    ⊎ (IsOk first.reader × (fault.file ≡ next.file) × ExplainsOpening next.reader fault.reason)
 
 module _ {R : Type 0} (remaining : R → Option (List ℕ)) where
   -- after records that a source of a text had given come more, and then the one that was read last

@@ -85,7 +85,9 @@ module _ {R : Type 0} (remaining : R → Option (List ℕ)) where
   pub record Fills (old new : Parts R) : Type 0 where
     pub more : List ReadRow
     pub waiting : new.waiting.items ≡ old.waiting.items ++ more
+    pub named : new.file ≡ old.file
     pub places : new.places ≡ old.places
+    pub rule : SameCount old.source.value new.source.value
     pub ended : old.is_ended ≡ true → (new.is_ended ≡ true) × (more ≡ [])
     pub rises : (taken : List ReadRow) → RisesTo (keys_in (taken ++ old.waiting.items)) old.last
         → RisesTo (keys_in (taken ++ new.waiting.items)) new.last

@@ -1,5 +1,5 @@
 //! Files whose headers are read.
-ghost use Rattle.std.specs.Prelude.{◌≡◌, IfErr, IfOk, Ok, OnOk};
+ghost use Rattle.std.specs.Prelude.{◌≡◌, IfErr, IfOk, IsOk, Ok, OnOk};
 ghost use Rattle.keyed_faults.specs.Outside.{IsApart};
 ghost use Rattle.keyed_columns.specs.ChangedColumns.{marked_names};
 ghost use Rattle.keyed_files.specs.Explained.{ExplainsBoth, ExplainsNamingAnew, ExplainsNewNames};
@@ -116,6 +116,7 @@ impl<'a, R: Read + Drop> Opened<'a, R> {
         ensures opened { IfOk result (IsOpened R.remaining form content stream.entry) }
         ensures named { IfOk result (λ opened. opened.file ≡ stream.entry.file) }
         ensures gone { IfOk result (IsGoneRead R.remaining form content stream.entry) }
+        ensures ready { OnOk result (IsOk stream.entry.reader) }
         ensures file { IfErr result (λ fault. fault.file ≡ stream.entry.file) }
         ensures why { IfErr result (λ fault. ExplainsOpening stream.entry.reader fault.reason) }
     {
@@ -247,6 +248,8 @@ impl<'a, R: Read + Drop> Two<'a, R> {
         ensures first_named { IfOk result (λ two. two.first.file ≡ first.entry.file) }
         ensures next_named { IfOk result (λ two. two.next.file ≡ next.entry.file) }
         ensures gone { IfOk result (λ two. IsGoneRead R.remaining form content next.entry two.next) }
+        ensures first_ready { OnOk result (IsOk first.entry.reader) }
+        ensures next_ready { OnOk result (IsOk next.entry.reader) }
         ensures why { IfErr result (ExplainsBoth first.entry next.entry) }
     {
         let first = Opened::new(alloc, form, Content::Rows, first)?;

@@ -40,6 +40,8 @@ impl<'a, R: Read + Drop> Parts<'a, R> {
     /// Returns the fault of the file: `NoColumn` if its header lacks a column of the key, and `NoMemory` if a request for memory was
     /// refused.
     pub fn new(alloc: Global, table: Opened<'a, R>, columns: &Columns) -> Result<Self, Fault<'a>>
+        ensures named { IfOk result (λ parts. parts.file ≡ table.entry.file) }
+        ensures source { IfOk result (λ parts. parts.source ≡ table.entry.source) }
         ensures places { IfOk result (λ parts. PlacesOf table.entry.source.value columns.now parts.places) }
         ensures rises { IfOk result (λ parts. RisesTo (keys_in parts.waiting.items) parts.last) }
         ensures begins { IfOk result (λ parts. (d : ℕ) (c : Option ℕ) (text : List ℕ)

@@ -173,6 +173,7 @@ impl<'c, C> Job<'c, C> {
             (λ keys. noted self.new.order ≡ placed_with (noted self.old.order) keys)) }
         ensures same { self.new ≡ record self.old { order = self.new.order; row_order = self.new.row_order } }
         ensures unordered { OnOk result (IsUnordered self.old → IsUnordered self.new) }
+        ensures named { table.new.file ≡ table.old.file }
         ensures file { IfErr result (λ fault. fault.file ≡ table.old.file) }
         ensures why { IfErr result (λ fault. ExplainsTable R.remaining self.old.groups columns.now
             table.old.source.value fault.reason) }
@@ -262,6 +263,8 @@ impl Job<'_, JoinColumns> {
             noted_with (noted self.old.order) (noted self.new.order)) }
         ensures same { self.new ≡ record self.old { order = self.new.order; row_order = self.new.row_order } }
         ensures unordered { OnOk result (IsUnordered self.old → IsUnordered self.new) }
+        ensures first_named { sides.new.first.file ≡ sides.old.first.file }
+        ensures next_named { sides.new.next.file ≡ sides.old.next.file }
         ensures why { IfErr result (ExplainsTables R.remaining self.old.groups self.old.columns.now.left
             self.old.columns.now.right sides.old) }
     {
@@ -294,6 +297,8 @@ impl Job<'_, Columns> {
         ensures unordered { OnOk result (IsUnordered self.old → IsUnordered self.new) }
         ensures first_header { tables.new.first.source.value.header ≡ tables.old.first.source.value.header }
         ensures next_header { tables.new.next.source.value.header ≡ tables.old.next.source.value.header }
+        ensures first_named { tables.new.first.file ≡ tables.old.first.file }
+        ensures next_named { tables.new.next.file ≡ tables.old.next.file }
         ensures why { IfErr result (ExplainsTables R.remaining self.old.groups self.old.columns.now
             self.old.columns.now tables.old) }
     {
@@ -324,6 +329,7 @@ impl Job<'_, Columns> {
         ensures unordered { OnOk result (IsUnordered self.old → IsUnordered self.new) }
         ensures first_header { sides.new.first.source.value.header ≡ sides.old.first.source.value.header }
         ensures first_named { sides.new.first.file ≡ sides.old.first.file }
+        ensures next_named { sides.new.next.file ≡ sides.old.next.file }
         ensures why { IfErr result (ExplainsTables R.remaining self.old.groups self.old.columns.now
             self.old.columns.now sides.old) }
     {
@@ -353,6 +359,7 @@ impl Job<'_, Columns> {
         ensures unordered { OnOk result (IsUnordered self.old → IsUnordered self.new) }
         ensures first_header { inputs.new.first.source.value.header ≡ inputs.old.first.source.value.header }
         ensures first_named { inputs.new.first.file ≡ inputs.old.first.file }
+        ensures next_named { inputs.new.next.file ≡ inputs.old.next.file }
         ensures why { IfErr result
             (ExplainsInputs R.remaining self.old.groups self.old.columns.now inputs.old) }
     {
@@ -373,6 +380,7 @@ impl Job<'_, Columns> {
             (λ keys. noted self.new.order ≡ noted_with (noted self.old.order) keys)) }
         ensures same { self.new ≡ record self.old { order = self.new.order; row_order = self.new.row_order } }
         ensures unordered { OnOk result (IsUnordered self.old → IsUnordered self.new) }
+        ensures named { changes.new.file ≡ changes.old.file }
         ensures file { IfErr result (λ fault. fault.file ≡ changes.old.file) }
         ensures why { IfErr result (λ fault. ExplainsChanges R.remaining self.old.groups self.old.columns.now
             changes.old.source.value fault.reason) }

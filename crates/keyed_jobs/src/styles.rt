@@ -1,5 +1,5 @@
 //! How a table is written, as far as it is read: what is noted of its bytes on their way to the reader of CSV.
-ghost use Rattle.std.specs.Prelude.{◌≡◌, ◌⊎◌, IfErr, IfOk, IfSome};
+ghost use Rattle.std.specs.Prelude.{◌≡◌, ◌⊎◌, IfErr, IfOk, IfSome, IsOk, OnOk};
 ghost use Rattle.std.specs.Io.KnownBytes.{Keeps};
 ghost use Rattle.keyed_faults.specs.Outside.{IsApart};
 ghost use Rattle.keyed_faults.specs.declared.fault.Reason.{Reason};
@@ -169,6 +169,7 @@ pub fn watch<'a, R: Read + Drop>(
     ensures named { IfOk result (λ read. read.0.file ≡ stream.entry.file) }
     ensures opens { IfOk result (λ read. (told : Reason) → ExplainsOpening read.0.reader told
         → ExplainsOpening stream.entry.reader told) }
+    ensures ready { OnOk result (IsOk stream.entry.reader) }
     ensures file { IfErr result (λ fault. fault.file ≡ stream.entry.file) }
     ensures why { IfErr result (λ fault. ExplainsOpening stream.entry.reader fault.reason) }
 {
@@ -250,6 +251,7 @@ pub fn unwatched<'a, R: Read>(alloc: Global, stream: Stream<'a, R>) -> Stream<'a
     ensures named { result.file ≡ stream.entry.file }
     ensures opens { (told : Reason) → ExplainsOpening result.reader told
         → ExplainsOpening stream.entry.reader told }
+    ensures ready { IsOk result.reader → IsOk stream.entry.reader }
 {
     let Stream {
         file,

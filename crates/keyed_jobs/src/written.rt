@@ -1,7 +1,7 @@
 //! Bytes that are put on the standard output, and what stands there where that ends with an error.
 ghost use Rattle.std.specs.Io.KnownBytes.{Appends};
 ghost use Rattle.std.specs.Prelude.{◌≡◌, IfErr, OnErr, OnOk};
-ghost use Rattle.keyed_jobs.specs.Written.{PutsSome, output_name};
+ghost use Rattle.keyed_jobs.specs.Written.{IsOfOutput, PutsSome, output_name};
 
 use keyed_faults::{Fault, Reason};
 use std::io::{self, ErrorKind, Write};
@@ -15,6 +15,7 @@ pub fn put_on_output<'a, W: Write>(output: &mut W, bytes: &[u8]) -> Result<(), F
     ensures put { OnOk result (Appends (W.contents output.old) (W.contents output.new) bytes.now) }
     ensures begun { IfErr result (λ fault. (fault.file.now ≡ output_name)
         × PutsSome (W.contents output.old) (W.contents output.new) bytes.now) }
+    ensures why { IfErr result IsOfOutput }
 {
     match put_all(output, bytes) {
         Ok(()) => Ok(()),

@@ -19,7 +19,7 @@ ghost use Rattle.keyed_commands.specs.DiffOnly.{AreChangeColumnsBy, DiffsOnlySou
 ghost use Rattle.keyed_commands.specs.DiffOnly.{DiffsStreamsBy};
 ghost use Rattle.keyed_commands.specs.Reported.{AreComparedColumns, IsReport, ReportsSources, ReportsStreams};
 ghost use Rattle.keyed_commands.specs.Reported.{TellsChanges};
-ghost use Rattle.keyed_commands.specs.Unanswered.{ExplainsDiff, ExplainsVersions};
+ghost use Rattle.keyed_commands.specs.Unanswered.{ExplainsDiff, ExplainsVersions, IsApartOf, files_of};
 
 use eob_joins::Change;
 use keyed_columns::{
@@ -75,7 +75,7 @@ fn columns_of_diff<'a, R>(
         (next_header versions.now) columns) }
     ensures report { IfOk result (λ columns. IsReport how.entry.format →
         AreComparedColumns how.entry.view.columns settings.entry.key (headers_of versions.now) columns) }
-    ensures why { IfErr result (λ fault. IsApart fault.reason) }
+    ensures why { IfErr result (IsApartOf (files_of versions.now)) }
 {
     match how.format {
         Format::Csv => columns_changed(alloc, settings.key, how.view.columns, versions),
@@ -92,7 +92,7 @@ fn columns_changed<'a, R>(
 ) -> Result<Columns, Fault<'a>>
     ensures columns { IfOk result (AreChangeColumnsBy picked.entry key.entry
         (first_header versions.now) (next_header versions.now)) }
-    ensures why { IfErr result (λ fault. IsApart fault.reason) }
+    ensures why { IfErr result (IsApartOf (files_of versions.now)) }
 {
     match picked {
         Picked::All => versions.change_columns(alloc, key),
@@ -111,7 +111,7 @@ fn columns_only<'a, R>(
     ensures columns { IfOk result (λ columns. (all : Columns)
         × AreChangeColumns key.entry (first_header versions.now) (next_header versions.now) all
         × ArePickedColumns picked.entry all columns) }
-    ensures why { IfErr result (λ fault. IsApart fault.reason) }
+    ensures why { IfErr result (IsApartOf (files_of versions.now)) }
 {
     let all = versions.change_columns(alloc, key)?;
     let picked = picked_columns(alloc, picked, all);
@@ -127,7 +127,7 @@ fn columns_compared<'a, R>(
 ) -> Result<Columns, Fault<'a>>
     ensures columns { IfOk result
         (AreComparedColumns how.entry.view.columns settings.entry.key (headers_of versions.now)) }
-    ensures why { IfErr result (λ fault. IsApart fault.reason) }
+    ensures why { IfErr result (IsApartOf (files_of versions.now)) }
 {
     let all = versions.columns(alloc, settings.key)?;
     let tolerances = at(versions.next.file, Tolerances::new(alloc, how.sameness))?;
@@ -200,7 +200,7 @@ fn names_marked<'a, R>(
 ) -> Result<Cells, Fault<'a>>
     ensures marked { IfOk result (λ marked. marked
         ≡ marked_columns columns.now (first_header versions.now) (next_header versions.now)) }
-    ensures why { IfErr result (λ fault. IsApart fault.reason) }
+    ensures why { IfErr result (IsApartOf (files_of versions.now)) }
 {
     let marked = marked_columns(
         alloc,

@@ -1,6 +1,5 @@
 //! Joins of two tables, written as CSV: an absent side has empty cells.
 ghost use Rattle.std.specs.Prelude.{◌≡◌, ◌⊎◌, [], IfErr, IfOk, OnOk, false, is_none, option_map, true};
-ghost use Rattle.keyed_faults.specs.Outside.{IsApart};
 ghost use Rattle.keyed_requests.specs.declared.request.RowFormat.TheVariants.{Csv};
 ghost use Rattle.keyed_columns.specs.JoinedNames.{ExplainsNames, joined_names, side_column};
 ghost use Rattle.keyed_columns.specs.Names.{repeats};
@@ -15,7 +14,7 @@ ghost use Rattle.keyed_commands.specs.JoinAnswers.{IsTextOfJoin, JoinsSources, J
 ghost use Rattle.keyed_commands.specs.JoinAnswers.{PutsSides, RowSides, header_of_join, heading_of_join};
 ghost use Rattle.keyed_commands.specs.JoinAnswers.{inner_sides, left_sides, outer_sides, right_sides};
 ghost use Rattle.keyed_commands.specs.JoinAnswers.{side_name};
-ghost use Rattle.keyed_commands.specs.Unanswered.{ExplainsJoin};
+ghost use Rattle.keyed_commands.specs.Unanswered.{ExplainsJoin, IsApartOf, files_of};
 
 use crate::commands::join_json::write_join;
 use either_or_both::EitherOrBoth;
@@ -62,8 +61,9 @@ fn join_files<'a, R: Read + Drop>(
 ) -> Result<Answer, Fault<'a>>
     ensures answer { IfOk result (λ answer. form.now.format ≡ Csv →
         JoinsSources R.remaining job.entry form.now.kind form.now.header sides.old answer) }
-    ensures why { IfErr result (λ fault. IsApart fault.reason ⊎ ExplainsTables R.remaining job.entry.groups
-        job.entry.columns.now.left job.entry.columns.now.right sides.old fault) }
+    ensures why { IfErr result (λ fault. IsApartOf (files_of sides.old) fault
+        ⊎ ExplainsTables R.remaining job.entry.groups job.entry.columns.now.left
+        job.entry.columns.now.right sides.old fault) }
 {
     let tables = job.read_sides(sides)?;
     let (left, right) = tables;

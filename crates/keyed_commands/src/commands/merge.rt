@@ -1,5 +1,5 @@
 //! The answer to `merge`, of streams: two versions of a table merged over their base, or a report of the rows in conflict.
-ghost use Rattle.std.specs.Prelude.{◌≡◌, ◌⊎◌, IfErr, IfOk, None, OnOk, is_none};
+ghost use Rattle.std.specs.Prelude.{◌≡◌, ◌∷◌, ◌⊎◌, [], IfErr, IfOk, None, OnOk, is_none};
 ghost use Rattle.eob_joins.specs.Marked.{merged_of};
 ghost use Rattle.keyed_faults.specs.Outside.{IsApart};
 ghost use Rattle.keyed_columns.specs.Keys.{AreMergedColumnsBy};
@@ -17,7 +17,7 @@ ghost use Rattle.keyed_jobs.specs.Answers.{AnswersMerge, AnswersMerged, AnswersM
 ghost use Rattle.keyed_jobs.specs.Answers.{AnswersTable, HasNoConflict, HasNoneUnresolved};
 ghost use Rattle.keyed_jobs.specs.Answers.{HasUnresolved, Stops};
 ghost use Rattle.keyed_commands.specs.MergedTexts.{AnswersAs, AnswersBy, MergesSources, MergesStreams};
-ghost use Rattle.keyed_commands.specs.Unanswered.{ExplainsMerge, ExplainsThree};
+ghost use Rattle.keyed_commands.specs.Unanswered.{ExplainsMerge, ExplainsThree, IsApartOf, files_of_three};
 
 use crate::conflicts::render_conflicts;
 use crate::lost_cells::lose_cells;
@@ -91,7 +91,7 @@ fn columns_of_merge<'a, R>(
         (first_header sides.now) (next_header sides.now)) }
     ensures spelled { IfOk result (IsSpelledAs sides.now.first.source.value.header.spelling.names
         sides.now.first.source.value.header.spelling.spelled) }
-    ensures why { IfErr result (λ fault. IsApart fault.reason) }
+    ensures why { IfErr result (IsApartOf (base.now.file ∷ [])) }
 {
     let (base_names, ours, theirs) = (base.header(), sides.first.header(), sides.next.header());
     let all = at(
@@ -116,8 +116,9 @@ fn merge_files<'a, R: Read + Drop>(
     ensures answer { IfOk result (λ answer. how.entry.sameness ≡ None →
         MergesSources (watched_left R.remaining) how.entry.conflicts how.entry.unit job.entry first_style
         base.old sides.old answer) }
-    ensures why { IfErr result (λ fault. IsApart fault.reason ⊎ ExplainsThree (watched_left R.remaining)
-        job.entry.groups job.entry.columns.now base.old sides.old fault) }
+    ensures why { IfErr result (λ fault. IsApartOf (files_of_three base.old sides.old) fault
+        ⊎ ExplainsThree (watched_left R.remaining) job.entry.groups job.entry.columns.now
+        base.old sides.old fault) }
 {
     let versions = read_versions(&mut job, base, sides)?;
     let has_end = sides.first.source.get_ref().has_end();
@@ -155,6 +156,7 @@ fn read_versions<'a, R: Read + Drop>(
     ensures unordered { OnOk result (IsUnordered job.old → IsUnordered job.new) }
     ensures first_header { sides.new.first.source.value.header ≡ sides.old.first.source.value.header }
     ensures first_named { sides.new.first.file ≡ sides.old.first.file }
+    ensures next_named { sides.new.next.file ≡ sides.old.next.file }
     ensures why { IfErr result
         (ExplainsThree R.remaining job.old.groups job.old.columns.now base.old sides.old) }
 {

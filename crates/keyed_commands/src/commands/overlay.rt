@@ -1,5 +1,5 @@
 //! Tables that are laid one over the other, the last one on top.
-ghost use Rattle.std.specs.Prelude.{◌≡◌, ◌∷◌, ◌⊎◌, [], IfErr, IfOk, IfSome, MatchOption};
+ghost use Rattle.std.specs.Prelude.{◌≡◌, ◌∷◌, ◌⊎◌, [], IfErr, IfOk, IfSome, IsOk, MatchOption};
 ghost use Rattle.std.specs.Prelude.{OnOk, is_none, map, option_map, unwrap_or};
 ghost use Rattle.std.specs.Io.KnownBytes.{Keeps};
 ghost use Rattle.keyed_faults.specs.Outside.{IsApart};
@@ -17,8 +17,9 @@ ghost use Rattle.keyed_jobs.specs.declared.answer.Outcome.TheVariants.{Made};
 ghost use Rattle.keyed_commands.specs.OverlayAnswers.{AreLaidOver, AreLayers, IsLayer, IsSpelledAsFirst};
 ghost use Rattle.keyed_commands.specs.OverlayAnswers.{IsNotedFirst, LaysTables, NotesAll};
 ghost use Rattle.keyed_commands.specs.OverlayAnswers.{OverlaysSources, OverlaysStreams, rows_laid};
-ghost use Rattle.keyed_commands.specs.UnansweredOverlay.{ExplainsLaid, ExplainsLayer, ExplainsLayers};
-ghost use Rattle.keyed_commands.specs.UnansweredOverlay.{ExplainsOne, ExplainsOverlay, HaveFiles};
+ghost use Rattle.keyed_commands.specs.UnansweredOverlay.{AreReady, ExplainsLaid, ExplainsLayer};
+ghost use Rattle.keyed_commands.specs.UnansweredOverlay.{ExplainsLayers, ExplainsOne, ExplainsOverlay};
+ghost use Rattle.keyed_commands.specs.UnansweredOverlay.{HaveFiles, IsFirstFile};
 
 use crate::files::put;
 use crate::made_table::table_as_csv;
@@ -71,7 +72,7 @@ fn overlay_files<'a, R: Read + Drop>(
 ) -> Result<Answer, Fault<'a>>
     ensures answer { IfOk result
         (OverlaysSources R.remaining layer first_style job.entry tables.entry.items) }
-    ensures why { IfErr result (λ fault. IsApart fault.reason
+    ensures why { IfErr result (λ fault. (IsApart fault.reason × (fault.file ≡ file.entry))
         ⊎ ExplainsLaid R.remaining job.entry.groups job.entry.columns.now tables.entry.items fault) }
 {
     let laid = lay_all(&mut job, layer, tables)?;
@@ -94,8 +95,9 @@ fn open_all<'a, R: Read + Drop>(
     ensures style { IfOk result (λ read. IsNotedFirst R.remaining settings.entry.form
         tables.entry.items read.1) }
     ensures named { IfOk result (λ read. HaveFiles tables.entry.items read.0.items) }
-    ensures why { IfErr result (λ fault. IsApart fault.reason
-        ⊎ ExplainsLayers R.remaining settings.entry.form settings.entry.key tables.entry.items fault) }
+    ensures ready { OnOk result (AreReady tables.entry.items) }
+    ensures why { IfErr result
+        (ExplainsLayers R.remaining settings.entry.form settings.entry.key tables.entry.items) }
 {
     let mut opened = Vec::new(alloc);
     let mut key = settings.key;
@@ -126,6 +128,7 @@ fn open_layer<'a, R: Read + Drop>(
         (IfSome (text_of_stream R.remaining form stream.entry) (IsNoted (form_of form stream.entry) read.1))
         (λ style. read.1 ≡ style)) }
     ensures named { IfOk result (λ read. read.0.file ≡ stream.entry.file) }
+    ensures ready { OnOk result (IsOk stream.entry.reader) }
     ensures why { IfErr result (ExplainsLayer R.remaining form key.entry stream.entry) }
 {
     let watched = watch_layer(alloc, form, first_style, stream)?;
@@ -151,6 +154,7 @@ fn watch_layer<'a, R: Read + Drop>(
     ensures named { IfOk result (λ read. read.0.file ≡ stream.entry.file) }
     ensures opens { IfOk result (λ read. (told : Reason) → ExplainsOpening read.0.reader told
         → ExplainsOpening stream.entry.reader told) }
+    ensures ready { IfOk result (λ read. IsOk read.0.reader → IsOk stream.entry.reader) }
     ensures file { IfErr result (λ fault. fault.file ≡ stream.entry.file) }
     ensures why { IfErr result (λ fault. ExplainsOpening stream.entry.reader fault.reason) }
 {
@@ -163,8 +167,10 @@ fn watch_layer<'a, R: Read + Drop>(
     }
 }
 
-// The file of the first table, if there is one.
-fn first_file<'a, R>(opened: &[Opened<'a, R>]) -> &'a str {
+// The file of the first table, or the standard input where there is none.
+fn first_file<'a, R>(opened: &[Opened<'a, R>]) -> &'a str
+    ensures { IsFirstFile opened.now result }
+{
     match opened.first() {
         Some(table) => table.file,
         None => "-",
@@ -243,8 +249,8 @@ fn lay_all<'a, R: Read + Drop>(
         (noted job.old.order) (noted job.new.order)) }
     ensures same { job.new ≡ record job.old { order = job.new.order; row_order = job.new.row_order } }
     ensures unordered { OnOk result (IsUnordered job.old → IsUnordered job.new) }
-    ensures why { IfErr result (λ fault. IsApart fault.reason
-        ⊎ ExplainsLaid R.remaining job.old.groups job.old.columns.now tables.entry.items fault) }
+    ensures why { IfErr result
+        (ExplainsLaid R.remaining job.old.groups job.old.columns.now tables.entry.items) }
 {
     let mut laid = Laid {
         table: None,
@@ -270,8 +276,8 @@ fn lay<'a, R: Read + Drop>(
         table.entry.source.value (λ keys. noted job.new.order ≡ noted_with (noted job.old.order) keys)) }
     ensures same { job.new ≡ record job.old { order = job.new.order; row_order = job.new.row_order } }
     ensures unordered { OnOk result (IsUnordered job.old → IsUnordered job.new) }
-    ensures why { IfErr result (λ fault. IsApart fault.reason
-        ⊎ ExplainsOne R.remaining job.old.groups job.old.columns.now table.entry fault) }
+    ensures why { IfErr result
+        (ExplainsOne R.remaining job.old.groups job.old.columns.now table.entry) }
 {
     let above = job.read_table(job.columns, &mut table)?;
     let has_end = below.has_end.unwrap_or(table.source.get_ref().has_end());

@@ -1,6 +1,5 @@
 //! The answer to `apply`, of streams, where changes need not fit: the table with those made to it that do, and the others as changes.
-ghost use Rattle.std.specs.Prelude.{◌≡◌, ◌==◌, IfErr, IfOk, OnOk, is_none, length, option_map};
-ghost use Rattle.keyed_faults.specs.Outside.{IsApart};
+ghost use Rattle.std.specs.Prelude.{◌≡◌, ◌∷◌, ◌==◌, [], IfErr, IfOk, OnOk, is_none, length, option_map};
 ghost use Rattle.keyed_tables.specs.Arranged.{noted};
 ghost use Rattle.keyed_files.specs.Gone.{IsTurned};
 ghost use Rattle.keyed_files.specs.Opening.{form_of};
@@ -10,7 +9,7 @@ ghost use Rattle.keyed_jobs.specs.Rejected.{other_way, plain};
 ghost use Rattle.keyed_jobs.specs.Turned.{changes_in};
 ghost use Rattle.keyed_commands.specs.AppliedTexts.{PartlySources, PartlyStreams};
 ghost use Rattle.keyed_commands.specs.PartlyAnswers.{AnswersPartly, beside};
-ghost use Rattle.keyed_commands.specs.Unanswered.{ExplainsApply, ExplainsChange};
+ghost use Rattle.keyed_commands.specs.Unanswered.{ExplainsApply, ExplainsChange, IsApartOf};
 
 use crate::made_table::answer_of_rows;
 use eob_joins::Change;
@@ -92,7 +91,7 @@ fn how_marked<'a, R>(
     ensures coming { IfOk result (λ how. how.coming ≡ changes.old.source.value.header.came) }
     ensures same { OnOk result (IsTurned direction changes.old.source.value changes.new.source.value) }
     ensures named { changes.new.file ≡ changes.old.file }
-    ensures why { IfErr result (λ fault. IsApart fault.reason) }
+    ensures why { IfErr result (IsApartOf (changes.old.file ∷ [])) }
 {
     let going = copied_gone(changes)?;
     changes.turn(Direction::Backward);
@@ -108,7 +107,7 @@ fn how_marked<'a, R>(
 // The names of the columns that go.
 fn copied_gone<'a, R>(changes: &Opened<'a, R>) -> Result<Cells, Fault<'a>>
     ensures gone { IfOk result (λ gone. gone ≡ changes.now.source.value.header.gone) }
-    ensures why { IfErr result (λ fault. IsApart fault.reason) }
+    ensures why { IfErr result (IsApartOf (changes.now.file ∷ [])) }
 {
     let gone: Result<_, _> = changes.source.gone().clone();
     at(changes.file, gone)

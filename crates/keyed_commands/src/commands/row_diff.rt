@@ -11,7 +11,7 @@ ghost use Rattle.keyed_jobs.specs.ChangeRows.{changes_heading};
 ghost use Rattle.keyed_jobs.specs.Unread.{ExplainsUnread};
 ghost use Rattle.keyed_commands.specs.RowDiff.{AnswersRows, DiffsRowSources, DiffsRowStreams};
 ghost use Rattle.keyed_commands.specs.RowDiff.{ReadsCells};
-ghost use Rattle.keyed_commands.specs.Unanswered.{ExplainsRowDiff, ExplainsRowsOf};
+ghost use Rattle.keyed_commands.specs.Unanswered.{ExplainsRowDiff, ExplainsRowsOf, IsApartOf, files_of};
 ghost use Rattle.keyed_commands.specs.RowDiff.{have_same_columns, is_kept, signed_row, signed_rows};
 ghost use Rattle.keyed_requests.specs.declared.request.Format.TheVariants.{Csv};
 
@@ -75,7 +75,7 @@ pub fn diff_rows<'a, R: Read + Drop>(
 fn check_columns<'a, R>(versions: &Two<'a, R>) -> Result<(), Fault<'a>>
     ensures columns { OnOk result
         (have_same_columns (first_header versions.now) (next_header versions.now) ≡ true) }
-    ensures why { IfErr result (λ fault. IsApart fault.reason) }
+    ensures why { IfErr result (IsApartOf (files_of versions.now)) }
 {
     let (old, new) = (versions.first.header(), versions.next.header());
     if have_same_columns(old, new) {
@@ -108,7 +108,7 @@ fn other_columns() -> Reason
 fn columns_of_rows<'a, R>(alloc: Global, versions: &Two<'a, R>) -> Result<Columns, Fault<'a>>
     ensures columns { IfOk result (λ columns.
         AreColumns [] (next_header versions.now ∷ first_header versions.now ∷ []) columns) }
-    ensures why { IfErr result (λ fault. IsApart fault.reason) }
+    ensures why { IfErr result (IsApartOf (files_of versions.now)) }
 {
     let headers = [versions.next.header(), versions.first.header()];
     let columns = at(
@@ -124,7 +124,7 @@ fn diff_row_files<'a, R: Read + Drop>(
     versions: &mut Two<'a, R>,
 ) -> Result<Answer, Fault<'a>>
     ensures answer { IfOk result (DiffsRowSources R.remaining job.entry versions.old) }
-    ensures why { IfErr result (λ fault. IsApart fault.reason
+    ensures why { IfErr result (λ fault. IsApartOf (files_of versions.old) fault
         ⊎ ExplainsRowsOf R.remaining job.entry.columns.now versions.old fault) }
 {
     let before = read_cells(job, &mut versions.first)?;
@@ -140,6 +140,7 @@ fn read_cells<'a, R: Read + Drop>(
 ) -> Result<Vec<Cells>, Fault<'a>>
     ensures cells { IfOk result (λ rows.
         ReadsCells R.remaining job.entry.columns.now table.old.source.value rows.items) }
+    ensures named { table.new.file ≡ table.old.file }
     ensures file { IfErr result (λ fault. fault.file ≡ table.old.file) }
     ensures why { IfErr result (λ fault.
         ExplainsUnread R.remaining job.entry.columns.now table.old.source.value fault.reason) }

@@ -33,22 +33,33 @@ returns-clause-report g c =
 pub returns-in_err-versions-clause-why : goal.returns-in_err-versions-clause-why
 returns-in_err-versions-clause-why g c =
     same-err c.from_residual.result c.in_err-versions.field-0.0 _ c.from_residual.ensures.1
-    (inr (inl c.in_err-versions.ensures.why))
+    (inl c.in_err-versions.ensures.why)
 
 pub returns-in_err-rename-clause-why : goal.returns-in_err-rename-clause-why
 returns-in_err-rename-clause-why g c =
     same-err c.from_residual-in_err-rename.result c.in_err-rename.field-0.0 _ c.from_residual-in_err-rename.ensures.1
-    (inr (inr (inl (
-      c.in_ok-versions.versions.first,
-      record { named = c.in_ok-versions.ensures.first_named; reads = c.in_ok-versions.ensures.first },
-      c.in_err-rename.ensures.file ∙ c.in_ok-versions.ensures.first_named,
-      c.in_err-rename.ensures.why,
-    ))))
+    (inr (inl (
+      c.in_ok-versions.ensures.next_ready,
+      (
+        c.in_ok-versions.versions.first,
+        record { ready = c.in_ok-versions.ensures.first_ready; named = c.in_ok-versions.ensures.first_named; reads = c.in_ok-versions.ensures.first },
+        c.in_err-rename.ensures.file ∙ c.in_ok-versions.ensures.first_named,
+        c.in_err-rename.ensures.why,
+      ),
+    )))
 
 pub returns-in_err-columns-clause-why : goal.returns-in_err-columns-clause-why
 returns-in_err-columns-clause-why g c =
+    let versions = c.in_ok-versions.versions in
     same-err c.from_residual-in_err-columns.result c.in_err-columns.field-0.0 _ c.from_residual-in_err-columns.ensures.1
-    (inl c.in_err-columns.ensures.why)
+    (inr (inr (
+      record versions { first = c.rename.new.self },
+      opens-anew g.R.Read.remaining g.R.Read.remaining c.args.settings c.args.old versions.first c.rename.new.self
+          (record { ready = c.in_ok-versions.ensures.first_ready; named = c.in_ok-versions.ensures.first_named; reads = c.in_ok-versions.ensures.first })
+          c.in_ok-rename.ensures.same c.in_ok-rename.ensures.named,
+      record { ready = c.in_ok-versions.ensures.next_ready; named = c.in_ok-versions.ensures.next_named; reads = c.in_ok-versions.ensures.next },
+      inl c.in_err-columns.ensures.why,
+    )))
 
 pub returns-clause-why : goal.returns-clause-why
 returns-clause-why g c =
@@ -56,8 +67,9 @@ returns-clause-why g c =
     let named = record versions { first = c.rename.new.self } in
     IfErr-weaker c.diff_files.result _ _
     (λ fault why. diff-unanswered g.R.Read.remaining c.args.settings c.args.how c.args.old c.args.new fault named c.in_ok-columns.columns
-    (opens-anew g.R.Read.remaining g.R.Read.remaining c.args.settings c.args.old versions.first c.rename.new.self (record { named = c.in_ok-versions.ensures.first_named; reads = c.in_ok-versions.ensures.first })
+    (opens-anew g.R.Read.remaining g.R.Read.remaining c.args.settings c.args.old versions.first c.rename.new.self
+    (record { ready = c.in_ok-versions.ensures.first_ready; named = c.in_ok-versions.ensures.first_named; reads = c.in_ok-versions.ensures.first })
     c.in_ok-rename.ensures.same c.in_ok-rename.ensures.named)
-    (record { named = c.in_ok-versions.ensures.next_named; reads = c.in_ok-versions.ensures.next })
+    (record { ready = c.in_ok-versions.ensures.next_ready; named = c.in_ok-versions.ensures.next_named; reads = c.in_ok-versions.ensures.next })
     (record { csv = c.in_ok-columns.ensures.csv; report = c.in_ok-columns.ensures.report })
     (subst₂ (λ groups columns. ExplainsVersions g.R.Read.remaining groups columns named fault) c.new-2.ensures.groups c.new-2.ensures.columns why)) c.diff_files.ensures.why

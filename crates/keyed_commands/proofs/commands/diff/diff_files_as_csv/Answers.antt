@@ -7,7 +7,8 @@ use Rattle.keyed_tables.specs.Arranged.{noted}
 use Rattle.keyed_jobs.specs.Answers.{IsDiffText}
 use Rattle.keyed_jobs.proofs.ReadLemmas.{status-between}
 use Rattle.keyed_files.proofs.ReadingLemmas.{same-err}
-use Rattle.keyed_commands.proofs.UnansweredLemmas.{memory-apart}
+use Rattle.keyed_commands.specs.Unanswered.{files_of}
+use Rattle.keyed_commands.proofs.UnansweredLemmas.{apart-memory}
 use Rattle.keyed_commands.proofs.commands.diff.diff_files_as_csv.Goals as goal
 
 pub returns-clause-answer : goal.returns-clause-answer
@@ -44,7 +45,9 @@ returns-in_err-tables-clause-why g c =
 pub returns-in_err-marked-clause-why : goal.returns-in_err-marked-clause-why
 returns-in_err-marked-clause-why g c =
     same-err c.from_residual-in_err-marked.result c.in_err-marked.field-0.0 _ c.from_residual-in_err-marked.ensures.1
-    (inl c.in_err-marked.ensures.why)
+    (inl (c.in_err-marked.ensures.why, inr (inl (c.in_err-marked.ensures.file ∙ c.in_ok-tables.ensures.next_named))))
 
 pub returns-clause-why : goal.returns-clause-why
-returns-clause-why g c = IfErr-weaker c.at.result _ _ (λ fault why. inl (memory-apart fault.reason why.2)) c.at.ensures.why
+returns-clause-why g c =
+    IfErr-weaker c.at.result _ _ (λ fault apart. inl apart)
+    (apart-memory c.at.result c.diff_as_csv-answer.result (files_of c.args.versions.now) c.read_both.new.tables.next.file (inr (inl c.in_ok-tables.ensures.next_named)) c.at.ensures.file c.at.ensures.why)

@@ -7,9 +7,8 @@ use Rattle.keyed_jobs.specs.TablesRead.{IsStatusBetween}
 use Rattle.keyed_jobs.proofs.ReadLemmas.{status-between}
 use Rattle.keyed_commands.specs.Reported.{IsTold, TellsChanges, names_among}
 use Rattle.keyed_files.proofs.ReadingLemmas.{same-err}
-use Rattle.keyed_faults.specs.Outside.{IsApart}
-use Rattle.keyed_jobs.proofs.UnreadLemmas.{told-of}
-use Rattle.keyed_commands.proofs.UnansweredLemmas.{memory-apart}
+use Rattle.keyed_commands.specs.Unanswered.{files_of}
+use Rattle.keyed_commands.proofs.UnansweredLemmas.{apart-of, memory-apart}
 use Rattle.keyed_commands.proofs.commands.diff.diff_files_as_report.Goals as goal
 
 pub returns-clause-answer : goal.returns-clause-answer
@@ -51,12 +50,14 @@ returns-in_err-tables-clause-why g c =
 pub returns-in_err-before-clause-why : goal.returns-in_err-before-clause-why
 returns-in_err-before-clause-why g c =
     same-err c.from_residual-in_err-before.result c.in_err-before.field-0.0 _ c.from_residual-in_err-before.ensures.1
-    (inl (memory-apart _ c.in_err-before.ensures.why.2))
+    (inl (memory-apart _ c.in_err-before.ensures.why.2, inl (c.in_err-before.ensures.file ∙ c.in_ok-tables.ensures.first_named)))
 
 pub returns-in_err-after-clause-why : goal.returns-in_err-after-clause-why
 returns-in_err-after-clause-why g c =
     same-err c.from_residual-in_err-after.result c.in_err-after.field-0.0 _ c.from_residual-in_err-after.ensures.1
-    (inl (memory-apart _ c.in_err-after.ensures.why.2))
+    (inl (memory-apart _ c.in_err-after.ensures.why.2, inr (inl (c.in_err-after.ensures.file ∙ c.in_ok-tables.ensures.next_named))))
 
 pub returns-clause-why : goal.returns-clause-why
-returns-clause-why g c = IfErr-weaker c.at-3.result _ _ (λ fault why. inl (told-of IsApart c.diff_as_report-answer.result fault why c.diff_as_report-answer.ensures.why)) c.at-3.ensures.why
+returns-clause-why g c =
+    IfErr-weaker c.at-3.result _ _ (λ fault apart. inl apart)
+    (apart-of c.at-3.result c.diff_as_report-answer.result (files_of c.args.versions.now) c.read_both.new.tables.next.file (inr (inl c.in_ok-tables.ensures.next_named)) c.at-3.ensures.file c.at-3.ensures.why c.diff_as_report-answer.ensures.why)

@@ -10,7 +10,8 @@ use Rattle.keyed_jobs.specs.TablesRead.{headers_differ}
 use Rattle.keyed_files.proofs.ReadingLemmas.{same-err}
 use Rattle.keyed_faults.specs.Outside.{IsApart}
 use Rattle.keyed_jobs.proofs.UnreadLemmas.{told-of}
-use Rattle.keyed_commands.proofs.UnansweredLemmas.{memory-apart}
+use Rattle.keyed_commands.specs.Unanswered.{files_of}
+use Rattle.keyed_commands.proofs.UnansweredLemmas.{apart-memory}
 use Rattle.keyed_commands.proofs.commands.diff.diff_files_beside.Goals as goal
 
 pub returns-clause-answer : goal.returns-clause-answer
@@ -51,7 +52,10 @@ returns-clause-answer g c =
 pub returns-in_err-compared-clause-why : goal.returns-in_err-compared-clause-why
 returns-in_err-compared-clause-why g c =
     same-err c.from_residual.result c.in_err-compared.field-0.0 _ c.from_residual.ensures.1
-    (inl (told-of IsApart c.compared_columns-compared.result c.in_err-compared.field-0.0 c.in_err-compared.ensures.why c.compared_columns-compared.ensures.why))
+    (inl (
+      told-of IsApart c.compared_columns-compared.result c.in_err-compared.field-0.0 c.in_err-compared.ensures.why c.compared_columns-compared.ensures.why,
+      inr (inl c.in_err-compared.ensures.file),
+    ))
 
 pub returns-in_err-tables-clause-why : goal.returns-in_err-tables-clause-why
 returns-in_err-tables-clause-why g c =
@@ -61,7 +65,9 @@ returns-in_err-tables-clause-why g c =
 pub returns-in_err-marked-clause-why : goal.returns-in_err-marked-clause-why
 returns-in_err-marked-clause-why g c =
     same-err c.from_residual-in_err-marked.result c.in_err-marked.field-0.0 _ c.from_residual-in_err-marked.ensures.1
-    (inl c.in_err-marked.ensures.why)
+    (inl (c.in_err-marked.ensures.why, inr (inl (c.in_err-marked.ensures.file ∙ c.in_ok-tables.ensures.next_named))))
 
 pub returns-clause-why : goal.returns-clause-why
-returns-clause-why g c = IfErr-weaker c.at-2.result _ _ (λ fault why. inl (memory-apart fault.reason why.2)) c.at-2.ensures.why
+returns-clause-why g c =
+    IfErr-weaker c.at-2.result _ _ (λ fault apart. inl apart)
+    (apart-memory c.at-2.result c.diff_beside-answer.result (files_of c.args.versions.now) c.read_both.new.tables.next.file (inr (inl c.in_ok-tables.ensures.next_named)) c.at-2.ensures.file c.at-2.ensures.why)

@@ -9,7 +9,8 @@ use Rattle.keyed_jobs.specs.TablesRead.{IsStatusBetween}
 use Rattle.keyed_jobs.proofs.ReadLemmas.{status-between}
 use Rattle.keyed_commands.specs.Reported.{names_among}
 use Rattle.keyed_files.proofs.ReadingLemmas.{same-err}
-use Rattle.keyed_commands.proofs.UnansweredLemmas.{memory-apart}
+use Rattle.keyed_commands.specs.Unanswered.{files_of}
+use Rattle.keyed_commands.proofs.UnansweredLemmas.{apart-kept, apart-memory, memory-apart}
 use Rattle.keyed_commands.proofs.commands.diff.diff_files_only.Goals as goal
 
 pub returns-clause-answer : goal.returns-clause-answer
@@ -54,17 +55,19 @@ returns-in_err-tables-clause-why g c =
 pub returns-in_err-marked-clause-why : goal.returns-in_err-marked-clause-why
 returns-in_err-marked-clause-why g c =
     same-err c.from_residual-in_err-marked.result c.in_err-marked.field-0.0 _ c.from_residual-in_err-marked.ensures.1
-    (inl c.in_err-marked.ensures.why)
+    (inl (apart-kept c.args.versions.now c.read_both.new.tables c.in_err-marked.field-0.0 c.in_ok-tables.ensures.first_named c.in_ok-tables.ensures.next_named c.in_err-marked.ensures.why))
 
 pub returns-in_err-earlier-clause-why : goal.returns-in_err-earlier-clause-why
 returns-in_err-earlier-clause-why g c =
     same-err c.from_residual-in_err-earlier.result c.in_err-earlier.field-0.0 _ c.from_residual-in_err-earlier.ensures.1
-    (inl (memory-apart _ c.in_err-earlier.ensures.why.2))
+    (inl (memory-apart _ c.in_err-earlier.ensures.why.2, inl (c.in_err-earlier.ensures.file ∙ c.in_ok-tables.ensures.first_named)))
 
 pub returns-in_err-later-clause-why : goal.returns-in_err-later-clause-why
 returns-in_err-later-clause-why g c =
     same-err c.from_residual-in_err-later.result c.in_err-later.field-0.0 _ c.from_residual-in_err-later.ensures.1
-    (inl (memory-apart _ c.in_err-later.ensures.why.2))
+    (inl (memory-apart _ c.in_err-later.ensures.why.2, inr (inl (c.in_err-later.ensures.file ∙ c.in_ok-tables.ensures.next_named))))
 
 pub returns-clause-why : goal.returns-clause-why
-returns-clause-why g c = IfErr-weaker c.at-3.result _ _ (λ fault why. inl (memory-apart fault.reason why.2)) c.at-3.ensures.why
+returns-clause-why g c =
+    IfErr-weaker c.at-3.result _ _ (λ fault apart. inl apart)
+    (apart-memory c.at-3.result c.diff_as_csv-answer.result (files_of c.args.versions.now) c.read_both.new.tables.next.file (inr (inl c.in_ok-tables.ensures.next_named)) c.at-3.ensures.file c.at-3.ensures.why)

@@ -9,6 +9,7 @@ use Rattle.keyed_faults.specs.Outside.{IsApart}
 use Rattle.keyed_files.proofs.ReadingLemmas.{same-err}
 use Rattle.keyed_jobs.specs.Unread.{ExplainsTables}
 use Rattle.keyed_jobs.proofs.UnreadLemmas.{told-of}
+use Rattle.keyed_commands.specs.Unanswered.{IsApartOf, files_of}
 use Rattle.keyed_commands.proofs.UnansweredLemmas.{join-unanswered, names-apart}
 use Rattle.keyed_commands.proofs.commands.join.join.Goals as goal
 
@@ -30,23 +31,36 @@ returns-clause-answer g c =
 pub returns-in_err-sides-clause-why : goal.returns-in_err-sides-clause-why
 returns-in_err-sides-clause-why g c =
     same-err c.from_residual.result c.in_err-sides.field-0.0 _ c.from_residual.ensures.1
-    (inr (inl c.in_err-sides.ensures.why))
+    (inl c.in_err-sides.ensures.why)
 
 pub returns-in_err-columns-clause-why : goal.returns-in_err-columns-clause-why
 returns-in_err-columns-clause-why g c =
     same-err c.from_residual-in_err-columns.result c.in_err-columns.field-0.0 _ c.from_residual-in_err-columns.ensures.1
-    (inl c.in_err-columns.ensures.why)
+    (inr (
+      c.in_ok-sides.sides,
+      record { ready = c.in_ok-sides.ensures.first_ready; named = c.in_ok-sides.ensures.first_named; reads = c.in_ok-sides.ensures.first },
+      record { ready = c.in_ok-sides.ensures.next_ready; named = c.in_ok-sides.ensures.next_named; reads = c.in_ok-sides.ensures.next },
+      inl (c.in_err-columns.ensures.why, inl c.in_err-columns.ensures.file),
+    ))
 
 pub returns-in_err-form-clause-why : goal.returns-in_err-form-clause-why
 returns-in_err-form-clause-why g c =
     same-err c.from_residual-in_err-form.result c.in_err-form.field-0.0 _ c.from_residual-in_err-form.ensures.1
-    (inl (told-of IsApart c.new-made.result c.in_err-form.field-0.0 c.in_err-form.ensures.why (IfErr-weaker c.new-made.result _ _ (names-apart _ _) c.new-made.ensures.twice)))
+    (inr (
+      c.in_ok-sides.sides,
+      record { ready = c.in_ok-sides.ensures.first_ready; named = c.in_ok-sides.ensures.first_named; reads = c.in_ok-sides.ensures.first },
+      record { ready = c.in_ok-sides.ensures.next_ready; named = c.in_ok-sides.ensures.next_named; reads = c.in_ok-sides.ensures.next },
+      inl (
+        told-of IsApart c.new-made.result c.in_err-form.field-0.0 c.in_err-form.ensures.why (IfErr-weaker c.new-made.result _ _ (names-apart _ _) c.new-made.ensures.twice),
+        inr (inl c.in_err-form.ensures.file),
+      ),
+    ))
 
 pub returns-clause-why : goal.returns-clause-why
 returns-clause-why g c =
     IfErr-weaker c.join_files.result _ _
     (λ fault why. join-unanswered g.R.Read.remaining c.args.settings c.args.left c.args.right fault c.in_ok-sides.sides c.in_ok-columns.columns
-    (record { named = c.in_ok-sides.ensures.first_named; reads = c.in_ok-sides.ensures.first })
-    (record { named = c.in_ok-sides.ensures.next_named; reads = c.in_ok-sides.ensures.next }) c.in_ok-columns.ensures.columns
-    (subst₂ (λ groups columns. IsApart fault.reason ⊎ ExplainsTables g.R.Read.remaining groups columns.left columns.right c.in_ok-sides.sides fault) c.new-job.ensures.groups c.new-job.ensures.columns why))
+    (record { ready = c.in_ok-sides.ensures.first_ready; named = c.in_ok-sides.ensures.first_named; reads = c.in_ok-sides.ensures.first })
+    (record { ready = c.in_ok-sides.ensures.next_ready; named = c.in_ok-sides.ensures.next_named; reads = c.in_ok-sides.ensures.next }) c.in_ok-columns.ensures.columns
+    (subst₂ (λ groups columns. IsApartOf (files_of c.in_ok-sides.sides) fault ⊎ ExplainsTables g.R.Read.remaining groups columns.left columns.right c.in_ok-sides.sides fault) c.new-job.ensures.groups c.new-job.ensures.columns why))
     c.join_files.ensures.why

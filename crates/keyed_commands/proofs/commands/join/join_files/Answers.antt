@@ -1,4 +1,4 @@
-use Rattle.std.proofs.Common.{inl, inr, refl, subst}
+use Rattle.std.proofs.Common.{◌∙◌, inl, inr, refl, subst}
 use Rattle.std.specs.Prelude.{is_none}
 use Rattle.keyed_tables.specs.Arranged.{noted}
 use Rattle.keyed_commands.specs.JoinAnswers.{IsJoinText}
@@ -37,4 +37,4 @@ returns-in_err-tables-clause-why g c =
 pub returns-in_err-bytes-clause-why : goal.returns-in_err-bytes-clause-why
 returns-in_err-bytes-clause-why g c =
     same-err c.from_residual-in_err-bytes.result c.in_err-bytes.field-0.0 _ c.from_residual-in_err-bytes.ensures.1
-    (inl (memory-apart _ c.in_err-bytes.ensures.why.2))
+    (inl (memory-apart _ c.in_err-bytes.ensures.why.2, inr (inl (c.in_err-bytes.ensures.file ∙ c.in_ok-tables.ensures.next_named))))

@@ -1,7 +1,7 @@
 use Rattle.std.proofs.lemmas.Result.{on_ok_weaker}
 use Rattle.keyed_commands.specs.JoinAnswers.{heading_of_join}
 use Rattle.keyed_commands.specs.LookupAnswers.{WritesBehind, WritesRest, found_under}
-use Rattle.std.proofs.Common.{inl}
+use Rattle.std.proofs.Common.{inl, inr}
 use Rattle.keyed_files.proofs.ReadingLemmas.{same-err}
 use Rattle.keyed_commands.proofs.UnansweredLemmas.{memory-apart}
 use Rattle.keyed_commands.proofs.commands.lookup.write_found.Goals as goal
@@ -23,4 +23,4 @@ returns-clause-text g c =
 pub returns-in_err-written-clause-why : goal.returns-in_err-written-clause-why
 returns-in_err-written-clause-why g c =
     same-err c.from_residual.result c.in_err-written.field-0.0 _ c.from_residual.ensures.1
-    (inl (memory-apart _ c.in_err-written.ensures.why.2))
+    (inr (inl (memory-apart _ c.in_err-written.ensures.why.2, inl c.in_err-written.ensures.file)))

@@ -1,7 +1,7 @@
-use Rattle.std.proofs.Common.{◌∙◌, inl, refl, subst, sym}
+use Rattle.std.proofs.Common.{◌∙◌, ap, inl, refl, subst, sym}
 use Rattle.keyed_commands.specs.LookupAnswers.{WritesPart, found_under}
 use Rattle.keyed_commands.proofs.LookupLemmas.{part_and, part_last}
-use Rattle.keyed_faults.specs.Outside.{IsApart}
+use Rattle.keyed_jobs.specs.Written.{IsIo}
 use Rattle.keyed_files.proofs.ReadingLemmas.{same-err}
 use Rattle.keyed_commands.proofs.UnansweredLookupLemmas.{goes-and, goes-none, left-after}
 use Rattle.keyed_commands.proofs.commands.lookup.write_parts.Goals as goal
@@ -44,4 +44,4 @@ returns-in_err-is_last-clause-why g c =
 pub returns-in_err-at-clause-why : goal.returns-in_err-at-clause-why
 returns-in_err-at-clause-why g c =
     same-err c.from_residual-in_err-at.result c.in_err-at.field-0.0 _ c.from_residual-in_err-at.ensures.1
-    (inl (subst IsApart (sym c.in_err-at.ensures.why.2) tt))
+    (inl (ap (λ file. file.now) c.in_err-at.ensures.file, subst IsIo (sym c.in_err-at.ensures.why.2) tt))

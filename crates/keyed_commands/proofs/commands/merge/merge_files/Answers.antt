@@ -6,10 +6,9 @@ use Rattle.keyed_tables.specs.Arranged.{noted}
 use Rattle.keyed_jobs.specs.MarkedText.{all_as_they_stand}
 use Rattle.keyed_jobs.specs.NotedStyles.{IsStyleBy, watched_left}
 use Rattle.keyed_commands.specs.MergedTexts.{AnswersAs}
-use Rattle.keyed_faults.specs.Outside.{IsApart}
 use Rattle.keyed_files.proofs.ReadingLemmas.{same-err}
-use Rattle.keyed_jobs.proofs.UnreadLemmas.{told-of}
-use Rattle.keyed_commands.proofs.UnansweredLemmas.{merge-unspelled}
+use Rattle.keyed_commands.specs.Unanswered.{files_of_three}
+use Rattle.keyed_commands.proofs.UnansweredLemmas.{apart-of, merge-unspelled}
 use Rattle.keyed_commands.proofs.commands.merge.merge_files.Goals as goal
 
 pub returns-clause-answer : goal.returns-clause-answer
@@ -57,4 +56,5 @@ returns-in_err-spelling-clause-why g c =
 
 pub returns-clause-why : goal.returns-clause-why
 returns-clause-why g c =
-    IfErr-weaker c.at.result _ _ (λ fault why. inl (told-of IsApart c.merge_tables.result fault why c.merge_tables.ensures.why)) c.at.ensures.why
+    IfErr-weaker c.at.result _ _ (λ fault apart. inl apart)
+    (apart-of c.at.result c.merge_tables.result (files_of_three c.args.base.now c.args.sides.now) c.read_versions.new.sides.next.file (inr (inr (inl c.in_ok-versions.ensures.next_named))) c.at.ensures.file c.at.ensures.why c.merge_tables.ensures.why)

@@ -1,4 +1,4 @@
-use Rattle.std.proofs.Common.{◌∷◌, [], ap, inl, inr}
+use Rattle.std.proofs.Common.{◌∷◌, ◌∙◌, [], ap, inl, inr}
 use Rattle.keyed_files.proofs.ReadingLemmas.{same-err}
 use Rattle.keyed_commands.proofs.UnansweredLemmas.{memory-apart}
 use Rattle.keyed_commands.proofs.UnansweredOverlayLemmas.{one-unspelled}
@@ -11,7 +11,7 @@ returns-clause-laid g c =
 pub returns-in_err-above-clause-why : goal.returns-in_err-above-clause-why
 returns-in_err-above-clause-why g c =
     same-err c.from_residual.result c.in_err-above.field-0.0 _ c.from_residual.ensures.1
-    (inr (c.in_err-above.ensures.file, c.in_err-above.ensures.why))
+    (c.in_err-above.ensures.file, inr c.in_err-above.ensures.why)
 
 pub returns-in_err-spelling-clause-why : goal.returns-in_err-spelling-clause-why
 returns-in_err-spelling-clause-why g c =
@@ -22,4 +22,4 @@ returns-in_err-spelling-clause-why g c =
 pub returns-in_err-laid-clause-why : goal.returns-in_err-laid-clause-why
 returns-in_err-laid-clause-why g c =
     same-err c.from_residual-in_err-laid.result c.in_err-laid.field-0.0 _ c.from_residual-in_err-laid.ensures.1
-    (inl (memory-apart _ c.in_err-laid.ensures.why.2))
+    (c.in_err-laid.ensures.file ∙ c.in_ok-above.ensures.named, inl (memory-apart _ c.in_err-laid.ensures.why.2))

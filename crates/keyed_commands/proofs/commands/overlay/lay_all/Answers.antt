@@ -1,4 +1,4 @@
-use Rattle.std.proofs.Common.{◌≡◌, ◌∷◌, ◌∙◌, [], ◌⊎◌, ap, arith, rules, subst}
+use Rattle.std.proofs.Common.{◌≡◌, ◌∷◌, ◌∙◌, [], ap, arith, rules, subst}
 use Rattle.std.proofs.lemmas.Grind.{common_steps}
 use Rattle.keyed_columns.specs.declared.columns.Columns.{Columns}
 use Rattle.keyed_columns.specs.declared.content.Content.TheVariants.{Rows}
@@ -8,10 +8,9 @@ use Rattle.keyed_jobs.specs.FileOrder.{OfKeys, noted_with}
 use Rattle.keyed_jobs.specs.declared.job.Job.{Job}
 use Rattle.keyed_commands.specs.OverlayAnswers.{LaysTables, rows_laid}
 use Rattle.keyed_commands.proofs.OverlayLemmas.{lays_none, lays_then, notes_none, notes_then}
-use Rattle.keyed_faults.specs.Outside.{IsApart}
 use Rattle.keyed_files.proofs.ReadingLemmas.{same-err}
 use Rattle.keyed_commands.specs.UnansweredOverlay.{ExplainsOne}
-use Rattle.keyed_commands.proofs.UnansweredOverlayLemmas.{laid-later, laid-whole, one-of-laid}
+use Rattle.keyed_commands.proofs.UnansweredOverlayLemmas.{laid-here, laid-later}
 use Rattle.keyed_commands.proofs.commands.overlay.lay_all.Goals as goal
 
 pub loop-table-preserved : goal.loop-table-preserved
@@ -45,6 +44,5 @@ returns-clause-notes g c =
 pub returns-in_err-laid-clause-why : goal.returns-in_err-laid-clause-why
 returns-in_err-laid-clause-why g c =
     same-err c.from_residual.result c.in_err-laid.field-0.0 _ c.from_residual.ensures.1
-    (laid-whole g.R.Read.remaining c.args.job.now.groups c.args.job.now.columns.now _ c.args.tables.items _ (c.loop-table.invariant.why _)
-    (one-of-laid g.R.Read.remaining c.args.job.now.groups c.args.job.now.columns.now _ _ c.in-Some.table _ c.in-Some.ensures.steps.0
-    (subst (λ job. IsApart c.in_err-laid.field-0.0.reason ⊎ ExplainsOne g.R.Read.remaining job.groups job.columns.now c.in-Some.table c.in_err-laid.field-0.0) c.loop-table.invariant.same c.in_err-laid.ensures.why)))
+    (c.loop-table.invariant.why _ (laid-here g.R.Read.remaining c.args.job.now.groups c.args.job.now.columns.now _ _ c.in-Some.table _ c.in-Some.ensures.steps.0
+    (subst (λ job. ExplainsOne g.R.Read.remaining job.groups job.columns.now c.in-Some.table c.in_err-laid.field-0.0) c.loop-table.invariant.same c.in_err-laid.ensures.why)))

@@ -27,6 +27,9 @@ returns-clause-style g c =
 pub returns-clause-named : goal.returns-clause-named
 returns-clause-named g c = ap (λ table. table.file) c.in_ok-rename_key.ensures.same ∙ (c.in_ok-table.ensures.named ∙ c.in_ok-watched.ensures.named)
 
+pub returns-clause-ready : goal.returns-clause-ready
+returns-clause-ready g c = c.in_ok-watched.ensures.ready c.in_ok-table.ensures.ready
+
 pub returns-in_err-watched-clause-why : goal.returns-in_err-watched-clause-why
 returns-in_err-watched-clause-why g c =
     same-err c.from_residual.result c.in_err-watched.field-0.0 _ c.from_residual.ensures.1
@@ -44,7 +47,8 @@ returns-in_err-rename_key-clause-why g c =
       c.in_err-rename_key.ensures.file ∙ (c.in_ok-table.ensures.named ∙ c.in_ok-watched.ensures.named),
       inr (
         c.in_ok-table.table,
-        opens-kept g.R.Read.remaining (watched_left g.R.Read.remaining) c.args.form Rows c.args.stream c.in_ok-watched.watched.0 c.in_ok-table.table c.in_ok-watched.ensures.form
+        opens-kept g.R.Read.remaining (watched_left g.R.Read.remaining) c.args.form Rows c.args.stream c.in_ok-watched.watched.0 c.in_ok-table.table (c.in_ok-watched.ensures.ready c.in_ok-table.ensures.ready)
+            c.in_ok-watched.ensures.form
             c.in_ok-watched.ensures.text c.in_ok-watched.ensures.named c.in_ok-table.ensures.named c.in_ok-table.ensures.opened,
         c.in_err-rename_key.ensures.why,
       ),

@@ -1,4 +1,4 @@
-use Rattle.std.proofs.Common.{inl, subst}
+use Rattle.std.proofs.Common.{inl, inr, subst}
 use Rattle.std.specs.Prelude.{is_none}
 use Rattle.std.proofs.lemmas.Result.{IfErr-weaker, IfOk-weaker}
 use Rattle.keyed_requests.specs.AnswerForm.{in_style}
@@ -7,7 +7,7 @@ use Rattle.keyed_jobs.specs.Answers.{IsTableFile}
 use Rattle.keyed_jobs.specs.NotedStyles.{IsStyleBy}
 use Rattle.keyed_commands.specs.OverlayAnswers.{rows_laid}
 use Rattle.keyed_files.proofs.ReadingLemmas.{same-err}
-use Rattle.keyed_commands.proofs.UnansweredLemmas.{memory-apart}
+use Rattle.keyed_commands.proofs.UnansweredLemmas.{IfErr-and, memory-apart}
 use Rattle.keyed_commands.proofs.commands.overlay.overlay_files.Goals as goal
 
 pub returns-clause-answer : goal.returns-clause-answer
@@ -43,7 +43,9 @@ returns-clause-answer g c =
 pub returns-in_err-laid-clause-why : goal.returns-in_err-laid-clause-why
 returns-in_err-laid-clause-why g c =
     same-err c.from_residual.result c.in_err-laid.field-0.0 _ c.from_residual.ensures.1
-    (c.in_err-laid.ensures.why)
+    (inr c.in_err-laid.ensures.why)
 
 pub returns-clause-why : goal.returns-clause-why
-returns-clause-why g c = IfErr-weaker c.at.result _ _ (λ fault why. inl (memory-apart fault.reason why.2)) c.at.ensures.why
+returns-clause-why g c =
+    IfErr-weaker c.at.result _ _ (λ fault both. inl both)
+    (IfErr-and c.at.result _ _ (IfErr-weaker c.at.result _ _ (λ fault why. memory-apart fault.reason why.2) c.at.ensures.why) c.at.ensures.file)

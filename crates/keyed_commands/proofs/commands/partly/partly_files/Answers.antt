@@ -8,7 +8,8 @@ use Rattle.keyed_jobs.specs.NotedStyles.{IsStyleBy, watched_left}
 use Rattle.keyed_jobs.specs.Turned.{changes_in}
 use Rattle.keyed_commands.specs.PartlyAnswers.{AnswersPartly}
 use Rattle.keyed_files.proofs.ReadingLemmas.{same-err}
-use Rattle.keyed_commands.proofs.UnansweredLemmas.{change-unspelled, memory-apart}
+use Rattle.keyed_commands.specs.Unanswered.{files_of}
+use Rattle.keyed_commands.proofs.UnansweredLemmas.{apart-memory, change-unspelled, memory-apart}
 use Rattle.keyed_commands.proofs.commands.partly.partly_files.Goals as goal
 
 pub returns-clause-partly : goal.returns-clause-partly
@@ -50,7 +51,7 @@ returns-clause-partly g c =
 pub returns-in_err-missing-clause-why : goal.returns-in_err-missing-clause-why
 returns-in_err-missing-clause-why g c =
     same-err c.from_residual.result c.in_err-missing.field-0.0 _ c.from_residual.ensures.1
-    (inl (memory-apart _ c.in_err-missing.ensures.why.2))
+    (inl (memory-apart _ c.in_err-missing.ensures.why.2, inr (inl c.in_err-missing.ensures.file)))
 
 pub returns-in_err-tables-clause-why : goal.returns-in_err-tables-clause-why
 returns-in_err-tables-clause-why g c =
@@ -66,4 +67,6 @@ returns-in_err-spelling-clause-why g c =
     (ap (λ job. job.columns.now) read.same) c.in_err-spelling.ensures.file c.in_err-spelling.ensures.why)
 
 pub returns-clause-why : goal.returns-clause-why
-returns-clause-why g c = IfErr-weaker c.at-2.result _ _ (λ fault why. inl (memory-apart fault.reason why.2)) c.at-2.ensures.why
+returns-clause-why g c =
+    IfErr-weaker c.at-2.result _ _ (λ fault apart. inl apart)
+    (apart-memory c.at-2.result c.partly_in.result (files_of c.args.inputs.now) c.read_to_change.new.inputs.next.file (inr (inl c.in_ok-tables.ensures.next_named)) c.at-2.ensures.file c.at-2.ensures.why)

@@ -1,8 +1,8 @@
 use Rattle.std.proofs.lemmas.Result.{IfErr-weaker, IfOk-weaker}
 use Rattle.std.proofs.Common.{inl, inr}
-use Rattle.keyed_faults.specs.Outside.{IsApart}
 use Rattle.keyed_files.proofs.ReadingLemmas.{same-err}
-use Rattle.keyed_jobs.proofs.UnreadLemmas.{told-of}
+use Rattle.keyed_commands.specs.Unanswered.{files_of}
+use Rattle.keyed_commands.proofs.UnansweredLemmas.{apart-of}
 use Rattle.keyed_commands.proofs.commands.row_diff.diff_row_files.Goals as goal
 
 pub returns-clause-answer : goal.returns-clause-answer
@@ -28,4 +28,5 @@ returns-in_err-after-clause-why g c =
 
 pub returns-clause-why : goal.returns-clause-why
 returns-clause-why g c =
-    IfErr-weaker c.at.result _ _ (λ fault why. inl (told-of IsApart c.answer_rows-answer.result fault why c.answer_rows-answer.ensures.why)) c.at.ensures.why
+    IfErr-weaker c.at.result _ _ (λ fault apart. inl apart)
+    (apart-of c.at.result c.answer_rows-answer.result (files_of c.args.versions.now) c.read_cells-2.new.table.file (inr (inl c.in_ok-after.ensures.named)) c.at.ensures.file c.at.ensures.why c.answer_rows-answer.ensures.why)

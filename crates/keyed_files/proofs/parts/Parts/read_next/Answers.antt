@@ -10,7 +10,8 @@ pub returns-in_ok-put-in-Some-clause-fills : goal.returns-in_ok-put-in-Some-clau
 returns-in_ok-put-in-Some-clause-fills g c =
     let gives = subst (λ s. GivesRecord g.R.Read.remaining s c.read_row.new.self true) c.deref_mut.ensures.value (rw c.in-Some.is at c.in_ok-row.ensures.gives) in
     let read = record c.args.self.now { source = with_value c.args.self.now.source c.read_row.new.self } in
-    fills_put g.R.Read.remaining c.args.self.now read c.put.new.self c.in-Some.row c.put.ensures.same refl c.requires c.requires refl refl gives
+    fills_put g.R.Read.remaining c.args.self.now read c.put.new.self c.in-Some.row c.put.ensures.same refl refl c.requires c.requires refl refl
+    (subst (λ source. SameCount source c.read_row.new.self) c.deref_mut.ensures.value c.in_ok-row.ensures.rule) gives
     (rw c.in-Some.is at c.in_ok-row.ensures.picked) c.in_ok-put-in-Some.ensures.rises c.in_ok-put-in-Some.ensures.last c.in_ok-put-in-Some.ensures.puts
 
 pub returns-in_ok-put-in-Some-clause-step : goal.returns-in_ok-put-in-Some-clause-step
@@ -19,7 +20,8 @@ returns-in_ok-put-in-Some-clause-step g c = step_put c.args.self.now c.put.new.s
 pub returns-in-None-clause-fills : goal.returns-in-None-clause-fills
 returns-in-None-clause-fills g c =
     let gives = subst (λ s. GivesRecord g.R.Read.remaining s c.read_row.new.self false) c.deref_mut.ensures.value (rw c.in-None.is at c.in_ok-row.ensures.gives) in
-    fills_end g.R.Read.remaining c.args.self.now _ refl c.requires c.read_row.new.self refl refl refl gives
+    fills_end g.R.Read.remaining c.args.self.now _ refl refl c.requires c.read_row.new.self refl refl
+    (subst (λ source. SameCount source c.read_row.new.self) c.deref_mut.ensures.value c.in_ok-row.ensures.rule) refl refl gives
 
 pub returns-in-None-clause-step : goal.returns-in-None-clause-step
 returns-in-None-clause-step g c = inl refl
