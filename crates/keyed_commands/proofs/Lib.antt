@@ -23,3 +23,4 @@ pub mod TextAnswerLemmas
 pub mod UnansweredLemmas
 pub mod UnansweredLookupLemmas
 pub mod UnansweredOverlayLemmas
+pub mod UnansweredSortedLemmas

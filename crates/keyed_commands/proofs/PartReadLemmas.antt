@@ -17,6 +17,7 @@ use Rattle.eob_joins.specs.Laws.{AreBelow}
 use Rattle.keyed_rows.specs.declared.row.ReadRow.{ReadRow}
 use Rattle.keyed_tables.specs.Gathered.{alone}
 use Rattle.keyed_tables.proofs.GatherLemmas.{alone_law}
+use Rattle.keyed_files.specs.Explained.{SameCount}
 use Rattle.keyed_files.specs.Parts.{AreRead, Fills, HasParts, IsFull, RisesTo, Takes, TakesUpTo, first_within, is_within, keys_in}
 use Rattle.keyed_files.specs.Reading.{parts_of, picked}
 use Rattle.keyed_files.specs.declared.parts.Parts.{Parts}
@@ -171,12 +172,14 @@ by_bool false f g = g refl
 module _ {R : Type 0} (rem : R → Option (List ℕ)) where
   -- no row was taken
   pub taken_none : (start : Parts R) → IsFresh start → HasTaken rem start start []
-  taken_none start rises = record { places = refl; rises = rises; has = λ d c text given h. h }
+  taken_none start rises = record { named = refl; places = refl; rule = (refl, refl); rises = rises; has = λ d c text given h. h }
 
   -- others are read
   pub taken_filled : (start old read : Parts R) (taken : List ReadRow) → HasTaken rem start old taken → Fills rem old read → HasTaken rem start read taken
   taken_filled start old read taken h f = record {
+    named = f.named ∙ h.named;
     places = f.places ∙ h.places;
+    rule = (f.rule.0 ∙ h.rule.0, f.rule.1 ∙ h.rule.1);
     rises = f.rises taken h.rises;
     has = λ d c text given before. f.has d c text given taken (h.has d c text given before);
   }
@@ -188,7 +191,9 @@ module _ {R : Type 0} (rem : R → Option (List ℕ)) where
 
     pub taken_more : HasTaken rem start new (taken ++ rows)
     taken_more = record {
+      named = ap (λ (p : Parts R). p.file) t.same ∙ h.named;
       places = ap (λ (p : Parts R). p.places) t.same ∙ h.places;
+      rule = subst (λ (p : Parts R). SameCount start.source.value p.source.value) (sym t.same) h.rule;
       rises = subst (λ l. RisesTo (keys_in l) new.last) (sym regrouped)
           (subst (RisesTo (keys_in (taken ++ read.waiting.items))) (sym (ap (λ (p : Parts R). p.last) t.same)) h.rises);
       has = λ d c text given before.

@@ -17,3 +17,4 @@ pub mod SortedTexts
 pub mod Unanswered
 pub mod UnansweredLookup
 pub mod UnansweredOverlay
+pub mod UnansweredSorted

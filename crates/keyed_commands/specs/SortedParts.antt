@@ -4,6 +4,7 @@ use Rattle.std.specs.Io.KnownBytes.{Appends}
 use Rattle.std.specs.List.{AllByRecursion}
 use Rattle.std.specs.declared.cmp.Ordering.{Ordering}
 use Rattle.std.specs.declared.cmp.Ordering.TheVariants.{Greater, Less}
+use Rattle.keyed_files.specs.Explained.{SameCount}
 use Rattle.keyed_files.specs.Parts.{Fills, HasParts, IsFull, RisesTo, TakesUpTo, key_cmp, keys_in}
 use Rattle.keyed_files.specs.Reading.{parts_of, picked}
 use Rattle.keyed_files.specs.declared.opened.Two.{Two}
@@ -74,7 +75,9 @@ module _ {R : Type 0} where
 
     -- rows were taken of a table since it stood at the start, and others wait
     pub record HasTaken (start now : Parts R) (taken : List ReadRow) : Type 0 where
+      pub named : now.file ≡ start.file
       pub places : now.places ≡ start.places
+      pub rule : SameCount start.source.value now.source.value
       pub rises : RisesTo (keys_in (taken ++ now.waiting.items)) now.last
       pub has : (d : ℕ) (c : Option ℕ) (text : List ℕ) (given : List (List (List ℕ)))
           → HasParts remaining d c text given [] start → HasParts remaining d c text given taken now

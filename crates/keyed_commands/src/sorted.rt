@@ -3,8 +3,11 @@
 //! Where all rows of both tables up to a key are read, their join is the first part of the whole join (`law_cut_join` of `eob_joins`).
 ghost use Rattle.std.specs.Prelude.{◌≡◌, ◌==◌, ◌↔◌, ◌⊎◌, IfErr, IfOk, IfSome, IsNone, List, false, is_none, length};
 ghost use Rattle.std.specs.Prelude.{if◌then◌else◌, option_map, true};
+ghost use Rattle.keyed_faults.specs.Outside.{IsApart};
 ghost use Rattle.keyed_requests.specs.declared.request.RowFormat.TheVariants.{Csv};
 ghost use Rattle.keyed_requests.specs.declared.request.SortedChanges.TheVariants as told;
+ghost use Rattle.keyed_columns.specs.Keys.{AreChangeColumns};
+ghost use Rattle.keyed_files.specs.Opening.{first_header, headers_of, next_header};
 ghost use Rattle.keyed_files.specs.Parts.{TakesUpTo, key_cmp};
 ghost use Rattle.keyed_rows.specs.declared.row.ReadRow.{ReadRow};
 ghost use Rattle.keyed_tables.specs.Arranged.{noted};
@@ -15,12 +18,19 @@ ghost use Rattle.keyed_commands.specs.JoinAnswers.{IsJoinText};
 ghost use Rattle.keyed_commands.specs.Keys.{IsAtMost};
 ghost use Rattle.keyed_commands.specs.PartAnswers.{IsByKey, SaysChanges, SaysChangesIn, SaysOf};
 ghost use Rattle.keyed_commands.specs.PartAnswers.{left_columns, on_later, right_columns, status_both};
+ghost use Rattle.keyed_commands.specs.Reported.{AreComparedColumns};
 ghost use Rattle.keyed_commands.specs.SortedBegun.{DiffsStreamsBegun, JoinsStreamsBegun, DiffsFirst};
-ghost use Rattle.keyed_commands.specs.SortedParts.{BeginsLater, HasWritten, IsFresh, IsLesser, ReadsNext, TakesPart};
+ghost use Rattle.keyed_commands.specs.SortedParts.{BeginsLater, IsFresh, IsLesser, ReadsNext, TakesPart};
 ghost use Rattle.keyed_commands.specs.SortedParts.{SaysFirst, SaysNext, SaysTaken};
 ghost use Rattle.keyed_commands.specs.SortedParts.{WritesAll, WritesLater, WritesPart, WritesTables};
 ghost use Rattle.keyed_commands.specs.SortedParts.{bound_of};
 ghost use Rattle.keyed_commands.specs.SortedTexts.{DiffsInParts, DiffsStreamsInParts, JoinsStreamsInParts};
+ghost use Rattle.keyed_commands.specs.Unanswered.{IsApartOf, files_of};
+ghost use Rattle.keyed_commands.specs.UnansweredSorted.{ExplainsDiffSorted, ExplainsJoinSorted};
+ghost use Rattle.keyed_commands.specs.UnansweredSorted.{ExplainsParts, ExplainsRest, ExplainsRisingTables};
+ghost use Rattle.keyed_commands.specs.UnansweredSorted.{ExplainsRisingVersions, ExplainsTaking};
+ghost use Rattle.keyed_commands.specs.UnansweredSorted.{ExplainsTakingNext, ExplainsWriting, IsOfOne};
+ghost use Rattle.keyed_commands.specs.UnansweredSorted.{files_in};
 
 use crate::commands::join::JoinForm;
 use crate::commands::join_json::write_join;
@@ -86,8 +96,9 @@ impl Work<'_> {
 
     // What there is to say of a part, where rows come out in the order of their keys.
     fn answer(&self, part: Part) -> Result<PartAnswer, Reason>
-        ensures { IfOk result (λ answer. IsByKey self.now → SaysOf self.now
+        ensures says { IfOk result (λ answer. IsByKey self.now → SaysOf self.now
             part.left.pairs.items part.right.pairs.items answer.bytes.items answer.status) }
+        ensures why { IfErr result IsApart }
     {
         match self {
             Work::Changes(job, form) => {
@@ -118,8 +129,9 @@ fn changes_of_part(
     form: &ChangesForm<'_>,
     part: Part,
 ) -> Result<PartAnswer, Reason>
-    ensures { IfOk result (λ answer. SaysChangesIn job.now.form job.now.columns.now form.now
+    ensures says { IfOk result (λ answer. SaysChangesIn job.now.form job.now.columns.now form.now
         part.left.pairs.items part.right.pairs.items answer.bytes.items answer.status) }
+    ensures why { IfErr result IsApart }
 {
     match form {
         ChangesForm::Csv(marked) => {
@@ -152,7 +164,9 @@ fn json_of_part(
     job: &Job<'_, Columns>,
     sameness: Option<Sameness<'_>>,
     part: Part,
-) -> Result<PartAnswer, Reason> {
+) -> Result<PartAnswer, Reason>
+    ensures why { IfErr result IsApart }
+{
     let tolerances = Tolerances::new(job.alloc, sameness)?;
     let alikes = tolerances.alikes(job.alloc, job.columns)?;
     let old_rows = count_rows(&part.left.pairs);
@@ -234,6 +248,7 @@ pub fn diff_sorted<'a, R: Read + Drop, W: Write>(
     ensures begun { IfErr result (λ fault. how.entry ≡ told.Csv →
         DiffsStreamsBegun R.remaining layout.entry old.entry new.entry fault.file.now
         (W.contents output.old) (W.contents output.new)) }
+    ensures why { IfErr result (ExplainsDiffSorted R.remaining layout.entry how.entry old.entry new.entry) }
 {
     let mut versions = Two::new(alloc, layout.form, Content::Rows, old, new)?;
     versions.first.rename_key(alloc, layout.key)?;
@@ -257,6 +272,8 @@ fn diff_as_csv<'a, R: Read + Drop, W: Write>(
         (W.contents output.old) (W.contents output.new) finished.status) }
     ensures begun { IfErr result (λ fault. PutsBeginning (DiffsFirst R.remaining layout.entry versions.entry)
         fault.file.now (W.contents output.old) (W.contents output.new)) }
+    ensures why { IfErr result (ExplainsRisingVersions R.remaining (AreChangeColumns layout.entry.key
+        (first_header versions.entry) (next_header versions.entry)) versions.entry) }
 {
     let marked = versions.marked_names(alloc)?;
     let columns = versions.change_columns(alloc, layout.key)?;
@@ -288,7 +305,9 @@ fn diff_as_json<'a, R: Read + Drop, W: Write>(
     sameness: Option<Sameness<'_>>,
     versions: Two<'a, R>,
     output: &mut W,
-) -> Result<Finished, Fault<'a>> {
+) -> Result<Finished, Fault<'a>>
+    ensures why { IfErr result (ExplainsRisingTables R.remaining columns.now columns.now versions.entry) }
+{
     let lone = at(versions.next.file, lone_among(alloc, &versions, columns))?;
     let told = at(versions.next.file, json_columns(alloc, &lone))?;
     at("the standard output", output.write_all(&told))?;
@@ -308,7 +327,11 @@ fn columns_compared<'a, R>(
     picked: Picked<'_>,
     sameness: Option<Sameness<'_>>,
     versions: &Two<'a, R>,
-) -> Result<Columns, Fault<'a>> {
+) -> Result<Columns, Fault<'a>>
+    ensures columns { IfOk result
+        (AreComparedColumns picked.entry layout.entry.key (headers_of versions.now)) }
+    ensures why { IfErr result (IsApartOf (files_of versions.now)) }
+{
     let columns = versions.columns(alloc, layout.key)?;
     let tolerances = at(versions.next.file, Tolerances::new(alloc, sameness))?;
     at(versions.next.file, tolerances.check_known(alloc, &columns))?;
@@ -346,6 +369,7 @@ pub fn join_sorted<'a, R: Read + Drop, W: Write>(
     ensures begun { IfErr result (λ fault. how.entry.format ≡ Csv →
         JoinsStreamsBegun R.remaining layout.entry how.entry left.entry right.entry fault.file.now
         (W.contents output.old) (W.contents output.new)) }
+    ensures why { IfErr result (ExplainsJoinSorted R.remaining layout.entry left.entry right.entry) }
 {
     let sides = Two::new(alloc, layout.form, Content::Rows, left, right)?;
     let columns = sides.join_columns(alloc, layout.key)?;
@@ -409,6 +433,8 @@ fn write_tables<'a, R: Read + Drop, W: Write>(
     ensures begun { IfErr result (λ fault. IsByKey work.old
         → PutsBeginning (SaysFirst R.remaining work.old tables.entry) fault.file.now (W.contents output.old)
         (W.contents output.new)) }
+    ensures why { IfErr result (λ fault. IsByKey work.old → ExplainsRisingTables R.remaining
+        (left_columns work.old) (right_columns work.old) tables.entry fault) }
 {
     let (left_columns, right_columns) = work.columns();
     let left = Parts::new(alloc, tables.first, left_columns)?;
@@ -430,6 +456,8 @@ fn write_parts<'a, R: Read + Drop, W: Write>(
     ensures begun { IfErr result (λ fault. IsByKey work.old → IsFresh tables.old.left
         → IsFresh tables.old.right → PutsBeginning (SaysTaken R.remaining work.old tables.old) fault.file.now
         (W.contents output.old) (W.contents output.new)) }
+    ensures why { IfErr result (λ fault. IsByKey work.old → IsFresh tables.old.left
+        → IsFresh tables.old.right → ExplainsParts R.remaining tables.old fault) }
 {
     let first = write_part(alloc, work, tables, output)?;
     work.leave_header();
@@ -454,6 +482,8 @@ fn write_later<'a, R: Read + Drop, W: Write>(
         (W.contents output.old) (W.contents output.new) first) }
     ensures begun { IfErr result (λ fault. BeginsLater R.remaining work.now tables.old
         (W.contents output.old) (W.contents output.new) first fault.file.now) }
+    ensures why { IfErr result
+        (ExplainsRest R.remaining work.now tables.old (W.contents output.old) first) }
 {
     let mut whole = first;
     for _ in 0..u64::MAX {
@@ -481,6 +511,8 @@ fn write_part<'a, R: Read + Drop, W: Write>(
         tables.old tables.new (W.contents output.old) (W.contents output.new) written) }
     ensures begun { IfErr result (λ fault. IsByKey work.now
         → PutsBeginning (SaysNext R.remaining work.now tables.old) fault.file.now (W.contents output.old) (W.contents output.new)) }
+    ensures why { IfErr result (λ fault. ExplainsWriting (files_in tables.old)
+        (IsOfOne (ExplainsTakingNext R.remaining) tables.old fault) fault) }
 {
     let part = next_part(alloc, tables)?;
     let is_last = part.is_last;
@@ -498,7 +530,8 @@ fn next_part<'a, R: Read + Drop>(
     alloc: Global,
     tables: &mut TwoParts<'a, R>,
 ) -> Result<Part, Fault<'a>>
-    ensures { IfOk result (ReadsNext R.remaining tables.old tables.new) }
+    ensures reads { IfOk result (ReadsNext R.remaining tables.old tables.new) }
+    ensures why { IfErr result (IsOfOne (ExplainsTakingNext R.remaining) tables.old) }
 {
     tables.left.fill()?;
     tables.right.fill()?;
@@ -524,7 +557,8 @@ fn take_part<'a, R: Read + Drop>(
     tables: &mut TwoParts<'a, R>,
     bound: &Option<Key>,
 ) -> Result<Part, Fault<'a>>
-    ensures { IfOk result (TakesPart bound.now tables.old tables.new) }
+    ensures takes { IfOk result (TakesPart bound.now tables.old tables.new) }
+    ensures why { IfErr result (IsOfOne ExplainsTaking tables.old) }
 {
     let left = rows_up_to(alloc, &mut tables.left, bound)?;
     let right = rows_up_to(alloc, &mut tables.right, bound)?;
@@ -541,8 +575,10 @@ fn rows_up_to<'a, R: Read + Drop>(
     parts: &mut Parts<'a, R>,
     bound: &Option<Key>,
 ) -> Result<Table, Fault<'a>>
-    ensures { IfOk result (λ table. (rows : List ReadRow) × TakesUpTo bound.now parts.old parts.new rows
-        × Gathers false rows table.pairs.items) }
+    ensures takes { IfOk result (λ table. (rows : List ReadRow)
+        × TakesUpTo bound.now parts.old parts.new rows × Gathers false rows table.pairs.items) }
+    ensures file { IfErr result (λ fault. fault.file ≡ parts.old.file) }
+    ensures why { IfErr result (λ fault. ExplainsTaking parts.old fault.reason) }
 {
     let rows = parts.take_up_to(alloc, bound)?;
     let table = at(parts.file, unique_rows(alloc, rows, Release::AtDrop))?;

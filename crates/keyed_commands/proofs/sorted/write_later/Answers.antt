@@ -1,9 +1,11 @@
-use Rattle.std.proofs.Common.{subst}
+use Rattle.std.proofs.Common.{inl, inr, subst}
 use Rattle.std.proofs.KnownBytes.{Keeps-refl}
 use Rattle.std.proofs.lemmas.Result.{err_from_is_err_and}
+use Rattle.keyed_files.proofs.ReadingLemmas.{same-err}
 use Rattle.keyed_commands.specs.PartAnswers.{IsByKey}
 use Rattle.keyed_commands.proofs.PartsBegunLemmas.{begun_next, begun_none}
 use Rattle.keyed_commands.proofs.PartsWrittenLemmas.{by_key_later, written_next}
+use Rattle.keyed_commands.proofs.UnansweredSortedLemmas.{parts-untold}
 use Rattle.keyed_commands.proofs.sorted.write_later.Goals as goal
 
 pub loop-init : goal.loop-init
@@ -29,3 +31,15 @@ pub returns-clause-begun : goal.returns-clause-begun
 returns-clause-begun g c how start before same by_key h =
     begun_none g.R.Read.remaining how start _ c.loop.tables before (g.W.Write.contents c.loop.output) (g.W.Write.contents c.loop.output) c.loop.whole
     (c.loop.invariant how start before same by_key h) (Keeps-refl (g.W.Write.contents c.loop.output))
+
+pub returns-in_err-next-clause-why : goal.returns-in_err-next-clause-why
+returns-in_err-next-clause-why g c =
+    same-err c.from_residual.result c.in_err-next.field-0.0 _ c.from_residual.ensures.1
+    (λ how start before same by_key h.
+    let written = c.loop.invariant how start before same by_key h in
+    parts-untold g.R.Read.remaining start c.loop.tables written.left written.right c.in_err-next.field-0.0 written.left_taken written.right_taken c.in_err-next.ensures.why)
+
+pub returns-clause-why : goal.returns-clause-why
+returns-clause-why g c how start before same by_key h =
+    let written = c.loop.invariant how start before same by_key h in
+    inl (tt, inr (inl written.right_taken.named))
