@@ -17,6 +17,7 @@ pub mod KnownLayers
 pub mod KnownLookup
 pub mod KnownOrder
 pub mod LiteralTexts
+pub mod NeverOpened
 pub mod KnownText
 pub mod KnownKeys
 pub mod KnownRepeats

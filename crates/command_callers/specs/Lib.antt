@@ -3,3 +3,4 @@ pub mod Cases
 pub mod Keys
 pub mod Repeats
 pub mod Shown
+pub mod Unopened

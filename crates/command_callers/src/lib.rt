@@ -1,7 +1,7 @@
 //! Callers of the commands: what a program knows of the answers to `diff`, `apply`, `merge`, `join`, `overlay` and `lookup` of texts that it
 //! knows when it is written; and callers of the reader and the writer of rows (`texts`), of the rows that a report shows (`reports`), of
-//! keys that are refused (`keys`), and of the laws of columns and of cells that are shown (`columns`). What `diff`, `apply`, `merge` and `join`
-//! answer in each case stands in `specs/Cases.antt`.
+//! keys that are refused (`keys`), of files that can't be opened (`unopened`), and of the laws of columns and of cells that are shown
+//! (`columns`). What `diff`, `apply`, `merge` and `join` answer in each case stands in `specs/Cases.antt`.
 #![tactic(auto)]
 
 ghost use Rattle.std.specs.Prelude.{◌≡◌, IfOk, codes};
@@ -50,6 +50,7 @@ pub mod reports;
 pub mod some_columns;
 pub mod sorted;
 pub mod texts;
+pub mod unopened;
 
 use keyed_commands::{
     Answer, Comparing, Conflicts, Delimiter, Direction, Fault, Form, Format, JoinNames, Joining,
